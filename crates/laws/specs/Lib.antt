@@ -3,3 +3,4 @@ pub mod Loops
 pub mod Bytes
 pub mod Spans
 pub mod Orders
+pub mod All

@@ -1,0 +1,87 @@
+-- THE KINDS OF LINES: a line, cut and trimmed, is a lyric line, a field or music ("A letter and `:` at the start is a field").
+use Prim.Native.Nat.{ℕ}
+use mathlib.Core.Bool.{Bool, true, false, cond, _&&_, _||_}
+use mathlib.Core.Option.{Option}
+use mathlib.Core.List.{List, [], _∷_}
+use lib.Dec.{eqb, ltb}
+use lib.ListN.{length, drop}
+use Rattle.laws.specs.Lists.{isNil}
+use Rattle.standard.specs.Keys.{Key}
+use Rattle.standard.specs.Fields.{Meter}
+use Rattle.reader.specs.Text.{within, clean, hasHigh}
+use Rattle.reader.specs.Keys.{keyOf}
+use Rattle.reader.specs.Fields.{meterOf, unitOf, middleWord, identifier}
+use Rattle.reader.specs.Tokens.{Effect, effects}
+
+-- the first two bytes
+abbrev pub begins : ℕ → ℕ → List ℕ → Bool
+begins a b [] = false
+begins a b (x ∷ []) = false
+begins a b (x ∷ (y ∷ r)) = eqb x a && eqb y b
+
+-- `V:`, `K:`, `L:`, `M:`, `X:`, `w:`
+abbrev pub isV : List ℕ → Bool
+isV r = begins 86 58 r
+
+abbrev pub isK : List ℕ → Bool
+isK r = begins 75 58 r
+
+abbrev pub isL : List ℕ → Bool
+isL r = begins 76 58 r
+
+abbrev pub isM : List ℕ → Bool
+isM r = begins 77 58 r
+
+abbrev pub isX : List ℕ → Bool
+isX r = begins 88 58 r
+
+abbrev pub isLyric : List ℕ → Bool
+isLyric r = begins 119 58 r
+
+-- a letter and a colon (ABC 2.1, 3.0)
+abbrev pub isField : List ℕ → Bool
+isField [] = false
+isField (a ∷ []) = false
+isField (a ∷ (b ∷ r)) = (within 65 90 a || within 97 122 a) && eqb b 58
+
+pub data Kind : Type 0 where
+  blank : Kind
+  -- refused wherever it stands, by this number
+  refused : ℕ → Kind
+  lyric : List ℕ → Kind
+  -- a V line: its identifier, and whether it has a `middle=` word
+  voice : List ℕ → Bool → Kind
+  key : Key → Kind
+  meter : Meter → Kind
+  -- an L line: what it sets, if it does
+  unit : Option ℕ → Kind
+  -- an X line; any other field
+  tune other : Kind
+  -- music: whether it has a byte above 127; what its tokens do; the line
+  music : Bool → List Effect → List ℕ → Kind
+
+-- refusals 8 and 10
+unfoldable pub voiceKind : List ℕ → Kind
+voiceKind value = cond (isNil (identifier value)) (refused 8) (voice (identifier value) (middleWord value))
+
+unfoldable pub keyKind : List ℕ → Kind
+keyKind value = cond (middleWord value) (refused 10) (key (keyOf value))
+
+-- refusal 6: "a byte above 127 in a K, L, M or V line"
+unfoldable pub fieldKind : List ℕ → Kind
+fieldKind l =
+    cond (isV l) (cond (hasHigh l) (refused 6) (voiceKind (drop 2 l)))
+    (cond (isK l) (cond (hasHigh l) (refused 6) (keyKind (drop 2 l)))
+    (cond (isL l) (cond (hasHigh l) (refused 6) (unit (unitOf (drop 2 l))))
+    (cond (isM l) (cond (hasHigh l) (refused 6) (meter (meterOf (drop 2 l)))) (cond (isX l) tune other))))
+
+-- refusal 5: "a line over 1,048,576 bytes after trimming"
+unfoldable pub lineKind : List ℕ → Kind
+lineKind l =
+    cond (isNil l) blank
+    (cond (ltb 1048576 (length l)) (refused 5)
+    (cond (isLyric l) (lyric (drop 2 l)) (cond (isField l) (fieldKind l) (music (hasHigh l) (effects l) l))))
+
+-- the kind of a row
+unfoldable pub kindOf : List ℕ → Kind
+kindOf r = lineKind (clean r)

@@ -1,0 +1,134 @@
+-- THE TOKENS OF A MUSIC LINE, which is cut and trimmed. A token is a function of what stands from its first byte on; the line alone decides them.
+use Prim.Native.Nat.{ℕ, zero, suc, _+_, pred}
+use mathlib.Core.Bool.{Bool, true, false, not}
+use mathlib.Core.List.{List, [], _∷_, map}
+use lib.Dec.{ltb}
+use lib.ListN.{length, drop}
+use Rattle.laws.specs.Lists.{span}
+use Rattle.standard.specs.Bytes.{is, isDigit, first}
+use Rattle.standard.specs.Fields.{Meter}
+use Rattle.standard.specs.Pitches.{isLetter}
+use Rattle.standard.specs.Notes
+use Rattle.standard.specs.Notes.{NoteKind}
+use Rattle.reader.specs.Text.{isSpace}
+use Rattle.reader.specs.Token.{Token, space, overlay, quoted, broken, tuplet, slur, graceOpen, graceClose, decoration, barline, volta, unit, meter, key, field, chord, rest, note, nothing, skipped, refused, Taken, taken}
+use Rattle.reader.specs.Tuplets.{tupletOf, orSlur}
+use Rattle.reader.specs.Barlines.{barlineOf}
+use Rattle.reader.specs.PassLists.{voltaOf}
+use Rattle.reader.specs.Inline.{isInline, inlineAt}
+use Rattle.reader.specs.Sounds.{chordAt, restAs, noteOf}
+
+-- QUOTES AND DECORATIONS: to the next byte that passes, with it; s stands behind the first one. If there is none: `other`
+unfoldable pub closedBy : (ℕ → Bool) → Token → List ℕ → Taken → Taken
+closedBy p t s other = let n = span (λ c. not (p c)) s in elim (ltb n (length s)) [ true ↦ taken t (2 + n) | false ↦ other ]
+
+-- BROKEN RHYTHM, n signs. Refusal 13: "more than 255 equal `>` or `<` together"
+unfoldable pub brokenOf : Bool → ℕ → List ℕ → Taken
+brokenOf up n s = elim (ltb 255 n) [ true ↦ taken (refused 13) (length s) | false ↦ taken (broken up n) n ]
+
+-- `[`: first a digit, then a field, then a chord (000's order of tests); s stands behind it
+unfoldable pub bracketOf : List ℕ → Taken
+bracketOf s = elim (isDigit (first s)) [ true ↦ voltaOf s | false ↦ elim (isInline s) [ true ↦ inlineAt s | false ↦ chordAt s ] ]
+
+-- THE CLASS OF A BYTE ("A table of 128 letter classes starts with every entry at "skipped"")
+pub data Class : Type 0 where
+  white ampersand quote more less paren braceOpen braceClose bang plus bars bracket pitched none-of-these : Class
+  resting : NoteKind → Class
+
+-- each class with its bytes
+unfoldable pub classes : List ((ℕ → Bool) × Class)
+classes =
+    (isLetter, pitched)
+    ∷ (is "^", pitched)
+    ∷ (is "_", pitched)
+    ∷ (is "=", pitched)
+    ∷ (isSpace, white)
+    ∷ (is "&", ampersand)
+    ∷ (is "\"", quote)
+    ∷ (is ">", more)
+    ∷ (is "<", less)
+    ∷ (is "(", paren)
+    ∷ (is "{", braceOpen)
+    ∷ (is "}", braceClose)
+    ∷ (is "!", bang)
+    ∷ (is "+", plus)
+    ∷ (is "|", bars)
+    ∷ (is ":", bars)
+    ∷ (is "[", bracket)
+    ∷ (is "z", resting Notes.rest)
+    ∷ (is "x", resting Notes.invisibleRest)
+    ∷ (is "Z", resting Notes.barRest)
+    ∷ (is "X", resting Notes.invisibleBarRest)
+    ∷ []
+
+-- the first class whose test the byte passes
+unfoldable pub classIn : List ((ℕ → Bool) × Class) → ℕ → Class
+classIn [] c = none-of-these
+classIn (e ∷ es) c = elim (e .0 c) [ true ↦ e .1 | false ↦ classIn es c ]
+
+-- the class of a byte
+unfoldable pub classOf : ℕ → Class
+classOf c = classIn classes c
+
+-- the token at the front of s, which begins with a byte of this class
+unfoldable pub tokenAs : Class → List ℕ → Taken
+tokenAs white s = taken space 1
+tokenAs ampersand s = taken overlay 1
+tokenAs quote s = closedBy (is "\"") quoted (drop 1 s) (taken quoted (length s))
+tokenAs more s = brokenOf true (suc (span (is ">") (drop 1 s))) s
+tokenAs less s = brokenOf false (suc (span (is "<") (drop 1 s))) s
+tokenAs paren s = orSlur (tupletOf (drop 1 s))
+tokenAs braceOpen s = taken graceOpen 1
+tokenAs braceClose s = taken graceClose 1
+tokenAs bang s = closedBy (is "!") decoration (drop 1 s) (taken skipped 1)
+tokenAs plus s = closedBy (is "+") decoration (drop 1 s) (taken skipped 1)
+tokenAs bars s = barlineOf s
+tokenAs bracket s = bracketOf (drop 1 s)
+tokenAs pitched s = noteOf s
+tokenAs none-of-these s = taken skipped 1
+tokenAs (resting k) s = restAs k (drop 1 s)
+
+-- THE TOKEN at the front
+unfoldable pub tokenOf : List ℕ → Taken
+tokenOf s = tokenAs (classOf (first s)) s
+
+-- the tokens from left to right; k: bytes of a token still to pass
+unfoldable pub tokens : ℕ → List ℕ → List Token
+tokens k [] = []
+tokens zero (c ∷ s) = let t = tokenOf (c ∷ s) in t .token ∷ tokens (pred (t .used)) s
+tokens (suc k) (c ∷ s) = tokens k s
+
+-- WHAT THE SCAN OF THE WHOLE TEXT WANTS OF A TOKEN: a note counted, a refusal by its number, L set, M set; or nothing
+pub data Effect : Type 0 where
+  counts : Effect
+  refuses : ℕ → Effect
+  setsUnit : ℕ → Effect
+  setsMeter : Meter → Effect
+  passes : Effect
+
+unfoldable pub effectOf : Token → Effect
+effectOf space = passes
+effectOf overlay = passes
+effectOf quoted = passes
+effectOf (broken up n) = passes
+effectOf (tuplet t) = passes
+effectOf slur = passes
+effectOf graceOpen = passes
+effectOf graceClose = passes
+effectOf decoration = passes
+effectOf (barline b o) = passes
+effectOf (volta ps) = passes
+effectOf (unit u) = setsUnit u
+effectOf (meter m) = setsMeter m
+effectOf (key k) = passes
+effectOf field = passes
+effectOf (chord ps l b) = counts
+effectOf (rest k l) = counts
+effectOf (note p l b) = counts
+effectOf nothing = passes
+effectOf skipped = passes
+effectOf (refused n) = refuses n
+
+-- the line as the scan of the whole text sees it
+unfoldable pub effects : List ℕ → List Effect
+effects line = map effectOf (tokens 0 line)

@@ -1,0 +1,68 @@
+-- TUPLETS `(p`, `(p:q`, `(p:q:r` (ABC 2.1, 4.13; 000, parse_abc_tuplet). Below, n bytes from the `(` on are read and s stands behind them.
+use Prim.Native.Nat.{ℕ, _+_, _-_, _^_}
+use mathlib.Core.Bool.{Bool, true, false, cond}
+use mathlib.Core.Option.{Option, none, some}
+use mathlib.Core.List.{List, [], _∷_}
+use lib.Dec.{ltb, eqb}
+use lib.ListN.{take, drop}
+use Rattle.laws.specs.Lists.{span}
+use Rattle.standard.specs.Bytes.{is, isDigit, first, digits}
+use Rattle.standard.specs.Tuplets.{Tuplet, usualNormal}
+use Rattle.reader.specs.Token.{Token, tuplet, slur, Taken, taken}
+
+-- a number that is not 0
+unfoldable pub notZero : Option ℕ → Option ℕ
+notZero none = none
+notZero (some v) = cond (eqb v 0) none (some v)
+
+-- the number of the digits at the front, from 1 to top
+unfoldable pub positive : ℕ → List ℕ → Option ℕ
+positive top s = notZero (digits top (take (span isDigit s) s))
+
+-- "else actual less 1"
+unfoldable pub orOneLess : ℕ → Option ℕ → ℕ
+orOneLess p none = p - 1
+orOneLess p (some q) = q
+
+-- "default normal 3, 2, 3 for 2, 3, 4, else actual less 1": the one place where a default is chosen
+unfoldable pub normalFor : ℕ → ℕ
+normalFor p = orOneLess p (usualNormal p)
+
+abbrev pub tupletToken : ℕ → ℕ → ℕ → ℕ → Option Taken
+tupletToken p q r n = some (taken (tuplet (record { actual = p; normal = q; count = r })) n)
+
+-- "count 0 or past 64 bits .. is a slur start instead"
+unfoldable pub counted : ℕ → ℕ → ℕ → Option ℕ → Option Taken
+counted p q n none = none
+counted p q n (some r) = tupletToken p q r n
+
+-- the count: as written, else as many as `actual`
+unfoldable pub withCount : ℕ → ℕ → ℕ → List ℕ → Option Taken
+withCount p q n s =
+    elim (is ":" (first s)) [
+      | true ↦ counted p q (n + 1 + span isDigit (drop 1 s)) (positive (2 ^ 64 - 1) (drop 1 s))
+      | false ↦ tupletToken p q p n
+    ]
+
+-- "normal 0 or above 255 .. or an empty part after `:`"
+unfoldable pub withNormal : ℕ → ℕ → List ℕ → Option ℕ → Option Taken
+withNormal p n s none = none
+withNormal p n s (some q) = withCount p q (n + 1 + span isDigit (drop 1 s)) (drop (1 + span isDigit (drop 1 s)) s)
+
+-- "Actual below 2 or above 255"
+unfoldable pub withActual : ℕ → List ℕ → Option ℕ → Option Taken
+withActual n s none = none
+withActual n s (some p) =
+    elim (ltb p 2) [
+      | true ↦ none
+      | false ↦ elim (is ":" (first s)) [ true ↦ withNormal p n s (positive 255 (drop 1 s)) | false ↦ tupletToken p (normalFor p) p n ]
+    ]
+
+-- s stands behind the `(`
+unfoldable pub tupletOf : List ℕ → Option Taken
+tupletOf s = withActual (1 + span isDigit s) (drop (span isDigit s) s) (positive 255 s)
+
+-- "is a slur start instead"
+unfoldable pub orSlur : Option Taken → Taken
+orSlur none = taken slur 1
+orSlur (some t) = t

@@ -1,0 +1,11 @@
+pub mod Bytes
+pub mod Pitches
+pub mod Keys
+pub mod Lengths
+pub mod Tuplets
+pub mod Bars
+pub mod Passes
+pub mod Notes
+pub mod Lyrics
+pub mod Fields
+pub mod All
