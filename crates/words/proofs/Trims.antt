@@ -17,6 +17,12 @@ use Rattle.reader.specs.Pieces.{trimStart, consTrim, trimEnd, trimmed}
 use Rattle.words.specs.declared.Part.{Part}
 use Rattle.words.specs.Words.{standsBefore, trimmedEnd, Trimmed}
 
+-- a byte that is no white space stays, whatever is left behind it
+pub consTrim-word : (c : ℕ) (t : List ℕ) → isSpace c ≡ false → consTrim c t ≡ c ∷ t
+unfolding consTrim
+consTrim-word c [] e = rw e
+consTrim-word c (d ∷ t) e = refl
+
 -- white space at the end goes
 pub trimEnd-space : (t : List ℕ) (x : ℕ) → isSpace x ≡ true → trimEnd (t ++ (x ∷ [])) ≡ trimEnd t
 unfolding trimEnd consTrim
