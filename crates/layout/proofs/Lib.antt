@@ -1,0 +1,6 @@
+pub mod Back
+pub mod Voices
+pub mod Bars
+pub mod Writing
+pub mod Measures
+pub mod Reading
