@@ -4,3 +4,5 @@ pub mod Bars
 pub mod Writing
 pub mod Measures
 pub mod Reading
+pub mod Closing
+pub mod Same
