@@ -1,14 +1,14 @@
 -- Laws of lists: one that is kept with the newest first, put in the order written behind an older one; a change at a place; four of something.
-use Prim.Native.Nat.{ℕ, zero, suc, _+_, _≤_, _<_}
+use Prim.Native.Nat.{ℕ, zero, suc, _+_, _<_}
 use mathlib.Core.Path.{_≡_, refl, sym, ap, _∙_}
-use mathlib.Core.Bool.{Bool, true, false}
+use mathlib.Core.Bool.{false}
 use mathlib.Core.List.{List, [], _∷_, _++_, map, reverse, reverseAux, append-assoc}
 use native.Mathlib.Nat.{not-suc-le-zero, le-of-suc-le-suc}
 use native.Mathlib.Omega.{arith}
 use lib.Dec.{eqb}
-use lib.ListN.{length, getD, length-append, length-map}
-use Rattle.laws.specs.Lists.{alterAt, onFirst, All, cat}
-use Rattle.laws.proofs.Lists.{map-append, All-append, cat-snoc}
+use lib.ListN.{length, getD, length-append}
+use Rattle.laws.specs.Lists.{alterAt, onFirst, All}
+use Rattle.laws.proofs.Lists.{map-append, All-append}
 
 -- `xs`, newest first, in the order written behind `older`
 abbrev pub back {ℓ} : {A : Type ℓ} → List A → List A → List A

@@ -1,12 +1,12 @@
 -- WHAT BOTH DEFINITIONS KEEP: measures, newest first, each with its notes, newest first, and their voices. From it the log and its heads are made, and the
 -- plain measures with their four lists.
-use Prim.Native.Nat.{ℕ, suc, _+_, _<_}
-use mathlib.Core.Path.{_≡_, refl, sym, ap, _∙_}
-use mathlib.Core.Bool.{Bool, true, false}
+use Prim.Native.Nat.{ℕ, _<_}
+use mathlib.Core.Path.{_≡_, ap, _∙_}
+use mathlib.Core.Bool.{false}
 use mathlib.Core.Option.{Option, none, some}
-use mathlib.Core.List.{List, [], _∷_, _++_, map}
+use mathlib.Core.List.{List, [], _∷_, map}
 use lib.ListN.{length}
-use Rattle.laws.specs.Lists.{foldl, All, onFirst}
+use Rattle.laws.specs.Lists.{foldl, All}
 use Rattle.standard.specs.Keys.{Key}
 use Rattle.standard.specs.Bars.{Barline, normal}
 use Rattle.standard.specs.Notes.{Pending}
@@ -55,6 +55,7 @@ barMark k b = record { notes = b .notes; left = b .left; right = b .right; meter
 abbrev pub barVolta : Volta → List ℕ → Bar → Bar
 barVolta v ps b = record { notes = b .notes; left = b .left; right = b .right; meter = b .meter; key = b .key; volta = v; passes = ps }
 
+-- a new measure
 abbrev pub newBar : Meter → Barline → Bar
 newBar t l = record { notes = []; left = l; right = normal; meter = t; key = none; volta = noVolta; passes = [] }
 
@@ -82,6 +83,7 @@ abbrev pub headOf : Bar → Head
 headOf b =
     record { counts = four (λ v. length (voice v (b .notes))); left = b .left; right = b .right; meter = b .meter; key = b .key; volta = b .volta; passes = b .passes }
 
+-- the heads, the oldest first
 abbrev pub headsOf : List Bar → List Head
 headsOf bs = back [] (map headOf bs)
 
@@ -95,6 +97,7 @@ abbrev pub lastsOf : List Bar → List ℕ
 lastsOf [] = noCounts
 lastsOf (b ∷ bs) = four (λ v. lastOf v (length (logOf bs)) (b .notes))
 
+-- the state
 abbrev pub laid : BarState → LogState
 laid s =
     record {
@@ -114,9 +117,11 @@ abbrev pub measureOf : Bar → Measure
 measureOf b =
     record { voices = four (λ v. voice v (b .notes)); left = b .left; right = b .right; meter = b .meter; key = b .key; volta = b .volta; passes = b .passes }
 
+-- the measures, the newest first
 abbrev pub measuresOf : List Bar → List Measure
 measuresOf bs = map measureOf bs
 
+-- the state
 abbrev pub plain : BarState → PartState
 plain s =
     record { key = s .key; scopes = s .scopes; measures = measuresOf (s .bars); pending = s .pending; verses = s .verses; line = s .line }
@@ -146,9 +151,11 @@ pub record Reads (o : ℕ) (bars : List Bar) : Type 0 where
   pub good : Good o bars
   pub is-open : 0 < length bars
 
+-- of a state between lines
 abbrev pub Inv : BarState → Type 0
 Inv s = Good (s .line .overlay) (s .bars)
 
+-- of a state while a line is read
 abbrev pub Reading : BarState → Type 0
 Reading s = Reads (s .line .overlay) (s .bars)
 

@@ -1,13 +1,13 @@
 -- THE END OF A PART: both definitions drop the same measure, close the same voltas and mark the same key.
-use Prim.Native.Nat.{ℕ, zero, suc, _+_, _<_}
+use Prim.Native.Nat.{ℕ, zero, suc, _<_}
 use mathlib.Core.Path.{_≡_, refl, sym, ap, subst, _∙_}
-use mathlib.Core.Bool.{Bool, true, false, cond, _&&_, _||_, true≢false}
+use mathlib.Core.Bool.{Bool, true, false, cond, _||_}
 use mathlib.Core.Option.{Option, none, some}
 use mathlib.Core.List.{List, [], _∷_, _++_, map, reverse}
 use native.Mathlib.Omega.{arith}
-use Rattle.laws.specs.Lists.{All, all, cat, isNil}
+use Rattle.laws.specs.Lists.{All, cat, isNil}
 use Rattle.laws.proofs.Bools.{by-test, and-no-right, cond-ap, both-true}
-use Rattle.laws.proofs.Lists.{map-append, map-map, cat-snoc, All-append}
+use Rattle.laws.proofs.Lists.{map-append, map-map, cat-snoc}
 use Rattle.standard.specs.Keys.{Key}
 use Rattle.standard.specs.Bars.{endsEnding}
 use Rattle.reader.specs.State
@@ -39,6 +39,7 @@ dropped-snoc x (y ∷ hs) h =
     dropped-cons x y hs h ∙ ap (λ (l : List Head). x ∷ l) (dropped-snoc y hs h)
     ∙ cond-ap (λ (l : List Head). x ∷ l) (isEmptyHead h) (y ∷ hs) (y ∷ (hs ++ (h ∷ [])))
 
+-- of the two last heads
 dropped-two : (hs : List Head) (g h : Head) → Ends.dropped ((hs ++ (g ∷ [])) ++ (h ∷ [])) ≡ cond (isEmptyHead h) (hs ++ (g ∷ [])) ((hs ++ (g ∷ [])) ++ (h ∷ []))
 dropped-two [] g h = dropped-snoc g [] h
 dropped-two (x ∷ hs) g h = dropped-snoc x (hs ++ (g ∷ [])) h
@@ -49,6 +50,7 @@ dropBars [] = []
 dropBars (b ∷ []) = b ∷ []
 dropBars (b ∷ c ∷ bs) = cond (isEmpty (measureOf b)) (c ∷ bs) (b ∷ c ∷ bs)
 
+-- as the heads have it
 drop-heads : (bars : List Bar) → Ends.dropped (headsOf bars) ≡ headsOf (dropBars bars)
 unfolding Ends.dropped
 drop-heads [] = refl
@@ -64,6 +66,7 @@ unfolding Part.dropped
 full-stays c [] e = refl
 full-stays c (d ∷ bs) e = rw (e, Part.dropped)
 
+-- as the plain measures have it
 drop-measures : (bars : List Bar) → Older bars → Part.dropped (measuresOf bars) ≡ measuresOf (dropBars bars)
 unfolding Part.dropped
 drop-measures [] h = refl
@@ -108,12 +111,14 @@ chunk b = back [] (b .notes)
 abbrev pub finalOf : Bar → Measure
 finalOf b = inOrder (measureOf b)
 
+-- the log is the notes of the measures, one after the other
 pub log-chunks : (bars : List Bar) → logOf bars ≡ cat (map chunk (back [] bars))
 log-chunks [] = refl
 log-chunks (b ∷ bs) =
     back-append (logOf bs) (b .notes) ∙ ap (λ (l : List (ℕ × Note)). l ++ chunk b) (log-chunks bs) ∙ sym (cat-snoc (map chunk (back [] bs)) (chunk b))
     ∙ ap cat (sym (map-append chunk (back [] bs) (b ∷ [])))
 
+-- the plain measures in order
 order-measures : (bars : List Bar) → map inOrder (reverse (measuresOf bars)) ≡ map finalOf (back [] bars)
 order-measures bars =
     ap (map inOrder) (reverse-back (measuresOf bars) ∙ sym (map-back measureOf bars)) ∙ map-map measureOf inOrder (back [] bars)
@@ -141,62 +146,74 @@ abbrev ends : Bar → List Bar → Bool
 ends b [] = endsEnding (b .right) || true
 ends b (c ∷ bs) = endsEnding (b .right) || isStart (c .volta)
 
+-- as the heads have it
 ends-head : (b : Bar) (bs : List Bar) → Ends.endsAt (headOf b) (map headOf bs) ≡ ends b bs
 unfolding Ends.endsAt Ends.lastThere Ends.starts
 ends-head b [] = refl
 ends-head b (c ∷ bs) = refl
 
+-- as the plain measures have it
 ends-measure : (b : Bar) (bs : List Bar) → Voltas.endsAt (finalOf b) (map finalOf bs) ≡ ends b bs
 unfolding Voltas.endsAt Voltas.lastThere Voltas.starts inOrder
 ends-measure b [] = refl
 ends-measure b (c ∷ bs) = refl
 
+-- a volta starts here, as the heads have it
 starts-head : (b : Bar) → Ends.starts (headOf b) ≡ isStart (b .volta)
 unfolding Ends.starts
 starts-head b = refl
 
+-- as the plain measures have it
 starts-measure : (b : Bar) → Voltas.starts (finalOf b) ≡ isStart (b .volta)
 unfolding Voltas.starts inOrder
 starts-measure b = refl
 
--- one step over heads: one measure alone, a start, no start, an end, the middle of a span
+-- one step over heads: one measure alone
 heads-alone : (m : Head) (ms : List Head) → Ends.starts m ≡ true → Ends.endsAt m ms ≡ true → Log.withVolta voltaAlone (m .passes) m ∷ Ends.close none ms ≡ Ends.close none (m ∷ ms)
 unfolding Ends.close
 heads-alone m ms e f = rw (e, f, Ends.close)
 
+-- a start whose span goes on
 heads-begins : (m : Head) (ms : List Head) → Ends.starts m ≡ true → Ends.endsAt m ms ≡ false → m ∷ Ends.close (some (m .passes)) ms ≡ Ends.close none (m ∷ ms)
 unfolding Ends.close
 heads-begins m ms e f = rw (e, f, Ends.close)
 
+-- no start
 heads-none : (m : Head) (ms : List Head) → Ends.starts m ≡ false → m ∷ Ends.close none ms ≡ Ends.close none (m ∷ ms)
 unfolding Ends.close
 heads-none m ms e = rw (e, Ends.close)
 
+-- the end of a span
 heads-ends : (ps : List ℕ) (m : Head) (ms : List Head) → Ends.endsAt m ms ≡ true → Log.withVolta voltaEnds ps m ∷ Ends.close none ms ≡ Ends.close (some ps) (m ∷ ms)
 unfolding Ends.close
 heads-ends ps m ms f = rw (f, Ends.close)
 
+-- the middle of a span
 heads-goes-on : (ps : List ℕ) (m : Head) (ms : List Head) → Ends.endsAt m ms ≡ false → m ∷ Ends.close (some ps) ms ≡ Ends.close (some ps) (m ∷ ms)
 unfolding Ends.close
 heads-goes-on ps m ms f = rw (f, Ends.close)
 
--- one step over plain measures: one measure alone, a start, no start, an end, the middle of a span
+-- one step over plain measures: one measure alone
 measures-alone : (m : Measure) (ms : List Measure) → Voltas.starts m ≡ true → Voltas.endsAt m ms ≡ true → State.withVolta voltaAlone (m .passes) m ∷ Voltas.close none ms ≡ Voltas.close none (m ∷ ms)
 unfolding Voltas.close
 measures-alone m ms e f = rw (e, f, Voltas.close)
 
+-- a start whose span goes on
 measures-begins : (m : Measure) (ms : List Measure) → Voltas.starts m ≡ true → Voltas.endsAt m ms ≡ false → m ∷ Voltas.close (some (m .passes)) ms ≡ Voltas.close none (m ∷ ms)
 unfolding Voltas.close
 measures-begins m ms e f = rw (e, f, Voltas.close)
 
+-- no start
 measures-none : (m : Measure) (ms : List Measure) → Voltas.starts m ≡ false → m ∷ Voltas.close none ms ≡ Voltas.close none (m ∷ ms)
 unfolding Voltas.close
 measures-none m ms e = rw (e, Voltas.close)
 
+-- the end of a span
 measures-ends : (ps : List ℕ) (m : Measure) (ms : List Measure) → Voltas.endsAt m ms ≡ true → State.withVolta voltaEnds ps m ∷ Voltas.close none ms ≡ Voltas.close (some ps) (m ∷ ms)
 unfolding Voltas.close
 measures-ends ps m ms f = rw (f, Voltas.close)
 
+-- the middle of a span
 measures-goes-on : (ps : List ℕ) (m : Measure) (ms : List Measure) → Voltas.endsAt m ms ≡ false → m ∷ Voltas.close (some ps) ms ≡ Voltas.close (some ps) (m ∷ ms)
 unfolding Voltas.close
 measures-goes-on ps m ms f = rw (f, Voltas.close)
@@ -230,13 +247,14 @@ close-bars (some ps) (b ∷ bs) =
     (λ f. stepped (barVolta voltaEnds ps b) _ _ _ _ _ k (heads-ends ps (headOf b) h (ends-head b bs ∙ f)) (measures-ends ps (finalOf b) m (ends-measure b bs ∙ f)))
     (λ f. stepped b _ _ _ _ _ q (heads-goes-on ps (headOf b) h (ends-head b bs ∙ f)) (measures-goes-on ps (finalOf b) m (ends-measure b bs ∙ f)))
 
--- THE FIRST KEY MARK
+-- THE FIRST KEY MARK, by the mark that is there
 marked-by : (header : Key) (b : Bar) (hs : List Head) (ms : List Measure) (ns : List (List (ℕ × Note))) → AsBars hs ms ns → (k : Option Key)
     → AsBars (Ends.markedBy header (headOf b) k ∷ hs) (Part.markedBy header (finalOf b) k ∷ ms) (b .notes ∷ ns)
 unfolding Ends.markedBy Part.markedBy inOrder
 marked-by header b hs ms ns a none = front (barMark header b) hs ms ns a
 marked-by header b hs ms ns a (some k) = front b hs ms ns a
 
+-- on the first measure, if there is one
 marked-bars : (header : Key) (cs : List Bar) → AsBars (Ends.marked header (map headOf cs)) (Part.marked header (map finalOf cs)) (map (λ (b : Bar). b .notes) cs)
 unfolding Ends.marked Part.marked inOrder
 marked-bars header [] = record { bars = []; heads-are = refl; measures-are = refl; notes-are = refl }

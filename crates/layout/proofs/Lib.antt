@@ -6,3 +6,5 @@ pub mod Measures
 pub mod Reading
 pub mod Closing
 pub mod Same
+pub mod Counts
+pub mod Lines

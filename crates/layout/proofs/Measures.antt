@@ -1,17 +1,15 @@
 -- Measures: a change of the open one, a barline, the first one of a part. Both definitions do the same.
-use Prim.Native.Nat.{ℕ, zero, suc, _+_, _<_}
+use Prim.Native.Nat.{ℕ}
 use mathlib.Core.Path.{_≡_, refl, sym, ap, _∙_}
 use mathlib.Core.Bool.{Bool, true, false, cond, _&&_}
-use mathlib.Core.Option.{Option, none, some}
-use mathlib.Core.List.{List, [], _∷_, _++_, map}
+use mathlib.Core.List.{List, [], _∷_, _++_}
 use native.Mathlib.Nat.{not-suc-le-zero}
 use native.Mathlib.Omega.{arith}
 use lib.Dec.{eqb}
 use lib.ListN.{length}
-use Rattle.laws.specs.Lists.{onFirst, All, all, isNil}
+use Rattle.laws.specs.Lists.{onFirst, isNil}
 use Rattle.laws.proofs.Bools.{by-test, eqb-sym}
 use Rattle.laws.proofs.Lists.{isNil-length}
-use Rattle.standard.specs.Keys.{Key}
 use Rattle.standard.specs.Bars.{Barline, normal, repeatStart, repeatEnd, repeatBoth, double, final}
 use Rattle.standard.specs.Fields.{Meter}
 use Rattle.reader.specs.Barlines.{leftOf}
@@ -23,7 +21,7 @@ use Rattle.layout.specs.Log
 use Rattle.layout.specs.Log.{Head, noCounts, onLastHead, isEmptyHead, openIsEmpty, newHead, endedHeads, endedLast}
 use Rattle.layout.proofs.Back.{back, four}
 use Rattle.layout.proofs.Voices.{voice, lastOf}
-use Rattle.layout.proofs.Bars.{Bar, BarState, barLeft, barRight, newBar, setBars, headOf, headsOf, logOf, lastsOf, laid, measureOf, measuresOf, plain, Below, Full, Older, Good, Reads, Inv, Reading, Sim}
+use Rattle.layout.proofs.Bars.{Bar, BarState, barLeft, barRight, newBar, setBars, headOf, headsOf, logOf, lastsOf, laid, measureOf, measuresOf, plain, Good, Reads, Inv, Reading, Sim}
 use Rattle.layout.proofs.Writing.{onLastHead-snoc}
 
 -- A CHANGE OF THE OPEN MEASURE but for its notes
@@ -60,7 +58,7 @@ module _ (f : Bar → Bar) (h : Head → Head) (m : Measure → Measure) (hf : (
   open-reads o [] r = absurd (not-suc-le-zero (r .is-open))
   open-reads o (b ∷ bs) r = record { good = open-good o (b ∷ bs) (r .good); is-open = omega arith }
 
-  -- both states
+  -- the state as the code keeps it
   pub open-laid : (s : BarState) → laid (setBars (onFirst f (s .bars)) s) ≡ Log.onOpen h (laid s)
   unfolding Log.onOpen
   open-laid s =
@@ -75,13 +73,16 @@ module _ (f : Bar → Bar) (h : Head → Head) (m : Measure → Measure) (hf : (
         line = s .line;
       }
 
+  -- the plain one
   pub open-plain : (s : BarState) → plain (setBars (onFirst f (s .bars)) s) ≡ State.onOpen m (plain s)
   unfolding State.onOpen
   open-plain s = ap (λ (ms : List Measure). State.setMeasures ms (plain s)) (open-measures (s .bars))
 
+  -- so between lines
   pub sim-open : (s : BarState) → Inv s → Sim Inv (Log.onOpen h (laid s)) (State.onOpen m (plain s))
   sim-open s g = record { state = setBars (onFirst f (s .bars)) s; holds = open-good (s .line .overlay) (s .bars) g; laid-is = open-laid s; plain-is = open-plain s }
 
+  -- and while a line is read
   pub sim-open-line : (s : BarState) → Reading s → Sim Reading (Log.onOpen h (laid s)) (State.onOpen m (plain s))
   sim-open-line s g = record { state = setBars (onFirst f (s .bars)) s; holds = open-reads (s .line .overlay) (s .bars) g; laid-is = open-laid s; plain-is = open-plain s }
 
@@ -103,7 +104,7 @@ open-snoc (x ∷ []) h = refl
 open-snoc (x ∷ y ∷ hs) h = open-snoc (y ∷ hs) h
 
 -- BARLINES
--- on a measure without notes
+-- the left barline set
 leftBar : Barline → Bar → Bar
 leftBar normal b = b
 leftBar repeatStart b = barLeft repeatStart b
@@ -112,6 +113,7 @@ leftBar repeatBoth b = barLeft repeatBoth b
 leftBar double b = barLeft double b
 leftBar final b = b
 
+-- as the heads have it
 left-head : (l : Barline) (b : Bar) → headOf (leftBar l b) ≡ Log.leftSet l (headOf b)
 unfolding leftBar Log.leftSet
 left-head normal b = refl
@@ -121,6 +123,7 @@ left-head repeatBoth b = refl
 left-head double b = refl
 left-head final b = refl
 
+-- as the plain measures have it
 left-measure : (l : Barline) (b : Bar) → measureOf (leftBar l b) ≡ Part.leftSet l (measureOf b)
 unfolding leftBar Part.leftSet
 left-measure normal b = refl
@@ -130,6 +133,7 @@ left-measure repeatBoth b = refl
 left-measure double b = refl
 left-measure final b = refl
 
+-- the notes stay
 left-notes : (l : Barline) (b : Bar) → leftBar l b .notes ≡ b .notes
 unfolding leftBar
 left-notes normal b = refl
@@ -139,30 +143,33 @@ left-notes repeatBoth b = refl
 left-notes double b = refl
 left-notes final b = refl
 
--- the heads after a barline, by whether the open measure has a note
+-- the heads after a barline on a measure without notes
 heads-empty : (l : Barline) (opens : Bool) (t : Meter) (hs : List Head) → openIsEmpty hs ≡ true → endedHeads l opens t hs ≡ onLastHead (Log.leftSet l) hs
 unfolding endedHeads
 heads-empty l opens t hs e = rw (e, endedHeads)
 
+-- behind notes
 heads-full : (l : Barline) (opens : Bool) (t : Meter) (hs : List Head) → openIsEmpty hs ≡ false
     → endedHeads l opens t hs ≡ cond opens (onLastHead (Log.withRight l) hs ++ (newHead t (leftOf l) ∷ [])) (onLastHead (Log.withRight l) hs)
 unfolding endedHeads
 heads-full l opens t hs e = rw (e, endedHeads)
 
--- the last places
+-- the last places after a barline on a measure without notes
 lasts-empty : (opens : Bool) (hs : List Head) (last : List ℕ) → openIsEmpty hs ≡ true → endedLast opens hs last ≡ last
 unfolding endedLast
 lasts-empty opens hs last e = rw e
 
+-- behind notes
 lasts-full : (opens : Bool) (hs : List Head) (last : List ℕ) → openIsEmpty hs ≡ false → endedLast opens hs last ≡ cond opens noCounts last
 unfolding endedLast
 lasts-full opens hs last e = rw e
 
--- the plain measures
+-- the plain measures after a barline on a measure without notes
 ended-empty : (l : Barline) (opens : Bool) (t : Meter) (m : Measure) (ms : List Measure) → isEmpty m ≡ true → ended l opens t (m ∷ ms) ≡ Part.leftSet l m ∷ ms
 unfolding ended
 ended-empty l opens t m ms e = rw (e, ended)
 
+-- behind notes
 ended-full : (l : Barline) (opens : Bool) (t : Meter) (m : Measure) (ms : List Measure) → isEmpty m ≡ false
     → ended l opens t (m ∷ ms) ≡ cond opens (newMeasure t (leftOf l) ∷ State.withRight l m ∷ ms) (State.withRight l m ∷ ms)
 unfolding ended
@@ -221,6 +228,7 @@ module _ (l : Barline) (s : BarState) (b : Bar) (bs : List Bar) where
       (sym (ended-full l false (s .line .meter) (measureOf b) (measuresOf bs) e))
       (record { good = record { place = omega arith; below = r .good .below; older = r .good .older }; is-open = omega arith })
 
+-- by the measures
 barline-open : (l : Barline) (opens : Bool) (s : BarState) (bars : List Bar) → Reads (s .line .overlay) bars
     → Sim Reading (Log.onBarline l opens (laid (setBars bars s))) (Part.onBarline l opens (plain (setBars bars s)))
 barline-open l opens s [] r = absurd (not-suc-le-zero (r .is-open))
@@ -237,6 +245,7 @@ unfolding Log.opened
 heads-some t [] h = refl
 heads-some t (x ∷ hs) h = refl
 
+-- by the measures
 begins-open : (u : ℕ) (t : Meter) (s : BarState) (bars : List Bar) → Good (s .line .overlay) bars
     → Sim Reading (Log.lineBegins u t (laid (setBars bars s))) (Part.lineBegins u t (plain (setBars bars s)))
 unfolding Log.lineBegins Part.lineBegins Log.opened Part.opened newLine newHead newMeasure

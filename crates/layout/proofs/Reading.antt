@@ -1,10 +1,10 @@
 -- EACH TOKEN AND EACH ITEM keeps both definitions side by side.
-use Prim.Native.Nat.{ℕ, zero, suc, _+_, _<_, min}
-use mathlib.Core.Path.{_≡_, refl, sym, ap, _∙_}
-use mathlib.Core.Bool.{Bool, true, false, cond}
-use mathlib.Core.List.{List, [], _∷_, _++_, map}
+use Prim.Native.Nat.{ℕ, _<_}
+use mathlib.Core.Path.{_≡_, refl}
+use mathlib.Core.Bool.{cond}
+use mathlib.Core.List.{List, [], _∷_, _++_}
 use native.Mathlib.Omega.{arith}
-use lib.ListN.{length, getD}
+use lib.ListN.{getD}
 use Rattle.laws.specs.Lists.{foldl, alterAt}
 use Rattle.standard.specs.Keys.{Key}
 use Rattle.standard.specs.Fields.{Meter}
@@ -12,19 +12,18 @@ use Rattle.standard.specs.Notes.{nothingPending, pendingAfter, slurOpens, grace
 use Rattle.standard.specs.Pitches.{Written}
 use Rattle.standard.specs.Lyrics.{nextVerse}
 use Rattle.reader.specs.Lengths.{Length, valueOf}
-use Rattle.reader.specs.Pitches.{Scope, soundsOf, scopeAfterAll}
+use Rattle.reader.specs.Pitches.{soundsOf, scopeAfterAll}
 use Rattle.reader.specs.Token.{Token, space, overlay, quoted, broken, tuplet, slur, graceOpen, graceClose, decoration, barline, volta, unit, meter, key, field, chord, rest, note, nothing, skipped, refused}
 use Rattle.reader.specs.Tokens.{tokens}
 use Rattle.reader.specs.Scan.{Item, born, reset, headed, keyed, metered, sung, played}
 use Rattle.reader.specs.State
-use Rattle.reader.specs.State.{voltaBegins, PartState, Verses, withRun, withOverlay, withTuplet, withUnit, withTime, noScopes, newPart, newLine}
+use Rattle.reader.specs.State.{voltaBegins, PartState, withRun, withOverlay, withTuplet, withUnit, withTime, noScopes, newPart, newLine}
 use Rattle.reader.specs.Part
 use Rattle.reader.specs.Part.{firstKey, restNote, soundNote}
 use Rattle.layout.specs.Log
 use Rattle.layout.specs.Log.{Head, LogState, newLog}
 use Rattle.layout.specs.Ends
-use Rattle.layout.proofs.Back.{back}
-use Rattle.layout.proofs.Bars.{Bar, BarState, barMeter, barMark, barVolta, setBars, setLine, setKey, setScopes, setPending, setVerses, headOf, headsOf, laid, measuresOf, plain, Good, Reads, Inv, Reading, Sim, sim-step, sim-fold}
+use Rattle.layout.proofs.Bars.{Bar, BarState, barMeter, barMark, barVolta, setBars, setLine, setKey, setScopes, setPending, setVerses, headOf, headsOf, laid, measuresOf, plain, Good, Inv, Reading, Sim, sim-step, sim-fold}
 use Rattle.layout.proofs.Writing.{sim-append, sim-broken, sim-nothing}
 use Rattle.layout.proofs.Measures.{sim-open, sim-open-line, sim-barline, sim-begins}
 

@@ -1,33 +1,33 @@
 -- THE SAME SECTIONS: a part laid out as the code keeps it, and the plain one.
 use Prim.Native.Nat.{ℕ, zero, suc, _+_, _<_}
 use mathlib.Core.Path.{_≡_, refl, sym, ap, _∙_}
-use mathlib.Core.Bool.{Bool, true, false, cond}
+use mathlib.Core.Bool.{Bool, true}
 use mathlib.Core.List.{List, [], _∷_, _++_, map, reverse, append-nil, append-assoc}
 use native.Mathlib.Omega.{arith}
 use lib.Dec.{eqb}
-use lib.ListN.{length, getD, take, drop, replicate, length-map}
+use lib.ListN.{length, getD, replicate, length-map}
 use lib.Seq.{take-at, drop-at}
 use borrow.Author.Tests.{eqb-true}
-use Rattle.laws.specs.Lists.{foldl, All, cat, sum}
+use Rattle.laws.specs.Lists.{foldl, All, cat}
 use Rattle.laws.specs.Bytes.{le32}
 use Rattle.laws.proofs.Bools.{by-test}
 use Rattle.laws.proofs.Lists.{map-append, map-map, map-agree, keep-snoc-yes, keep-snoc-no}
 use Rattle.standard.specs.Keys.{Key}
 use Rattle.reader.specs.Scan.{Item}
-use Rattle.reader.specs.State.{Note, Measure, PartState, newPart}
+use Rattle.reader.specs.State.{Note, PartState, newPart}
 use Rattle.reader.specs.Lyrics.{Syllable, sungBy}
 use Rattle.reader.specs.Part
 use Rattle.reader.specs.Part.{inOrder}
 use Rattle.reader.specs.Codes.{barlineCode, voltaCode}
 use Rattle.reader.specs.Records
 use Rattle.reader.specs.Records.{markBytes, passBits, noteCounts, measureBytes, noteBytes, pitchBytes, lyricBytes, lyricsOf, section, tagged, allNotes}
-use Rattle.layout.specs.Log.{Head, LogState, newLog}
+use Rattle.layout.specs.Log.{LogState, newLog}
 use Rattle.layout.specs.Ends
 use Rattle.layout.specs.Sections
 use Rattle.layout.specs.Sections.{headBytes, notesIn, ofVoice}
 use Rattle.layout.proofs.Back.{back, length-back, reverse-back, length-reverse}
 use Rattle.layout.proofs.Voices.{voice}
-use Rattle.layout.proofs.Bars.{Bar, headOf, measureOf, Below, Inv, Sim}
+use Rattle.layout.proofs.Bars.{Bar, headOf, Below}
 use Rattle.layout.proofs.Closing.{chunk, finalOf, Final, sim-final}
 use Rattle.layout.proofs.Reading.{sim-items}
 
@@ -72,7 +72,7 @@ own-voice : (v : ℕ) (x : ℕ × Note) → eqb (x .0) v ≡ true → x ≡ (v, 
 own-voice v x e = ap (λ (a : ℕ). (a, x .1)) (eqb-true (x .0) v e)
 
 -- the notes of a voice, in the order written
-voice-order : (v : ℕ) (xs : List (ℕ × Note)) → ofVoice v (back [] xs) ≡ tagged v (back [] (voice v xs))
+pub voice-order : (v : ℕ) (xs : List (ℕ × Note)) → ofVoice v (back [] xs) ≡ tagged v (back [] (voice v xs))
 unfolding ofVoice tagged
 voice-order v [] = refl
 voice-order v (x ∷ xs) =

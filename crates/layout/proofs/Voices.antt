@@ -1,19 +1,18 @@
 -- The notes of a measure, newest first, each with its voice: those of one voice, the place of the last one in the log, and a change of it.
-use Prim.Native.Nat.{ℕ, zero, suc, _+_, _≤_, _<_}
+use Prim.Native.Nat.{ℕ, zero, suc, _+_, _-_, _≤_, _<_}
 use mathlib.Core.Path.{_≡_, refl, sym, ap, _∙_}
-use mathlib.Core.Bool.{Bool, true, false, cond}
+use mathlib.Core.Bool.{false, cond}
 use mathlib.Core.Option.{Option, none, some}
-use mathlib.Core.List.{List, [], _∷_, _++_, map}
+use mathlib.Core.List.{List, [], _∷_, _++_}
 use native.Mathlib.Omega.{arith}
 use lib.Dec.{eqb}
-use lib.ListN.{length, length-append}
+use lib.ListN.{length, getD, List·getD-append}
+use lib.Seq.{getD-append-add}
 use borrow.Author.Tests.{eqb-true}
-use Rattle.laws.specs.Lists.{alterAt, onFirst, All, keep}
+use Rattle.laws.specs.Lists.{onFirst, All}
 use Rattle.laws.proofs.Bools.{by-test, eqb-same}
-use Rattle.laws.proofs.Lists.{keep-append, length-alterAt}
 use Rattle.reader.specs.State.{Note}
 use Rattle.layout.specs.Log.{atPlace, noteAt}
-use Rattle.layout.specs.Sections.{ofVoice}
 use Rattle.layout.proofs.Back.{back, length-back, alterAt-left, alterAt-last}
 
 -- the notes of voice v
@@ -122,6 +121,7 @@ pub data Found (place : ℕ) (notes : List Note) : Type 0 where
   no-note : place ≡ 0 → notes ≡ [] → Found place notes
   last-note : (i : ℕ) (x : Note) (xs : List Note) → place ≡ suc i → notes ≡ x ∷ xs → Found place notes
 
+-- one of both
 pub found : (v k : ℕ) (xs : List (ℕ × Note)) → Found (lastOf v k xs) (voice v xs)
 found v k [] = no-note refl refl
 found v k (x ∷ xs) = by-test (eqb (x .0) v) (λ e. rw e (last-note (k + length xs) (x .1) (voice v xs) refl refl)) (λ e. rw e (found v k xs))
@@ -149,3 +149,28 @@ count-onVoice v w f [] = refl
 count-onVoice v w f (x ∷ xs) =
     by-test (eqb (x .0) v) (λ e. rw e (by-test (eqb (x .0) w) (λ q. rw q) (λ q. rw q)))
     (λ e. rw e (by-test (eqb (x .0) w) (λ q. rw q (ap suc (count-onVoice v w f xs))) (λ q. rw q (count-onVoice v w f xs))))
+
+-- WHERE THE LAST PLACE LIES: past the older notes
+pub lastOf-open : (v k : ℕ) (xs : List (ℕ × Note)) → 0 < lastOf v k xs → k < lastOf v k xs
+lastOf-open v k [] h = absurd (omega (arith, h))
+lastOf-open v k (x ∷ xs) h = by-test (eqb (x .0) v) (λ e. rw e (omega arith)) (λ e. rw e (lastOf-open v k xs (rw e at h)))
+
+-- a note of that voice stands there
+pub lastOf-voice : (v : ℕ) (older xs : List (ℕ × Note)) (d : ℕ × Note) → 0 < lastOf v (length older) xs → getD (back older xs) (lastOf v (length older) xs - 1) d .0 ≡ v
+lastOf-voice v older [] d h = absurd (omega (arith, h))
+lastOf-voice v older (x ∷ xs) d h =
+    by-test (eqb (x .0) v)
+    (λ e. rw e (ap (λ (i : ℕ). getD (back older xs ++ (x ∷ [])) i d .0) (omega (arith, length-back older xs)) ∙ ap (λ (y : ℕ × Note). y .0) (getD-append-add (back older xs) (x ∷ []) 0 d) ∙ eqb-true (x .0) v e))
+    (λ e. let k : 0 < lastOf v (length older) xs = rw e at h in
+    rw e (ap (λ (y : ℕ × Note). y .0) (List·getD-append (back older xs) (x ∷ []) d (lastOf v (length older) xs - 1) (omega (arith, k, lastOf-le v (length older) xs, length-back older xs)))
+    ∙ lastOf-voice v older xs d k))
+
+-- none: the voice has no note
+pub lastOf-none : (v k : ℕ) (xs : List (ℕ × Note)) → lastOf v k xs ≡ 0 → length (voice v xs) ≡ 0
+lastOf-none v k [] h = refl
+lastOf-none v k (x ∷ xs) h = by-test (eqb (x .0) v) (λ e. absurd (let z : suc (k + length xs) ≡ 0 = rw e at h in omega (arith, z))) (λ e. rw e (lastOf-none v k xs (rw e at h)))
+
+-- and the other way round
+pub none-lastOf : (v k : ℕ) (xs : List (ℕ × Note)) → length (voice v xs) ≡ 0 → lastOf v k xs ≡ 0
+none-lastOf v k [] h = refl
+none-lastOf v k (x ∷ xs) h = by-test (eqb (x .0) v) (λ e. absurd (let z : suc (length (voice v xs)) ≡ 0 = rw e at h in omega (arith, z))) (λ e. rw e (none-lastOf v k xs (rw e at h)))

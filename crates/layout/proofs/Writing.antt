@@ -1,25 +1,25 @@
 -- Notes: a note more, a broken rhythm, an empty chord. Both definitions do the same to the notes of the open measure.
-use Prim.Native.Nat.{ℕ, zero, suc, _+_, _<_}
+use Prim.Native.Nat.{ℕ, zero, suc, _<_}
 use mathlib.Core.Path.{_≡_, refl, sym, ap, _∙_}
 use mathlib.Core.Bool.{Bool, true, false, cond, not}
 use mathlib.Core.Option.{Option, none, some}
-use mathlib.Core.List.{List, [], _∷_, _++_, map}
+use mathlib.Core.List.{List, [], _∷_, _++_}
 use native.Mathlib.Nat.{not-suc-le-zero}
 use native.Mathlib.Omega.{arith}
 use lib.Dec.{eqb}
 use lib.ListN.{length, getD}
-use Rattle.laws.specs.Lists.{alterAt, onFirst, All}
+use Rattle.laws.specs.Lists.{alterAt, onFirst}
 use Rattle.laws.proofs.Bools.{by-test}
 use Rattle.standard.specs.Notes
 use Rattle.reader.specs.State
-use Rattle.reader.specs.State.{Note, Line, withBeam, Half, withHalf, withRun, withTuplet, voiceIn, voiceNow, setVoice}
+use Rattle.reader.specs.State.{Note, withBeam, withHalf, withRun, withTuplet, voiceIn, voiceNow, setVoice}
 use Rattle.reader.specs.Part
 use Rattle.reader.specs.Part.{brokenNote, afterHalf, canBeam, beamed, runAfter, beamedAgain, grouped, oneFewer, countedIn}
 use Rattle.layout.specs.Log
 use Rattle.layout.specs.Log.{Head, withCounts, onLastHead, lastPlace, atPlace, noteAt, beamedNew, beamedBefore}
-use Rattle.layout.proofs.Back.{back, length-back, onFirst-same, onFirst-agree, four, getD-four, alter-four, same-four}
+use Rattle.layout.proofs.Back.{length-back, onFirst-same, onFirst-agree, getD-four, alter-four, same-four}
 use Rattle.layout.proofs.Voices.{voice, lastOf, onVoice, firstOf, All-onVoice, voice-onVoice, other-onVoice, lastOf-onVoice, count-onVoice, atPlace-lastOf, noteAt-lastOf, Found, no-note, last-note, found, voice-new, other-new, lastOf-new, lastOf-other}
-use Rattle.layout.proofs.Bars.{Bar, BarState, barNotes, setBars, headOf, headsOf, logOf, lastsOf, laid, measureOf, measuresOf, plain, Below, Good, Reads, Reading, Sim}
+use Rattle.layout.proofs.Bars.{Bar, BarState, barNotes, setBars, headOf, headsOf, logOf, lastsOf, laid, measureOf, measuresOf, plain, Reads, Reading, Sim}
 
 -- the last head changed
 pub onLastHead-snoc : (f : Head → Head) (hs : List Head) (h : Head) → onLastHead f (hs ++ (h ∷ [])) ≡ hs ++ (f h ∷ [])
@@ -90,7 +90,7 @@ module _ (o : ℕ) (f : Note → Note) (n : Note) (b : Bar) (bs : List Bar) (pla
       alter-four o (λ old. v) (λ w. voice w (b .notes)) (λ w. voice w (wider .notes)) place (h ∙ sym (voice-new o n f (b .notes)))
       (λ w e. sym (other-new o w n f (b .notes) e))
 
--- a note, rest or chord
+-- by the measures
 append-open : (n : Note) (s : BarState) (bars : List Bar) → Reads (s .line .overlay) bars → Sim Reading (Log.append n (laid (setBars bars s))) (Part.append n (plain (setBars bars s)))
 unfolding Log.append Part.append Log.onOpen lastPlace setVoice State.onOpen voiceNow voiceIn
 append-open n s [] r = absurd (not-suc-le-zero (r .is-open))
@@ -148,6 +148,7 @@ append-open n s (b ∷ bs) r =
           };
     }
 
+-- a note, rest or chord
 pub sim-append : (n : Note) (s : BarState) → Reading s → Sim Reading (Log.append n (laid s)) (Part.append n (plain s))
 sim-append n s r = append-open n s (s .bars) r
 
@@ -225,6 +226,7 @@ broken-found up n s b bs r i v p q (last-note j x xs z e) =
           };
     })
 
+-- by the measures
 broken-open : (up : Bool) (n : ℕ) (s : BarState) (bars : List Bar) → Reads (s .line .overlay) bars
     → Sim Reading (Log.onBroken up n (lastPlace (laid (setBars bars s))) (laid (setBars bars s))) (Part.onBroken up n (voiceNow (plain (setBars bars s))) (plain (setBars bars s)))
 unfolding lastPlace voiceNow voiceIn
@@ -285,6 +287,7 @@ nothing-found s b bs r i m (x ∷ xs) p e q =
           };
     })
 
+-- by the measures
 nothing-open : (s : BarState) (bars : List Bar) → Reads (s .line .overlay) bars
     → Sim Reading (Log.onNothing (lastPlace (laid (setBars bars s))) (noteAt (lastPlace (laid (setBars bars s))) (logOf bars)) (laid (setBars bars s)))
     (Part.onNothing (voiceNow (plain (setBars bars s))) (plain (setBars bars s)))
