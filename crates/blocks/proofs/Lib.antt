@@ -6,3 +6,6 @@ pub mod Frame
 pub mod Moves
 pub mod Lyrics
 pub mod Claim
+pub mod Instance
+pub mod RowKinds
+pub mod Scan
