@@ -9,3 +9,7 @@ pub mod Claim
 pub mod Instance
 pub mod RowKinds
 pub mod Scan
+pub mod End
+pub mod Keeps
+pub mod Demand
+pub mod Parts

@@ -1,9 +1,12 @@
 -- Of lists, what crate `laws` lacks. Assumes nothing.
-use Prim.Native.Nat.{ℕ}
-use mathlib.Core.Path.{_≡_}
+use Prim.Native.Nat.{ℕ, zero, suc, _<_}
+use mathlib.Core.Path.{_≡_, refl}
 use mathlib.Core.Bool.{true}
-use mathlib.Core.List.{List}
+use mathlib.Core.Option.{some}
+use mathlib.Core.List.{List, [], _∷_}
+use native.Mathlib.Omega.{arith}
 use lib.Dec.{eqb}
+use lib.ListN.{length, getElem?}
 use Rattle.laws.specs.Lists.{All, keep, eqText, has, indexOf}
 use Rattle.laws.proofs.Bools.{eqb-same}
 use Rattle.laws.proofs.Lists.{All-map, keep-agree}
@@ -17,3 +20,9 @@ numbered-named o ids v hv xs h =
     (All-map (λ x. has (o x) ids ≡ true) (λ x. eqb (indexOf (o x) ids) (indexOf v ids) ≡ eqText (o x) v)
     (λ x k. number-name (λ (w : List ℕ). w) ids (indexOf v ids) v (o x) hv (eqb-same (indexOf v ids)) k)
     xs h)
+
+-- at a place within the list there is an element
+pub getElem?-some : {A : Type 0} (xs : List A) (k : ℕ) → k < length xs → (x : A) × (getElem? xs k ≡ some x)
+getElem?-some [] k h = absurd (omega (arith, h))
+getElem?-some (x ∷ xs) zero h = (x, refl)
+getElem?-some (x ∷ xs) (suc k) h = getElem?-some xs k (omega (arith, h))
