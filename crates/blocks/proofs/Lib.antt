@@ -13,3 +13,4 @@ pub mod End
 pub mod Keeps
 pub mod Demand
 pub mod Parts
+pub mod Words
