@@ -14,3 +14,5 @@ pub mod Keeps
 pub mod Demand
 pub mod Parts
 pub mod Words
+pub mod Sets
+pub mod Tests

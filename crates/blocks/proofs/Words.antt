@@ -1,30 +1,27 @@
--- THAT THE WORDS OF THE DEMAND SAY WHAT THEY SHOULD: lines, the moved text's own blocks, and what sets L or M. (Moved: proofs/Moves; the lyric condition:
--- proofs/Lyrics; that each voice has a part: proofs/Parts.) Assumes nothing.
+-- THAT THE WORDS OF THE DEMAND SAY WHAT THEY SHOULD: lines, the moved text's own blocks, the order, the lyric condition. (What sets L or M: proofs/Sets; that each voice
+-- has a part: proofs/Parts.) Assumes nothing.
 use Prim.Native.Nat.{ℕ}
 use mathlib.Core.Path.{_≡_, refl, sym, ap, subst, _∙_}
 use mathlib.Core.Logic.{_⊎_, inl, inr, ⊎-elim, _↔_}
 use mathlib.Core.Bool.{Bool, true, false, cond, false≢true}
 use mathlib.Core.List.{List, [], _∷_, _++_, append-assoc, append-nil}
-use mathlib.Core.Option.{Option, none, some}
-use native.Mathlib.Omega.{arith}
 use lib.Dec.{eqb}
 use Rattle.laws.specs.Lists.{All, any, cat, foldl}
 use Rattle.laws.specs.Orders.{Perm}
 use Rattle.laws.proofs.Bools.{by-test, or-either, both-true}
 use Rattle.laws.proofs.Lists.{All-append, All-left, All-right, All-cat, All-uncat}
 use Rattle.laws.proofs.Orders.{All-perm, perm-nil}
-use Rattle.standard.specs.Fields.{Meter}
 use Rattle.reader.specs.Text as text
 use Rattle.reader.specs.Text.{White, white, inC2, inE1, inE19A, inE2, inE280, inE281, inE3, inE380, whiteStep, isAllWhite, isBlank, rows, cut, trim, clean}
-use Rattle.reader.specs.Tokens.{Effect, counts, refuses, setsUnit, setsMeter, passes}
-use Rattle.reader.specs.Lines.{isV, isK, Kind, blank, refused, lyric, voice, key, meter, unit, tune, other, music, kindOf}
+use Rattle.reader.specs.Lines.{isK, isLyric}
 use Rattle.reader.specs.Steps.{Row}
-use Rattle.reader.specs.Scan.{lastUnit, lastMeter}
 use Rattle.blocks.specs.Blocks.{endsLF, upToK, afterK, untilV, blocksOf, header, opening, blocks, rebuilt}
-use Rattle.blocks.specs.Kinds.{unitAfter, meterAfter}
-use Rattle.blocks.specs.Demand.{Moved, Quiet}
+use Rattle.blocks.specs.Frame.{Music, Sung}
+use Rattle.blocks.specs.Demand.{voiceOf, Moved, LyricsBehind}
 use Rattle.blocks.proofs.Instance.{reader}
-use Rattle.blocks.proofs.Moves.{moved-is-perm}
+use Rattle.blocks.proofs.Moves as moves
+use Rattle.blocks.proofs.Lyrics.{Between, Stepwise, behind?, literal-stepwise, stepwise-between, between-literal, literal-test, test-literal}
+use Rattle.blocks.proofs.Scan.{music-lyric}
 use Rattle.blocks.proofs.Rows.{rows-cat, rows-closed, rows-all, rebuilt-self, Closed, Plain, Shape, until-plain, blocks-shape}
 
 -- LINES: a row's line feed, and a carriage return before it, do not count: cut and trimmed a row is as its line without them
@@ -88,6 +85,36 @@ clean-lf = clean-end 10 white-lf refl
 
 pub clean-crlf : (l : List ℕ) → clean (l ++ (13 ∷ (10 ∷ []))) ≡ clean l
 clean-crlf l = ap clean (sym (append-assoc l (13 ∷ []) (10 ∷ []))) ∙ clean-lf (l ++ (13 ∷ [])) ∙ clean-end 13 white-cr refl l
+
+-- THE ORDER: what is moved is all there, as often, and nothing else; and it is just what exchanges of neighbours of different voices lead to
+pub moved-is-perm : (old new : List (List Row)) → Moved old new → Perm old new
+moved-is-perm = moves.moved-is-perm reader
+
+pub moved-swaps : (old new : List (List Row)) → Moved old new → moves.Swaps reader old new
+moved-swaps = moves.moved-swaps reader
+
+pub swaps-moved : {old new : List (List Row)} → moves.Swaps reader old new → Moved old new
+swaps-moved = moves.swaps-moved reader
+
+-- THE LYRIC CONDITION: as the words have it; "a lyric row with music after it has music before it"; "if some row is music, each lyric row has a music row before it";
+-- and a test. All four are one
+pub lyrics-step : (rs : List Row) → LyricsBehind rs → Stepwise reader rs
+lyrics-step = literal-stepwise reader music-lyric
+
+pub lyrics-between : (rs : List Row) → LyricsBehind rs → Between reader rs
+lyrics-between rs h = stepwise-between reader rs (lyrics-step rs h)
+
+pub step-lyrics : (rs : List Row) → Stepwise reader rs → LyricsBehind rs
+step-lyrics rs h = between-literal reader rs (stepwise-between reader rs h)
+
+pub between-lyrics : (rs : List Row) → Between reader rs → LyricsBehind rs
+between-lyrics = between-literal reader
+
+pub lyrics-test : (rs : List Row) → LyricsBehind rs → behind? reader rs ≡ true
+lyrics-test = literal-test reader
+
+pub test-lyrics : (rs : List Row) → behind? reader rs ≡ true → LyricsBehind rs
+test-lyrics = test-literal reader
 
 -- BLOCKS: the moved text has the same rows before its first block, and its blocks are the moved ones
 up-to-again : (rs x : List Row) → any isK rs ≡ true → upToK (upToK rs ++ x) ≡ upToK rs
@@ -155,7 +182,7 @@ pub moved-own : (text : List ℕ) → endsLF text ≡ true → (bs : List (List 
 moved-own text lf bs mv = by-test (any isK (rows text)) with-K without-K
   where
     pm : Perm (blocks text) bs
-    pm = moved-is-perm reader (blocks text) bs mv
+    pm = moved-is-perm (blocks text) bs mv
 
     all-closed : All Closed (header text ++ (opening text ++ cat (blocks text)))
     all-closed = subst (All Closed) (sym (rows-all text)) (rows-closed text lf)
@@ -183,93 +210,3 @@ moved-own text lf bs mv = by-test (any isK (rows text)) with-K without-K
         let y : bs ≡ [] = perm-nil (subst (λ (l : List (List Row)). Perm l bs) z pm) in
         let t : rebuilt text bs ≡ text = ap (rebuilt text) (y ∙ sym z) ∙ rebuilt-self text in
         (ap header t, ap opening t, ap blocks t ∙ z ∙ sym y)
-
--- QUIET: a row leaves L and M as it finds them, whatever they are, just if no field in it sets one, on its own line or inline
-abbrev pub NoSet : Effect → Type 0
-NoSet counts = Unit {0}
-NoSet (refuses k) = Unit {0}
-NoSet (setsUnit u) = ⊥
-NoSet (setsMeter m) = ⊥
-NoSet passes = Unit {0}
-
-abbrev pub NoField : Kind → Type 0
-NoField blank = Unit {0}
-NoField (refused n) = Unit {0}
-NoField (lyric t) = Unit {0}
-NoField (voice v mid) = Unit {0}
-NoField (key k) = Unit {0}
-NoField (meter m) = ⊥
-NoField (unit none) = Unit {0}
-NoField (unit (some u)) = ⊥
-NoField tune = Unit {0}
-NoField other = Unit {0}
-NoField (music hi es l) = All NoSet es
-
--- what does not see what it finds does not leave it as it was
-zero≢one : _≡_ {A = ℕ} 0 1 → ⊥
-zero≢one h = omega (arith, h)
-
-sets-no : (f : ℕ → ℕ) → ((u w : ℕ) → f u ≡ f w) → ((u : ℕ) → f u ≡ u) → ⊥
-sets-no f b h = zero≢one (sym (h 0) ∙ b 0 1 ∙ h 1)
-
-sets-noM : (f : Meter → Meter) → ((m n : Meter) → f m ≡ f n) → ((m : Meter) → f m ≡ m) → ⊥
-sets-noM f b h = zero≢one (ap (λ (m : Meter). m .0) (sym (h (0, 0)) ∙ b (0, 0) (1, 0) ∙ h (1, 0)))
-
-quiet-effects : (es : List Effect) → ((u : ℕ) → lastUnit es u ≡ u) → ((m : Meter) → lastMeter es m ≡ m) → All NoSet es
-unfolding lastUnit lastMeter
-quiet-effects [] l m = tt
-quiet-effects (counts ∷ es) l m = (tt, quiet-effects es l m)
-quiet-effects (refuses k ∷ es) l m = (tt, quiet-effects es l m)
-quiet-effects (setsUnit v ∷ es) l m = absurd (sets-no (λ u. lastUnit es v) (λ u w. refl) l)
-quiet-effects (setsMeter v ∷ es) l m = absurd (sets-noM (λ u. lastMeter es v) (λ u w. refl) m)
-quiet-effects (passes ∷ es) l m = (tt, quiet-effects es l m)
-
-effects-L : (es : List Effect) → All NoSet es → (u : ℕ) → lastUnit es u ≡ u
-unfolding lastUnit
-effects-L [] h u = refl
-effects-L (counts ∷ es) h u = effects-L es (h .1) u
-effects-L (refuses k ∷ es) h u = effects-L es (h .1) u
-effects-L (setsUnit v ∷ es) h u = absurd (h .0)
-effects-L (setsMeter v ∷ es) h u = absurd (h .0)
-effects-L (passes ∷ es) h u = effects-L es (h .1) u
-
-effects-M : (es : List Effect) → All NoSet es → (m : Meter) → lastMeter es m ≡ m
-unfolding lastMeter
-effects-M [] h m = refl
-effects-M (counts ∷ es) h m = effects-M es (h .1) m
-effects-M (refuses k ∷ es) h m = effects-M es (h .1) m
-effects-M (setsUnit v ∷ es) h m = absurd (h .0)
-effects-M (setsMeter v ∷ es) h m = absurd (h .0)
-effects-M (passes ∷ es) h m = effects-M es (h .1) m
-
-quiet-kind : (k : Kind) → ((u : ℕ) → unitAfter k u ≡ u) → ((m : Meter) → meterAfter k m ≡ m) → NoField k
-quiet-kind blank l m = tt
-quiet-kind (refused n) l m = tt
-quiet-kind (lyric t) l m = tt
-quiet-kind (voice v mid) l m = tt
-quiet-kind (key x) l m = tt
-quiet-kind (meter n) l m = sets-noM (λ u. n) (λ u w. refl) m
-quiet-kind (unit none) l m = tt
-quiet-kind (unit (some u)) l m = sets-no (λ w. u) (λ x w. refl) l
-quiet-kind tune l m = tt
-quiet-kind other l m = tt
-quiet-kind (music hi es x) l m = quiet-effects es l m
-
-kind-quiet : (k : Kind) → NoField k → ((u : ℕ) → unitAfter k u ≡ u) × ((m : Meter) → meterAfter k m ≡ m)
-kind-quiet blank h = (λ u. refl, λ m. refl)
-kind-quiet (refused n) h = (λ u. refl, λ m. refl)
-kind-quiet (lyric t) h = (λ u. refl, λ m. refl)
-kind-quiet (voice v mid) h = (λ u. refl, λ m. refl)
-kind-quiet (key x) h = (λ u. refl, λ m. refl)
-kind-quiet (meter n) h = absurd h
-kind-quiet (unit none) h = (λ u. refl, λ m. refl)
-kind-quiet (unit (some u)) h = absurd h
-kind-quiet tune h = (λ u. refl, λ m. refl)
-kind-quiet other h = (λ u. refl, λ m. refl)
-kind-quiet (music hi es x) h = (effects-L es h, effects-M es h)
-
-pub quiet-field : (r : Row) → Quiet r → NoField (kindOf r)
-quiet-field r q = quiet-kind (kindOf r) (q .0) (q .1)
-
-pub field-quiet : (r : Row) → NoField (kindOf r) → Quiet r
-field-quiet r h = kind-quiet (kindOf r) h
