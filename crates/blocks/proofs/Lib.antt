@@ -16,3 +16,5 @@ pub mod Parts
 pub mod Words
 pub mod Sets
 pub mod Tests
+pub mod Example
+pub mod Needed
