@@ -1,5 +1,5 @@
 -- NONE OF THE SUPPOSITIONS CAN BE LEFT OUT: for each a text and an order of its blocks for which all the others hold, and whose answers differ. Computed, through the whole
--- reader; the Rust answers unlike on each pair too.
+-- reader; where both texts are accepted the Rust answers unlike too.
 use Prim.Native.Nat.{ℕ}
 use mathlib.Core.Path.{_≡_, refl, sym, ap, subst, _∙_}
 use mathlib.Core.Bool.{Bool, true, false}
@@ -12,17 +12,19 @@ use Rattle.laws.specs.Orders.{Perm, nothing, more, here, there as further}
 use Rattle.laws.proofs.Bools.{both-true}
 use Rattle.laws.proofs.Lists.{All-keep, eqText-same}
 use Rattle.standard.specs.Bytes.{ascii}
+use Rattle.reader.specs.Lines.{kindOf}
 use Rattle.reader.specs.Steps.{Row}
 use Rattle.reader.specs.Part.{Part}
 use Rattle.reader.specs.Answer.{Verdict, refusal, reading, parseAbc}
 use Rattle.reader.specs.All.{all}
 use Rattle.blocks.specs.Blocks.{blocks, rebuilt, endsLF}
+use Rattle.blocks.specs.Kinds.{unitAfter}
 use Rattle.blocks.specs.Demand.{Accepted, Moved, voiceOf, there, blocksAt, LyricsBehind, partIn, alone, Meant}
 use Rattle.blocks.proofs.Instance.{reader}
 use Rattle.blocks.proofs.Moves.{Swaps, swap, later, twice}
 use Rattle.blocks.proofs.Words.{swaps-moved, test-lyrics}
 use Rattle.blocks.proofs.Tests.{Known, QuietL, QuietM, Behind, known-test, quietL-test, quietM-test, behind-test, meant-test}
-use Rattle.blocks.proofs.Example.{hymn, hymn-meant}
+use Rattle.blocks.proofs.Example.{hymn, hymn′}
 
 -- two texts whose readings differ in some byte; stores of 200 and 10,000 bytes
 abbrev pub Differ : List ℕ → List ℕ → Type 0
@@ -146,6 +148,32 @@ sets-inline-else = (tt, refl, known-test sets-inline refl, quietM-test sets-inli
 pub inline-needed : Differ sets-inline (rebuilt sets-inline sets-inline-moved)
 unfolding all
 inline-needed = differ sets-inline (rebuilt sets-inline sets-inline-moved) refl
+
+-- a field that leaves one value as it found it and not another: `L:1/8`, which leaves 8, where L is 1/4
+abbrev pub at-eight : List ℕ
+at-eight = ascii "V:1\nV:2\nL:1/4\nK:D\nV:1\nF\nV:2\nL:1/8\n"
+
+abbrev at-eight-blocks : List (List Row)
+at-eight-blocks = (ascii "V:1\n" ∷ ascii "F\n" ∷ []) ∷ (ascii "V:2\n" ∷ ascii "L:1/8\n" ∷ []) ∷ []
+
+abbrev pub at-eight-moved : List (List Row)
+at-eight-moved = (ascii "V:2\n" ∷ ascii "L:1/8\n" ∷ []) ∷ (ascii "V:1\n" ∷ ascii "F\n" ∷ []) ∷ []
+
+at-eight-are : blocks at-eight ≡ at-eight-blocks
+unfolding all
+at-eight-are = refl
+
+at-eight-swaps : Swaps reader at-eight-blocks at-eight-moved
+unfolding all
+at-eight-swaps = swap refl
+
+pub at-eight-else : Accepted (parseAbc at-eight 200 10000) × (endsLF at-eight ≡ true) × Known at-eight × QuietM at-eight × Behind at-eight × All (All (λ r. unitAfter (kindOf r) 8 ≡ 8)) (blocks at-eight) × Moved (blocks at-eight) at-eight-moved
+unfolding all
+at-eight-else = (tt, refl, known-test at-eight refl, quietM-test at-eight refl, behind-test 2 at-eight refl, ((refl, (refl, tt)), ((refl, (refl, tt)), tt)), moved-to at-eight at-eight-blocks at-eight-moved at-eight-are at-eight-swaps)
+
+pub whatever-needed : Differ at-eight (rebuilt at-eight at-eight-moved)
+unfolding all
+whatever-needed = differ at-eight (rebuilt at-eight at-eight-moved) refl
 
 -- A BLOCK THAT SETS M
 abbrev pub sets-M : List ℕ
@@ -274,6 +302,11 @@ own-order-perm = more (more nothing here) (further here)
 pub order-needed : Differ own-order (rebuilt own-order own-order-moved)
 unfolding all
 order-needed = differ own-order (rebuilt own-order own-order-moved) refl
+
+-- "GIVEN STORES OF THE SAME LENGTHS": with a shorter reading store the moved text is refused (16)
+pub lengths-needed : parseAbc hymn′ 20 10000 .verdict ≡ parseAbc hymn 100 10000 .verdict → ⊥
+unfolding all
+lengths-needed h = let z : _≡_ {A = ℕ} 16 0 = ap number h in omega (arith, z)
 
 -- "IF THAT TEXT IS ACCEPTED": of a text that is meant, the text of a voice without music has no measure, so no part (refusal 1)
 pub alone-refused : parseAbc (alone hymn 0) 100 10000 .verdict ≡ refusal 1 0

@@ -1,6 +1,6 @@
--- AN ACCEPTED TEXT'S READING HAS ONE PART FOR EACH VOICE, so the parts that demand 3 compares are there. Assumes nothing.
+-- AN ACCEPTED TEXT'S READING HAS ONE PART FOR EACH VOICE, so the parts that demand 3 compares are there; and equal parts have equal sections. Assumes nothing.
 use Prim.Native.Nat.{ℕ, zero, suc, _<_, max}
-use mathlib.Core.Path.{_≡_, refl, ap, _∙_}
+use mathlib.Core.Path.{_≡_, refl, sym, ap, _∙_}
 use mathlib.Core.Bool.{true}
 use mathlib.Core.Option.{Option, none, some}
 use mathlib.Core.List.{List, [], _∷_}
@@ -14,8 +14,9 @@ use Rattle.reader.specs.Scan.{Item, Env, Out, scan}
 use Rattle.reader.specs.Part.{Part}
 use Rattle.reader.specs.Records.{sections}
 use Rattle.reader.specs.Answer.{Verdict, reading, Outcome, early, refusedWith, parts, finish, scanned, unless, parseAbc}
-use Rattle.blocks.specs.Demand.{Accepted, stateOf, voices, partIn, partOf}
+use Rattle.blocks.specs.Demand.{Accepted, stateOf, voices, only, partIn, partOf, Meant}
 use Rattle.blocks.proofs.Lists.{getElem?-some}
+use Rattle.blocks.proofs.Demand.{by-name}
 use Rattle.blocks.proofs.End.{Not, early-not, ended-reading}
 
 parts-length : (e : Env) (f : ℕ → List Item) (n q : ℕ) → length (parts e f n q) ≡ n
@@ -55,3 +56,10 @@ part-there text rl sl h v hv = go (parts-count text rl sl h)
     go q =
         let r : (x : Part) × (getElem? (q .0) p ≡ some x) = getElem?-some (q .0) p (omega (arith, q .2, index-lt v (voices text) hv)) in
         (r .0, ap (λ (w : Verdict). partIn w p) (q .1) ∙ r .1)
+
+-- "every voice's part equals, in all five sections, the one read with all other voices' blocks removed": both are there, and their counts and sections are the same bytes
+pub same-sections : (text : List ℕ) (rl sl : ℕ) → Meant text rl sl → (v : List ℕ) → has v (voices text) ≡ true → (rl′ sl′ : ℕ) → Accepted (parseAbc (only text v) rl′ sl′)
+    → (x : Part) × (y : Part) × (partOf text rl sl v ≡ some x) × (partOf (only text v) rl′ sl′ v ≡ some y) × (sections x ≡ sections y)
+same-sections text rl sl m v hv rl′ sl′ a =
+    let q : (x : Part) × (partOf text rl sl v ≡ some x) = part-there text rl sl (m .accepted) v hv in
+    (q .0, q .0, q .1, sym (by-name text rl sl m v hv rl′ sl′ a) ∙ q .1, refl)

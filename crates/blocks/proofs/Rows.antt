@@ -53,7 +53,7 @@ push-closed c d t (r ∷ rs) e h p = (rw e (p .0), p .1)
 pub rows-closed : (t : List ℕ) → endsLF t ≡ true → All Closed (rows t)
 unfolding rows
 rows-closed [] h = tt
-rows-closed (c ∷ []) h = rw (h, rows) (rw h refl, tt)
+rows-closed (c ∷ []) h = let e : eqb c 10 ≡ true = h in rw (e, rows) (rw e refl, tt)
 rows-closed (c ∷ (d ∷ t)) h =
     by-test (eqb c 10) (λ e. rw (e, rows) (rw e refl, rows-closed (d ∷ t) h))
     (λ e. rw (e, rows) (push-closed c d t (rows (d ∷ t)) e (cat-rows (d ∷ t)) (rows-closed (d ∷ t) h)))
