@@ -1,6 +1,6 @@
 -- DEMAND 3 FOR EVERY READER THAT KEEPS THE LAWS. Each answer, of the text, of the moved text and of the text of one voice, is the end of the same shared facts
 -- and of each part's items as its own blocks give them. Assumes nothing.
-use Prim.Native.Nat.{ℕ, suc, _+_, _≤_}
+use Prim.Native.Nat.{ℕ, _+_, _≤_}
 use mathlib.Core.Path.{_≡_, refl, sym, ap, subst, _∙_}
 use mathlib.Core.Logic.{_⊎_, inl, inr, ⊎-elim, _↔_}
 use mathlib.Core.Bool.{Bool, true, false, cond}
@@ -208,19 +208,19 @@ module _
     closed-all : All Closed (header text ++ (opening text ++ cat bs))
     closed-all = subst (All Closed) (sym (rows-all text)) (rows-closed text (m .ended))
 
-    closed-head : All Closed (header text)
-    closed-head = All-left Closed (header text) (opening text ++ cat bs) closed-all
+    closed-header : All Closed (header text)
+    closed-header = All-left Closed (header text) (opening text ++ cat bs) closed-all
 
-    closed-middle : All Closed (opening text)
-    closed-middle = All-left Closed (opening text) (cat bs) (All-right Closed (header text) (opening text ++ cat bs) closed-all)
+    closed-opening : All Closed (opening text)
+    closed-opening = All-left Closed (opening text) (cat bs) (All-right Closed (header text) (opening text ++ cat bs) closed-all)
 
     closed-blocks : All (All Closed) bs
     closed-blocks = All-uncat Closed bs (All-right Closed (opening text) (cat bs) (All-right Closed (header text) (opening text ++ cat bs) closed-all))
 
     closed-rows : (cs : List (List Row)) → All (All Closed) cs → All Closed (header text ++ (opening text ++ cat cs))
     closed-rows cs c =
-        All-append Closed (header text) (opening text ++ cat cs) closed-head
-        (All-append Closed (opening text) (cat cs) closed-middle (All-cat Closed cs c))
+        All-append Closed (header text) (opening text ++ cat cs) closed-header
+        (All-append Closed (opening text) (cat cs) closed-opening (All-cat Closed cs c))
 
     -- part p's items, where the blocks are cs and all lyric rows find a place
     abbrev F : List (List Row) → ℕ → List (R .Item)
@@ -419,8 +419,11 @@ module _
         ∙ ap (λ (is : List (List ℕ)). part R e (indexOf v is) bs) voices-self
         ∙ numbered-named (identOf R) (R .ids e) v (subst (λ (is : List (List ℕ)). has v is ≡ true) voices-self h) bs known-0
 
+    owned : All (λ b. has (identOf R b) (R .ids (R .env (before R text))) ≡ true) bs
+    owned = subst (λ (s : R .State). All (λ b. has (identOf R b) (R .ids (R .env s)) ≡ true) bs) (sym before-s0) known-0
+
     same : Same R text rl sl
-    same = record { moved = moved; apart = apart; numbers = numbers; names = names }
+    same = record { moved = moved; apart = apart; numbers = numbers; names = names; owned = owned }
 
 -- DEMAND 3
 module _ (R : Reader) (L : Laws R) where

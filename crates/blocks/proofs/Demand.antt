@@ -4,34 +4,37 @@ use mathlib.Core.Path.{_≡_, sym, ap, subst, _∙_}
 use mathlib.Core.Logic.{inl}
 use mathlib.Core.Bool.{true}
 use mathlib.Core.List.{List}
-use Rattle.laws.specs.Lists.{has, indexOf}
+use Rattle.laws.specs.Lists.{All, has, indexOf}
 use Rattle.reader.specs.Steps.{Row}
 use Rattle.reader.specs.Scan.{scan}
 use Rattle.reader.specs.Answer.{parseAbc, unless, scanned}
 use Rattle.blocks.specs.Blocks.{blocks, rebuilt}
 use Rattle.blocks.specs.Frame as frame
-use Rattle.blocks.specs.Demand.{Demand-3, Meant, Same, rowsAt, Moved, Accepted, voices, alone, only, partIn, partOf, By-name}
+use Rattle.blocks.specs.Demand.{Demand-3, Meant, Same, voiceOf, there, rowsAt, Moved, Accepted, voices, alone, only, partIn, partOf, By-name}
 use Rattle.blocks.proofs.Lyrics.{literal-stepwise}
 use Rattle.blocks.proofs.Claim.{claim}
 use Rattle.blocks.proofs.Instance.{reader}
 use Rattle.blocks.proofs.Scan.{music-lyric}
 use Rattle.blocks.proofs.Keeps.{laws}
 
+-- the frame's claim at `parseAbc`
+claimed : (text : List ℕ) (rl sl : ℕ) → Meant text rl sl → frame.Same reader text rl sl
+unfolding parseAbc unless scanned scan
+claimed text rl sl m =
+    claim reader laws text rl sl
+    (record {
+      accepted = m .accepted;
+      ended = m .ended;
+      known = m .known;
+      quiet = inl (m .quiet);
+      sung = λ p. literal-stepwise reader music-lyric (rowsAt text p) (m .sung p);
+    })
+
 -- THE ORDER OF THE VOICE BLOCKS CHANGES NO BYTE OF THE READING
 pub demand-3 : Demand-3
 unfolding parseAbc unless scanned scan
-demand-3 text rl sl m = go (claim reader laws text rl sl meant)
+demand-3 text rl sl m = go (claimed text rl sl m)
   where
-    meant : frame.Meant reader text rl sl
-    meant =
-        record {
-          accepted = m .accepted;
-          ended = m .ended;
-          known = m .known;
-          quiet = inl (m .quiet);
-          sung = λ p. literal-stepwise reader music-lyric (rowsAt text p) (m .sung p);
-        }
-
     go : frame.Same reader text rl sl → Same text rl sl
     go s = record { moved = s .moved; apart = s .apart; numbers = s .numbers; names = s .names }
 
@@ -52,3 +55,8 @@ by-name text rl sl m v hv rl′ sl′ = go (demand-3 text rl sl m)
         (λ (t : List ℕ). Accepted (parseAbc t rl′ sl′) → partOf text rl sl v ≡ partOf t rl′ sl′ v)
         (ap (rebuilt text) (s .names v hv))
         (λ a. s .apart p rl′ sl′ a ∙ ap (λ (is : List (List ℕ)). partIn (parseAbc (alone text p) rl′ sl′ .verdict) (indexOf v is)) (sym (s .numbers p)))
+
+-- each block's voice is known where the first block begins
+pub owned : (text : List ℕ) (rl sl : ℕ) → Meant text rl sl → All (λ b. has (voiceOf b) (there text .env .voices) ≡ true) (blocks text)
+unfolding scan
+owned text rl sl m = claimed text rl sl m .owned

@@ -1,21 +1,21 @@
 -- THE ANSWER keeps the frame's last laws: what is looked at before the first line, and parts each made of their own items. Assumes nothing.
-use Prim.Native.Nat.{ℕ, zero, suc, _+_, _≤_, max}
+use Prim.Native.Nat.{ℕ, zero, suc, _+_, max}
 use mathlib.Core.Path.{_≡_, refl, sym, ap, subst, _∙_}
-use mathlib.Core.Logic.{_⊎_, inl, inr, ⊎-elim, _↔_}
+use mathlib.Core.Logic.{_⊎_, ⊎-elim, _↔_}
 use mathlib.Core.Bool.{Bool, true, false, cond, true≢false, false≢true}
 use mathlib.Core.Option.{Option, none, some}
-use mathlib.Core.List.{List, [], _∷_}
+use mathlib.Core.List.{List, _∷_}
 use native.Mathlib.Omega.{arith}
 use lib.Dec.{leb}
 use lib.ListN.{length, getElem?}
 use borrow.Author.Tests.{leb-true, le-leb}
-use Rattle.laws.specs.Lists.{All, any, sum, foldl}
+use Rattle.laws.specs.Lists.{All, sum, foldl}
 use Rattle.laws.proofs.Lists.{none-any}
 use Rattle.reader.specs.Text.{Utf8, between, one, two, three, afterE0, afterED, afterF0, afterF4, invalid, utf8Step, isBetween, isUtf8, White, white, inC2, inE1, inE19A, inE2, inE280, inE281, inE3, inE380, other, whiteStep, isAllWhite, isBlank}
 use Rattle.reader.specs.Scan.{Item, Env}
 use Rattle.reader.specs.Part.{Part, build, emptyPart}
-use Rattle.reader.specs.Answer.{Verdict, refusal, reading, Outcome, mostBytes, scratchNeeded, refusedWith, early, isMusic, built, parts, encode, measureCount, written, ended, finish}
-use Rattle.blocks.specs.Demand.{IsReading, Accepted, partIn}
+use Rattle.reader.specs.Answer.{Verdict, reading, Outcome, mostBytes, scratchNeeded, refusedWith, early, isMusic, built, parts, encode, measureCount, written, ended, finish}
+use Rattle.blocks.specs.Demand.{Accepted, partIn}
 use Rattle.blocks.proofs.Machine.{Blank, IsUtf8}
 use Rattle.blocks.proofs.Instance.{Fits}
 

@@ -2,7 +2,7 @@
 use Prim.Native.Nat.{ℕ}
 use mathlib.Core.Path.{_≡_, refl, sym, ap, subst, _∙_}
 use mathlib.Core.Logic.{⊎-elim}
-use mathlib.Core.Bool.{Bool, true, false, false≢true}
+use mathlib.Core.Bool.{true, false, false≢true}
 use mathlib.Core.Option.{Option, none, some}
 use mathlib.Core.List.{List, [], _∷_, map}
 use Rattle.laws.specs.Lists.{has}
@@ -18,7 +18,7 @@ use Rattle.blocks.specs.Blocks.{blocks, rebuilt}
 use Rattle.blocks.specs.Frame.{Sung}
 use Rattle.blocks.specs.Demand.{Accepted, partIn, alone, only, rowsAt, voices, Moved, Meant, partOf}
 use Rattle.blocks.proofs.Instance.{reader}
-use Rattle.blocks.proofs.Moves.{Swaps, swap, later, twice}
+use Rattle.blocks.proofs.Moves.{Swaps, swap, later}
 use Rattle.blocks.proofs.Words.{swaps-moved}
 use Rattle.blocks.proofs.Tests.{meant-test}
 use Rattle.blocks.proofs.Demand.{demand-3, by-name}

@@ -1,19 +1,19 @@
 -- THE CORE: the blocks, in any order, from any state with the same shared facts, give each part the items that its own blocks give. By induction on the list
 -- of blocks; no exchange of neighbours. For every reader that keeps the laws. Assumes nothing.
-use Prim.Native.Nat.{ℕ, suc, _+_, _≤_, _<_}
+use Prim.Native.Nat.{ℕ, _+_, _≤_}
 use mathlib.Core.Path.{_≡_, refl, sym, ap, subst, _∙_}
 use mathlib.Core.Logic.{_⊎_, inl, inr, ⊎-elim}
-use mathlib.Core.Bool.{Bool, true, false, cond, _&&_, _||_, true≢false, false≢true}
-use mathlib.Core.List.{List, [], _∷_, _++_, append-assoc, append-nil, nil≢cons, cons≢nil}
+use mathlib.Core.Bool.{Bool, true, false, cond, true≢false}
+use mathlib.Core.List.{List, [], _∷_, _++_, cons≢nil}
 use native.Mathlib.Omega.{arith}
 use lib.Dec.{eqb}
 use lib.ListN.{length}
 use borrow.Author.Tests.{eqb-true}
-use Rattle.laws.specs.Lists.{All, keep, cat, sum, eqText, has, indexOf}
-use Rattle.laws.proofs.Bools.{by-test, and-left, and-right, or-either}
-use Rattle.laws.proofs.Lists.{All-append, All-left, All-right, keep-yes, keep-no, eqText-true}
+use Rattle.laws.specs.Lists.{All, keep, cat, sum, has, indexOf}
+use Rattle.laws.proofs.Bools.{by-test}
+use Rattle.laws.proofs.Lists.{All-append, All-left, All-right, keep-yes, keep-no}
 use Rattle.reader.specs.Lines.{isV, isK, isLyric}
-use Rattle.reader.specs.Steps.{Row, Step, refuse, on, first, run, mine, tag}
+use Rattle.reader.specs.Steps.{Row, on, mine, tag}
 use Rattle.blocks.specs.Blocks.{upToK, afterK}
 use Rattle.blocks.specs.Frame.{Reader, identOf, isPart, Quiet, Brings, Music, Sung, Goes, Hush, Laws}
 use Rattle.blocks.proofs.Rows.{Plain, Shape}

@@ -1,12 +1,11 @@
 -- `parseAbc` AS A READER of the frame. What the frame wants to know of a row beside specs/Kinds: its notes, what is refused in it wherever it stands after the
 -- first K: line, its items. A second edition would be a parameter here.
-use Prim.Native.Nat.{ℕ, _*_, _+_, _≤_}
+use Prim.Native.Nat.{ℕ, _≤_}
 use mathlib.Core.Path.{_≡_}
-use mathlib.Core.Bool.{Bool, true, false}
+use mathlib.Core.Bool.{Bool, false}
 use mathlib.Core.List.{List, [], _∷_}
 use mathlib.Core.Option.{Option}
 use lib.Dec.{ltb}
-use Rattle.laws.specs.Lists.{foldl}
 use Rattle.standard.specs.Fields.{Meter}
 use Rattle.reader.specs.Tokens.{Effect, counts, refuses, setsUnit, setsMeter, passes}
 use Rattle.reader.specs.Lines.{Kind, blank, refused, lyric, voice, key, meter, unit, tune, other, music, kindOf}

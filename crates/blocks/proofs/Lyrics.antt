@@ -1,12 +1,11 @@
 -- THE LYRIC CONDITION in three readings that say the same, and as a test. For every reader. Assumes nothing.
-use Prim.Native.Nat.{ℕ}
 use mathlib.Core.Path.{_≡_, refl, sym, ap, subst, _∙_}
 use mathlib.Core.Logic.{_⊎_, inl, inr, ⊎-elim}
 use mathlib.Core.Bool.{Bool, true, false, cond, true≢false, false≢true}
-use mathlib.Core.List.{List, [], _∷_, _++_, append-assoc, nil≢cons, head-eq-of-cons-eq, tail-eq-of-cons-eq}
-use Rattle.laws.specs.Lists.{All, any}
-use Rattle.laws.proofs.Bools.{by-test, or-left, or-right, or-either}
-use Rattle.laws.proofs.Lists.{All-left, any-append}
+use mathlib.Core.List.{List, [], _∷_, _++_, append-assoc}
+use Rattle.laws.specs.Lists.{All}
+use Rattle.laws.proofs.Bools.{by-test}
+use Rattle.laws.proofs.Lists.{All-left}
 use Rattle.reader.specs.Lines.{isLyric}
 use Rattle.reader.specs.Steps.{Row}
 use Rattle.blocks.specs.Frame.{Reader, Music, Sung}

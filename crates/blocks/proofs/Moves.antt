@@ -1,13 +1,12 @@
 -- THE WORD "MOVED": it is a rearrangement, and just what exchanges of neighbours of different voices lead to. For every reader. Assumes nothing.
 use Prim.Native.Nat.{ℕ}
 use mathlib.Core.Path.{_≡_, refl, sym, ap, subst, _∙_}
-use mathlib.Core.Logic.{_⊎_, inl, inr, ⊎-elim}
-use mathlib.Core.Bool.{Bool, true, false, cond, true≢false, false≢true}
-use mathlib.Core.List.{List, [], _∷_, _++_, append-assoc, nil≢cons, head-eq-of-cons-eq, tail-eq-of-cons-eq}
+use mathlib.Core.Bool.{Bool, true, false, cond, true≢false}
+use mathlib.Core.List.{List, [], _∷_, _++_, nil≢cons, head-eq-of-cons-eq, tail-eq-of-cons-eq}
 use Rattle.laws.specs.Lists.{All, keep, eqText}
 use Rattle.laws.specs.Orders.{Perm}
 use Rattle.laws.proofs.Bools.{by-test}
-use Rattle.laws.proofs.Lists.{keep-yes, keep-no, eqText-true, eqText-same, eqText-sym}
+use Rattle.laws.proofs.Lists.{keep-yes, keep-no, eqText-true, eqText-same}
 use Rattle.laws.proofs.Orders.{moved-perm}
 use Rattle.reader.specs.Steps.{Row}
 use Rattle.blocks.specs.Frame.{Reader, identOf, Moved}

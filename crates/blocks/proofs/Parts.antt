@@ -1,9 +1,9 @@
 -- AN ACCEPTED TEXT'S READING HAS ONE PART FOR EACH VOICE, so the parts that demand 3 compares are there; and equal parts have equal sections. Assumes nothing.
-use Prim.Native.Nat.{ℕ, zero, suc, _<_, max}
+use Prim.Native.Nat.{ℕ, zero, suc, max}
 use mathlib.Core.Path.{_≡_, refl, sym, ap, _∙_}
 use mathlib.Core.Bool.{true}
 use mathlib.Core.Option.{Option, none, some}
-use mathlib.Core.List.{List, [], _∷_}
+use mathlib.Core.List.{List}
 use native.Mathlib.Omega.{arith}
 use lib.ListN.{length, getElem?}
 use Rattle.laws.specs.Lists.{has, indexOf}

@@ -1,10 +1,10 @@
 -- Texts, rows and blocks: a text is its rows, and rows with a line feed each come back from the text that they make. Assumes nothing.
 use Prim.Native.Nat.{ℕ}
-use mathlib.Core.Path.{_≡_, refl, sym, ap, subst, _∙_}
-use mathlib.Core.Bool.{Bool, true, false, cond, false≢true}
+use mathlib.Core.Path.{_≡_, refl, sym, ap, _∙_}
+use mathlib.Core.Bool.{true, false, false≢true}
 use mathlib.Core.List.{List, [], _∷_, _++_, nil≢cons}
 use lib.Dec.{eqb}
-use Rattle.laws.specs.Lists.{All, cat, isNil}
+use Rattle.laws.specs.Lists.{All, cat}
 use Rattle.laws.proofs.Bools.{by-test}
 use Rattle.laws.proofs.Lists.{isNil-true}
 use Rattle.reader.specs.Text.{push, rows}

@@ -1,5 +1,5 @@
 -- WHAT THE SCAN DOES WITH ONE LINE: all that the frame asks of it, by the line's kind. Assumes nothing.
-use Prim.Native.Nat.{ℕ, zero, suc, _+_, _≤_, _<_, max}
+use Prim.Native.Nat.{ℕ, suc, _+_, _≤_, _<_, max}
 use mathlib.Core.Path.{_≡_, refl, sym, ap, subst, _∙_}
 use mathlib.Core.Bool.{Bool, true, false, cond, _||_, true≢false, false≢true}
 use mathlib.Core.Option.{Option, none, some}
@@ -15,7 +15,7 @@ use Rattle.standard.specs.Fields.{Meter}
 use Rattle.reader.specs.Tokens.{Effect, counts, refuses, setsUnit, setsMeter, passes}
 use Rattle.reader.specs.Lines.{isV, isLyric, Kind, blank, refused, lyric, voice, key, meter, unit, tune, other, music, kindOf}
 use Rattle.reader.specs.Steps.{Row, refuse, on, tag, mine}
-use Rattle.reader.specs.Scan.{Item, born, reset, headed, keyed, metered, sung, played, Env, ScanState, mostNotes, mostLines, mostVoices, noteCount, lastUnit, lastMeter, firstRefusal, further, at, nextLine, withUnnamed, voicesBefore, withVoices, Items, Out, playOn, voiceOn, act, step}
+use Rattle.reader.specs.Scan.{Item, born, reset, headed, keyed, metered, sung, played, ScanState, mostNotes, mostLines, mostVoices, noteCount, lastUnit, lastMeter, firstRefusal, further, at, nextLine, withUnnamed, voicesBefore, withVoices, Items, Out, playOn, voiceOn, act, step}
 use Rattle.reader.specs.Answer.{isMusic}
 use Rattle.blocks.specs.Kinds.{isPlayed, unitAfter, meterAfter}
 use Rattle.blocks.specs.Frame.{Goes}

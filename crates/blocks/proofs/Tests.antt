@@ -1,12 +1,12 @@
 -- THE SUPPOSITIONS OF THE DEMAND AS TESTS: where each passes, a text that is accepted is meant. For the examples, and for whoever must decide of a text. Assumes nothing.
 use Prim.Native.Nat.{ℕ, _<_, _≤_}
-use mathlib.Core.Path.{_≡_, refl, sym, ap, subst, _∙_}
+use mathlib.Core.Path.{_≡_, ap, _∙_}
 use mathlib.Core.Bool.{Bool, true, false, cond, _&&_}
 use mathlib.Core.List.{List, [], _∷_, _++_}
 use native.Mathlib.Omega.{arith}
 use lib.Dec.{eqb, ltb}
 use borrow.Author.Tests.{ltb-true, ltb-false, ne-eqb}
-use Rattle.laws.specs.Lists.{All, all, keep, cat, indexOf, allBelow}
+use Rattle.laws.specs.Lists.{All, all, cat, indexOf, allBelow}
 use Rattle.laws.proofs.Bools.{by-test, and-left, and-right}
 use Rattle.laws.proofs.Lists.{all-All, All-map, keep-none}
 use Rattle.laws.proofs.Finite.{below}

@@ -2,22 +2,21 @@
 -- has a part: proofs/Parts.) Assumes nothing.
 use Prim.Native.Nat.{ℕ}
 use mathlib.Core.Path.{_≡_, refl, sym, ap, subst, _∙_}
-use mathlib.Core.Logic.{_⊎_, inl, inr, ⊎-elim, _↔_}
+use mathlib.Core.Logic.{_⊎_, inl, inr, ⊎-elim}
 use mathlib.Core.Bool.{Bool, true, false, cond, false≢true}
 use mathlib.Core.List.{List, [], _∷_, _++_, append-assoc, append-nil}
 use lib.Dec.{eqb}
 use Rattle.laws.specs.Lists.{All, any, cat, foldl}
 use Rattle.laws.specs.Orders.{Perm}
-use Rattle.laws.proofs.Bools.{by-test, or-either, both-true}
+use Rattle.laws.proofs.Bools.{by-test, both-true}
 use Rattle.laws.proofs.Lists.{All-append, All-left, All-right, All-cat, All-uncat}
 use Rattle.laws.proofs.Orders.{All-perm, perm-nil}
 use Rattle.reader.specs.Text as text
 use Rattle.reader.specs.Text.{White, white, inC2, inE1, inE19A, inE2, inE280, inE281, inE3, inE380, whiteStep, isAllWhite, isBlank, rows, cut, trim, clean}
-use Rattle.reader.specs.Lines.{isK, isLyric}
+use Rattle.reader.specs.Lines.{isK}
 use Rattle.reader.specs.Steps.{Row}
 use Rattle.blocks.specs.Blocks.{endsLF, upToK, afterK, untilV, blocksOf, header, opening, blocks, rebuilt}
-use Rattle.blocks.specs.Frame.{Music, Sung}
-use Rattle.blocks.specs.Demand.{voiceOf, Moved, LyricsBehind}
+use Rattle.blocks.specs.Demand.{Moved, LyricsBehind}
 use Rattle.blocks.proofs.Instance.{reader}
 use Rattle.blocks.proofs.Moves as moves
 use Rattle.blocks.proofs.Lyrics.{Between, Stepwise, behind?, literal-stepwise, stepwise-between, between-literal, literal-test, test-literal}
@@ -176,6 +175,20 @@ no-K (r ∷ rs) h = by-test (isK r) (λ e. absurd (both-true (isK r) e (first e)
     first : isK r ≡ true → isK r ≡ false
     first e = absurd (both-true (any isK (r ∷ rs)) (rw e) h)
 
+-- the rows of the moved text all end in line feeds
+pub moved-closed : (text : List ℕ) → endsLF text ≡ true → (bs : List (List Row)) → Moved (blocks text) bs → All Closed (header text ++ (opening text ++ cat bs))
+moved-closed text lf bs mv =
+    All-append Closed (header text) (opening text ++ cat bs) (All-left Closed (header text) (opening text ++ cat (blocks text)) whole)
+    (All-append Closed (opening text) (cat bs) (All-left Closed (opening text) (cat (blocks text)) tail)
+    (All-cat Closed bs
+    (All-perm (All Closed) (moved-is-perm (blocks text) bs mv) (All-uncat Closed (blocks text) (All-right Closed (opening text) (cat (blocks text)) tail)))))
+  where
+    whole : All Closed (header text ++ (opening text ++ cat (blocks text)))
+    whole = subst (All Closed) (sym (rows-all text)) (rows-closed text lf)
+
+    tail : All Closed (opening text ++ cat (blocks text))
+    tail = All-right Closed (header text) (opening text ++ cat (blocks text)) whole
+
 -- so it is of every text that ends in a line feed and every order of its blocks: the moved blocks are the moved text's own, and what stands before them is as it was
 pub moved-own : (text : List ℕ) → endsLF text ≡ true → (bs : List (List Row)) → Moved (blocks text) bs
     → (header (rebuilt text bs) ≡ header text) × (opening (rebuilt text bs) ≡ opening text) × (blocks (rebuilt text bs) ≡ bs)
@@ -184,25 +197,14 @@ moved-own text lf bs mv = by-test (any isK (rows text)) with-K without-K
     pm : Perm (blocks text) bs
     pm = moved-is-perm (blocks text) bs mv
 
-    all-closed : All Closed (header text ++ (opening text ++ cat (blocks text)))
-    all-closed = subst (All Closed) (sym (rows-all text)) (rows-closed text lf)
-
-    tail-closed : All Closed (opening text ++ cat (blocks text))
-    tail-closed = All-right Closed (header text) (opening text ++ cat (blocks text)) all-closed
-
-    bs-closed : All (All Closed) bs
-    bs-closed = All-perm (All Closed) pm (All-uncat Closed (blocks text) (All-right Closed (opening text) (cat (blocks text)) tail-closed))
-
-    new-closed : All Closed (header text ++ (opening text ++ cat bs))
-    new-closed =
-        All-append Closed (header text) (opening text ++ cat bs) (All-left Closed (header text) (opening text ++ cat (blocks text)) all-closed)
-        (All-append Closed (opening text) (cat bs) (All-left Closed (opening text) (cat (blocks text)) tail-closed) (All-cat Closed bs bs-closed))
+    shut : All Closed (header text ++ (opening text ++ cat bs))
+    shut = moved-closed text lf bs mv
 
     shape : All Shape bs
     shape = All-perm Shape pm (blocks-shape (afterK (rows text)))
 
     with-K : any isK (rows text) ≡ true → (header (rebuilt text bs) ≡ header text) × (opening (rebuilt text bs) ≡ opening text) × (blocks (rebuilt text bs) ≡ bs)
-    with-K k = (header-rebuilt text k bs shape new-closed, opening-rebuilt text k bs shape new-closed, blocks-rebuilt text k bs shape new-closed)
+    with-K k = (header-rebuilt text k bs shape shut, opening-rebuilt text k bs shape shut, blocks-rebuilt text k bs shape shut)
 
     without-K : any isK (rows text) ≡ false → (header (rebuilt text bs) ≡ header text) × (opening (rebuilt text bs) ≡ opening text) × (blocks (rebuilt text bs) ≡ bs)
     without-K k =

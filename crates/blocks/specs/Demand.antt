@@ -1,6 +1,6 @@
 -- DEMAND 3, of `parseAbc`, in its own words and document 01's ("Blocks that change places"): "The order of the voice blocks changes no byte of the reading."
--- Proved in proofs/Demand (`demand-3`). That the words below say what they should: proofs/Moves, Lyrics, Words, Parts; that they can be met: proofs/Example; that
--- none can be left out: proofs/Needed.
+-- Proved in proofs/Demand (`demand-3`). That the words below say what they should: proofs/Words, Again, Sets, Parts; that they can be met: proofs/Example; that none
+-- can be left out: proofs/Needed. For two editions (T-03) `parseAbc`, and with it each definition below, takes the edition; the frame's claim is applied at each.
 use Prim.Native.Nat.{ℕ}
 use mathlib.Core.Path.{_≡_}
 use mathlib.Core.Bool.{Bool, true, false, cond, _&&_, _||_}
@@ -13,7 +13,7 @@ use Rattle.standard.specs.Fields.{Meter}
 use Rattle.reader.specs.Text.{rows, clean}
 use Rattle.reader.specs.Fields as fields
 use Rattle.reader.specs.Lines.{isV, isLyric, kindOf}
-use Rattle.reader.specs.Steps.{Row, Step, refuse, on}
+use Rattle.reader.specs.Steps.{Row, refuse, on}
 use Rattle.reader.specs.Scan.{ScanState, begin, scan, Out}
 use Rattle.reader.specs.Part.{Part}
 use Rattle.reader.specs.Answer.{Verdict, refusal, reading, Outcome, parseAbc}
@@ -93,9 +93,10 @@ partIn (refusal n l) p = none
 partIn (reading ps) p = getElem? ps p
 
 -- WHAT IS SUPPOSED of a text, a reading store of rl bytes and a scratch store of sl. Not supposed, though the words have it: that no block sets "other than by
--- its V: line, the voice, inline included". No line but a V: line does so in an accepted text (`only-V` in proofs/Scan), so the theorem is as strong without.
--- T-13 (blocks that begin with their own L and M) is one more way to meet `quiet`: All (All Quiet) .. ⊎ All Brings .., with Brings of specs/Frame at
--- `parseAbc`; the frame's claim covers it already (`steady-brings` in proofs/Frame), and no other file changes but by an `inl`
+-- its V: line, the voice, inline included". In an accepted text no other line does (`only-V` in proofs/Scan), so it need not be asked; the theorem is stronger by that.
+-- T-13 (blocks that begin with their own L and M) lands here: `quiet` becomes All (All Quiet) (blocks text) ⊎ All Brings (blocks text), with Brings of specs/Frame
+-- spelled out at `kindOf` as Quiet is. The frame's claim covers it already (`steady-brings` in proofs/Frame): proofs/Demand loses an `inl`, proofs/Tests gains one.
+-- Every block must bring both: blocks that neither set nor bring hear what the block before them set
 pub record Meant (text : List ℕ) (rl sl : ℕ) : Type 0 where
   -- "the text is accepted"
   pub accepted : Accepted (parseAbc text rl sl)

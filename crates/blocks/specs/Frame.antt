@@ -158,6 +158,8 @@ module _ (R : Reader) where
     pub apart : (p rl′ sl′ : ℕ) → R .Accepted (answer (alone text p) rl′ sl′) → R .partOf (answer text rl sl) p ≡ R .partOf (answer (alone text p) rl′ sl′) p
     pub numbers : (p : ℕ) → voices (alone text p) ≡ voices text
     pub names : (v : List ℕ) → has v (voices text) ≡ true → blocksAt text (indexOf v (voices text)) ≡ keep (λ b. eqText (identOf b) v) (blocks text)
+    -- each block's voice is known where the first block begins
+    pub owned : All (λ b. has (identOf b) (R .ids (R .env (before text))) ≡ true) (blocks text)
 
   abbrev pub Claim : Type 0
   Claim = (text : List ℕ) (rl sl : ℕ) → Meant text rl sl → Same text rl sl
