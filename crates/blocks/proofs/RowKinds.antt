@@ -8,7 +8,7 @@ use lib.Dec.{eqb, ltb}
 use lib.ListN.{length, drop}
 use borrow.Author.Tests.{eqb-true}
 use Rattle.laws.specs.Lists.{isNil, foldl}
-use Rattle.laws.proofs.Bools.{by-test, and-left, and-right, cond-both}
+use Rattle.laws.proofs.Bools.{by-test, and-left, and-right, cond-both, and-both, same-test, eqb-same}
 use Rattle.reader.specs.Text as text
 use Rattle.reader.specs.Text.{whiteStep, white, isAllWhite, isBlank, cut, trim, clean, hasHigh}
 use Rattle.reader.specs.Fields as fields
@@ -64,6 +64,28 @@ trim-begins a b (x ∷ (y ∷ l)) h =
 clean-begins : (a b : ℕ) (r : List ℕ) → begins a b (clean r) ≡ true → begins a b r ≡ true
 unfolding clean
 clean-begins a b r h = cut-begins a b r (trim-begins a b (cut r) h)
+
+-- "V: lines and K: lines begin with those two characters, a lyric line with `w:`": told by the row's bytes and by the line cut and trimmed alike
+both-begin : (a b : ℕ) (r : List ℕ) → eqb a 37 ≡ false → eqb b 37 ≡ false → whiteStep white a ≡ text.other → whiteStep white b ≡ text.other
+    → begins a b (clean r) ≡ begins a b r
+both-begin a b r pa pb wa wb = same-test (begins a b (clean r)) (begins a b r) (clean-begins a b r) row-first
+  where
+    row-first : begins a b r ≡ true → begins a b (clean r) ≡ true
+    row-first h =
+        let q : (x : List ℕ) × (r ≡ a ∷ (b ∷ x)) = begins-shape a b r h in
+        ap (begins a b) (ap clean (q .1) ∙ clean-two a b (q .0) pa pb wa wb) ∙ and-both (eqb a a) (eqb b b) (eqb-same a) (eqb-same b)
+
+pub clean-V : (r : List ℕ) → isV (clean r) ≡ isV r
+unfolding whiteStep
+clean-V r = both-begin 86 58 r refl refl refl refl
+
+pub clean-K : (r : List ℕ) → isK (clean r) ≡ isK r
+unfolding whiteStep
+clean-K r = both-begin 75 58 r refl refl refl refl
+
+pub clean-w : (r : List ℕ) → isLyric (clean r) ≡ isLyric r
+unfolding whiteStep
+clean-w r = both-begin 119 58 r refl refl refl refl
 
 -- KINDS
 

@@ -95,8 +95,8 @@ moved-swaps = moves.moved-swaps reader
 pub swaps-moved : {old new : List (List Row)} → moves.Swaps reader old new → Moved old new
 swaps-moved = moves.swaps-moved reader
 
--- THE LYRIC CONDITION: as the words have it; "a lyric row with music after it has music before it"; "if some row is music, each lyric row has a music row before it";
--- and a test. All four are one
+-- THE LYRIC CONDITION: as the words have it; or, a lyric row with music after it has music before it; or, if some row is music, each lyric row has a music row before it;
+-- or a test. All four are one
 pub lyrics-step : (rs : List Row) → LyricsBehind rs → Stepwise reader rs
 lyrics-step = literal-stepwise reader music-lyric
 
