@@ -4,7 +4,7 @@ use mathlib.Core.Path.{_≡_, refl, sym, ap, subst, _∙_}
 use mathlib.Core.Bool.{true, cond, false≢true}
 use mathlib.Core.List.{List, [], _∷_, _++_, append-nil}
 use lib.Dec.{eqb}
-use Rattle.laws.specs.Lists.{All, keep, cat, isNil, indexOf}
+use Rattle.laws.specs.Lists.{All, keep, cat, isNil, eqText, has, indexOf}
 use Rattle.laws.proofs.Bools.{by-test}
 use Rattle.laws.proofs.Lists.{isNil-true}
 use Rattle.laws.proofs.Orders.{All-perm, moved-index}
@@ -14,6 +14,7 @@ use Rattle.reader.specs.Steps.{Row}
 use Rattle.reader.specs.Scan.{scan}
 use Rattle.blocks.specs.Blocks.{closed, endsLF, upToK, header, opening, blocks, rebuilt}
 use Rattle.blocks.specs.Demand.{voiceOf, Moved, named, Quiet, stateOf, there, rowsAt, LyricsBehind, Meant}
+use Rattle.blocks.proofs.Lists.{numbered-named}
 use Rattle.blocks.proofs.Rows.{Closed, cat-rows}
 use Rattle.blocks.proofs.Words.{moved-is-perm, moved-own, moved-closed}
 use Rattle.blocks.proofs.Demand.{again, owned}
@@ -41,6 +42,16 @@ still-ends : (text : List ℕ) (rest : List Row) (rs : List Row) → rows text �
 still-ends text rest [] e h c = absurd (false≢true (sym (ap endsLF (sym (cat-rows text) ∙ ap cat e)) ∙ h))
 still-ends text rest (r ∷ rs) e h c = rows-end r (cond (isK r) [] (upToK rs) ++ rest) c
 
+-- A VOICE'S ROWS BY NAME: the lyric condition goes by the numbers of the parts; the rows of the part that v has are those before the first block, if v is then being read,
+-- and those of the blocks that name v
+pub rows-named : (text : List ℕ) (rl sl : ℕ) → Meant text rl sl → (v : List ℕ) → has v (there text .env .voices) ≡ true
+    → rowsAt text (indexOf v (there text .env .voices))
+    ≡ cond (eqb (there text .part) (indexOf v (there text .env .voices))) (opening text) [] ++ cat (keep (λ b. eqText (voiceOf b) v) (blocks text))
+rows-named text rl sl m v hv =
+    ap (λ (l : List (List Row)). cond (eqb (there text .part) (indexOf v (there text .env .voices))) (opening text) [] ++ cat l)
+    (numbered-named voiceOf (there text .env .voices) v hv (blocks text) (owned text rl sl m))
+
+-- THE MOVED TEXT
 module _ (text : List ℕ) (rl sl : ℕ) (m : Meant text rl sl) (bs : List (List Row)) (mv : Moved (blocks text) bs) where
   own : (header (rebuilt text bs) ≡ header text) × (opening (rebuilt text bs) ≡ opening text) × (blocks (rebuilt text bs) ≡ bs)
   own = moved-own text (m .ended) bs mv
