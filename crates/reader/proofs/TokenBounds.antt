@@ -1,0 +1,252 @@
+-- A token lies within its line: it takes no more bytes than there are.
+use Prim.Native.Nat.{ℕ, zero, suc, _+_, _-_, _^_, _≤_, _<_}
+use mathlib.Core.Path.{_≡_, refl}
+use mathlib.Core.Bool.{Bool, true, false, cond, not, _&&_}
+use mathlib.Core.Option.{Option, none, some}
+use mathlib.Core.List.{List, [], _∷_}
+use native.Mathlib.Omega.{arith}
+use lib.Dec.{ltb, eqb}
+use lib.ListN.{length, getD, take, drop, length-drop}
+use lib.Seq.{drop-cons}
+use borrow.Author.Tests.{eqb-true, ltb-true}
+use Rattle.laws.specs.Lists.{span, any, startsWith}
+use Rattle.laws.proofs.Bools.{by-test, and-left, and-right}
+use Rattle.laws.proofs.Spans.{span-le}
+use Rattle.laws.proofs.Lists.{startsWith-length}
+use Rattle.standard.specs.Bytes.{is, isDigit, first}
+use Rattle.standard.specs.Bars.{Symbol, barSymbols, symbolAt}
+use Rattle.standard.specs.Pitches.{Written, isLetter}
+use Rattle.reader.specs.Lengths.{lengthOf, denominator}
+use Rattle.reader.specs.Pieces.{pieces, mark}
+use Rattle.reader.specs.Pitches.{Octave, octaveFrom, octaveOf, Before, signs, accidentalOf, chordOf}
+use Rattle.reader.specs.Token.{Token, Taken}
+use Rattle.reader.specs.Tuplets.{positive, counted, withCount, withNormal, withActual, tupletOf, orSlur}
+use Rattle.reader.specs.Barlines.{barlineAs, barlineOf}
+use Rattle.reader.specs.PassLists.{isPassByte, passList, voltaAs, voltaOf}
+use Rattle.reader.specs.Inline.{isInline, inlineAt}
+use Rattle.reader.specs.Sounds.{behind, chordTaken, chordAt, restAs, noteAs, noteAfter, noteOf}
+use Rattle.reader.specs.Tokens.{closedBy, brokenOf, bracketOf, Class, white, ampersand, quote, more, less, paren, braceOpen, braceClose, bang, plus, bars, bracket, pitched, none-of-these, resting, classOf, tokenAs, tokenOf}
+
+-- a first byte that is not 0 is there
+there : (s : List ℕ) (k : ℕ) → eqb (first s) (suc k) ≡ true → 0 < length s
+there [] k e = let z : _≡_ {A = ℕ} 0 (suc k) = eqb-true 0 (suc k) e in omega arith
+there (c ∷ s) k e = omega arith
+
+-- a length
+pub length-in : (s : List ℕ) → lengthOf s .used ≤ length s
+unfolding lengthOf denominator
+length-in s =
+    let n = span isDigit s in
+    by-test (is "/" (first (drop n s)))
+    (λ e. rw (e, lengthOf) (omega (arith, there (drop n s) 46 e, length-drop n s, span-le isDigit (drop (suc n) s), length-drop (suc n) s)))
+    (λ e. rw (e, lengthOf) (span-le isDigit s))
+
+-- ties and slur ends
+pub behind-in : (s : List ℕ) → behind s .used ≤ length s
+unfolding behind
+behind-in [] = omega arith
+behind-in (c ∷ s) =
+    let h : behind s .used ≤ length s = behind-in s in
+    by-test (is "-" c) (λ e. rw (e, behind) (omega arith)) (λ e. rw (e, behind) (by-test (is ")" c) (λ f. rw (f, behind) (omega arith)) (λ f. rw (f, behind) (omega arith))))
+
+-- octave marks
+pub octave-in : (c : ℕ) (s : List ℕ) → octaveOf c s .used ≤ length s
+unfolding octaveOf octaveFrom
+octave-in c s = let down = span (is ",") s in omega (arith, span-le (is ",") s, span-le (is "'") (drop down s), length-drop down s)
+
+-- a run of signs
+signs-in : (up : Bool) (n : ℕ) (s : List ℕ) → n ≤ length s → signs up n s .used ≤ length s
+unfolding signs
+signs-in up n s h =
+    by-test (eqb n 1 && is "/" (first (drop n s)))
+    (λ e. rw (e, signs) (omega (arith, eqb-true n 1 (and-left (eqb n 1) (is "/" (first (drop n s))) e), there (drop n s) 46 (and-right (eqb n 1) (is "/" (first (drop n s))) e), length-drop n s)))
+    (λ e. rw (e, signs) h)
+
+-- an accidental
+pub accidental-in : (c : ℕ) (s : List ℕ) → accidentalOf (c ∷ s) .used ≤ length (c ∷ s)
+unfolding accidentalOf
+accidental-in c s =
+    by-test (is "^" c)
+    (λ e. rw (e, accidentalOf) (signs-in true (span (is "^") (c ∷ s)) (c ∷ s) (span-le (is "^") (c ∷ s))))
+    (λ e. rw (e, accidentalOf) (by-test (is "_" c)
+    (λ f. rw (f, accidentalOf) (signs-in false (span (is "_") (c ∷ s)) (c ∷ s) (span-le (is "_") (c ∷ s))))
+    (λ f. rw (f, accidentalOf) (by-test (is "=" c) (λ g. rw (g, accidentalOf) (omega arith)) (λ g. rw (g, accidentalOf) (omega arith))))))
+
+-- a note from its letter on
+noteAs-in : (a : Before) (c : ℕ) (s : List ℕ) → noteAs a c s .used ≤ a .used + suc (length s)
+unfolding noteAs
+noteAs-in a c s =
+    let o = octaveOf c s .used in
+    let l = lengthOf (drop o s) .used in
+    by-test (octaveOf c s .fine)
+    (λ e. rw (e, noteAs) (omega (arith, octave-in c s, length-in (drop o s), length-drop o s, behind-in (drop (o + l) s), length-drop (o + l) s)))
+    (λ e. rw (e, noteAs) (omega arith))
+
+-- a note behind its accidental
+noteAfter-in : (a : Before) (r : List ℕ) → noteAfter a r .used ≤ a .used + length r
+unfolding noteAfter
+noteAfter-in a [] = omega arith
+noteAfter-in a (c ∷ r) = by-test (isLetter c) (λ e. rw (e, noteAfter) (noteAs-in a c r)) (λ e. rw (e, noteAfter) (omega arith))
+
+-- a note
+note-in : (c : ℕ) (s : List ℕ) → noteOf (c ∷ s) .used ≤ suc (length s)
+unfolding noteOf
+note-in c s =
+    let a = accidentalOf (c ∷ s) in
+    omega (arith, noteAfter-in a (drop (a .used) (c ∷ s)), length-drop (a .used) (c ∷ s), accidental-in c s)
+
+-- tuplets: n bytes are read, s is left
+unfoldable Within : ℕ → Option Taken → Type 0
+Within m none = Unit {0}
+Within m (some t) = t .used ≤ m
+
+-- a tuplet with its count
+counted-in : (p q n m : ℕ) (o : Option ℕ) → n ≤ m → Within m (counted p q n o)
+unfolding counted Within
+counted-in p q n m none h = tt
+counted-in p q n m (some r) h = h
+
+-- a tuplet up to its count
+count-in : (p q n m : ℕ) (s : List ℕ) → n + length s ≤ m → Within m (withCount p q n s)
+unfolding withCount Within
+count-in p q n m s h =
+    by-test (is ":" (first s))
+    (λ e. rw (e, withCount) (counted-in p q (n + 1 + span isDigit (drop 1 s)) m (positive (2 ^ 64 - 1) (drop 1 s)) (omega (arith, there s 57 e, span-le isDigit (drop 1 s), length-drop 1 s))))
+    (λ e. rw (e, withCount) (omega arith))
+
+-- a tuplet up to its normal
+normal-in : (p n m : ℕ) (s : List ℕ) (o : Option ℕ) → 0 < length s → n + length s ≤ m → Within m (withNormal p n s o)
+unfolding withNormal Within
+normal-in p n m s none k h = tt
+normal-in p n m s (some q) k h =
+    let d = span isDigit (drop 1 s) in
+    count-in p q (n + 1 + d) m (drop (1 + d) s) (omega (arith, span-le isDigit (drop 1 s), length-drop 1 s, length-drop (1 + d) s))
+
+-- a tuplet up to its actual
+actual-in : (n m : ℕ) (s : List ℕ) (o : Option ℕ) → n + length s ≤ m → Within m (withActual n s o)
+unfolding withActual Within
+actual-in n m s none h = tt
+actual-in n m s (some p) h =
+    by-test (ltb p 2)
+    (λ e. rw (e, withActual) tt)
+    (λ e. rw (e, withActual)
+    (by-test (is ":" (first s))
+    (λ f. rw (f, withActual) (normal-in p n m s (positive 255 (drop 1 s)) (there s 57 f) h))
+    (λ f. rw (f, withActual) (omega arith))))
+
+-- a slur start instead
+slur-in : (m : ℕ) (o : Option Taken) → 0 < m → Within m o → orSlur o .used ≤ m
+unfolding orSlur Within
+slur-in m none k h = omega arith
+slur-in m (some t) k h = h
+
+-- a tuplet
+tuplet-in : (s : List ℕ) → orSlur (tupletOf s) .used ≤ suc (length s)
+unfolding tupletOf
+tuplet-in s =
+    let d = span isDigit s in
+    slur-in (suc (length s)) (tupletOf s) (omega arith) (actual-in (1 + d) (suc (length s)) (drop d s) (positive 255 s) (omega (arith, span-le isDigit s, length-drop d s)))
+
+-- a symbol of the table lies within the text that begins with it
+unfoldable Fits : List ℕ → Option Symbol → Type 0
+Fits s none = Unit {0}
+Fits s (some x) = length (x .text) ≤ length s
+
+-- the symbol that is found
+symbol-in : (xs : List Symbol) (s : List ℕ) → Fits s (symbolAt xs s)
+unfolding symbolAt Fits
+symbol-in [] s = tt
+symbol-in (x ∷ xs) s = by-test (startsWith (x .text) s) (λ e. rw (e, symbolAt) (startsWith-length (x .text) s e)) (λ e. rw (e, symbolAt) (symbol-in xs s))
+
+-- a barline by its symbol
+barlineAs-in : (c : ℕ) (s : List ℕ) (o : Option Symbol) → Fits (c ∷ s) o → barlineAs (c ∷ s) o .used ≤ suc (length s)
+unfolding barlineAs Fits
+barlineAs-in c s none h = omega arith
+barlineAs-in c s (some x) h = h
+
+-- a barline
+barline-in : (c : ℕ) (s : List ℕ) → barlineOf (c ∷ s) .used ≤ suc (length s)
+unfolding barlineOf
+barline-in c s = barlineAs-in c s (symbolAt barSymbols (c ∷ s)) (symbol-in barSymbols (c ∷ s))
+
+-- an ending
+volta-in : (n : ℕ) (s : List ℕ) (o : Option (List ℕ)) → n ≤ length s → voltaAs n s o .used ≤ suc (length s)
+unfolding voltaAs
+volta-in n s none h = omega arith
+volta-in n s (some ps) h = omega arith
+
+-- a chord by its pitches
+chord-in : (n : ℕ) (s : List ℕ) (o : Option (List Written)) → chordTaken n s o .used ≤ n + length s
+unfolding chordTaken
+chord-in n s none = omega arith
+chord-in n s (some []) = omega (arith, length-in s)
+chord-in n s (some (p ∷ ps)) = omega (arith, length-in s, behind-in (drop (lengthOf s .used) s), length-drop (lengthOf s .used) s)
+
+-- a chord
+chordAt-in : (s : List ℕ) → chordAt s .used ≤ suc (length s)
+unfolding chordAt
+chordAt-in s =
+    let n = span (λ c. not (is "]" c)) s in
+    by-test (ltb n (length s))
+    (λ e. rw (e, chordAt) (omega (arith, chord-in (2 + n) (drop (suc n) s) (chordOf 0 none s), length-drop (suc n) s, ltb-true n (length s) e)))
+    (λ e. rw (e, chordAt) (omega (arith, chord-in (1 + n) (drop (suc n) s) (chordOf 0 none s), length-drop (suc n) s, span-le (λ c. not (is "]" c)) s)))
+
+-- an inline field has its `]`
+inline-in : (s : List ℕ) → isInline s ≡ true → ltb (span (λ c. not (is "]" c)) s) (length s) ≡ true
+unfolding isInline
+inline-in s e =
+    let n = span (λ c. not (is "]" c)) s in
+    and-left (ltb n (length s)) (not (is "\"" (first s))) (and-left (ltb n (length s) && not (is "\"" (first s))) (any (is ":") (take n s)) e)
+
+-- what a `[` begins
+bracket-in : (s : List ℕ) → bracketOf s .used ≤ suc (length s)
+unfolding bracketOf voltaOf inlineAt
+bracket-in s =
+    let n = span (λ c. not (is "]" c)) s in
+    by-test (isDigit (first s))
+    (λ e. rw (e, bracketOf) (volta-in (span isPassByte s) s (passList 0 (pieces (mark (is ",")) 0 (take (span isPassByte s) s))) (span-le isPassByte s)))
+    (λ e. rw (e, bracketOf) (by-test (isInline s)
+    (λ f. rw (f, bracketOf) (omega (arith, ltb-true n (length s) (inline-in s f))))
+    (λ f. rw (f, bracketOf) (chordAt-in s))))
+
+-- a quote or decoration
+closed-in : (p : ℕ → Bool) (t : Token) (s : List ℕ) (other : Taken) → other .used ≤ suc (length s) → closedBy p t s other .used ≤ suc (length s)
+unfolding closedBy
+closed-in p t s other h =
+    let n = span (λ c. not (p c)) s in
+    by-test (ltb n (length s)) (λ e. rw (e, closedBy) (omega (arith, ltb-true n (length s) e))) (λ e. rw (e, closedBy) h)
+
+-- a broken rhythm
+broken-in : (up : Bool) (n : ℕ) (c : ℕ) (s : List ℕ) → n ≤ length s → brokenOf up (suc n) (c ∷ s) .used ≤ suc (length s)
+unfolding brokenOf
+broken-in up n c s h = by-test (ltb 255 (suc n)) (λ e. rw (e, brokenOf) (omega arith)) (λ e. rw (e, brokenOf) (omega arith))
+
+-- a token of any class
+as-in : (k : Class) (c : ℕ) (s : List ℕ) → tokenAs k (c ∷ s) .used ≤ suc (length s)
+unfolding tokenAs restAs
+as-in white c s = omega arith
+as-in ampersand c s = omega arith
+as-in quote c s = closed-in (is "\"") _ s _ (omega arith)
+as-in more c s = broken-in true (span (is ">") s) c s (span-le (is ">") s)
+as-in less c s = broken-in false (span (is "<") s) c s (span-le (is "<") s)
+as-in paren c s = tuplet-in s
+as-in braceOpen c s = omega arith
+as-in braceClose c s = omega arith
+as-in bang c s = closed-in (is "!") _ s _ (omega arith)
+as-in plus c s = closed-in (is "+") _ s _ (omega arith)
+as-in bars c s = barline-in c s
+as-in bracket c s = bracket-in s
+as-in pitched c s = note-in c s
+as-in none-of-these c s = omega arith
+as-in (resting k) c s = omega (arith, length-in s)
+
+-- a token takes at most the bytes that are there
+pub takes-what-is-there : (c : ℕ) (s : List ℕ) → tokenOf (c ∷ s) .used ≤ length (c ∷ s)
+unfolding tokenOf
+takes-what-is-there c s = as-in (classOf c) c s
+
+-- the same at a position of a line
+pub token-within : (s : List ℕ) (i : ℕ) → i < length s → i + tokenOf (drop i s) .used ≤ length s
+token-within s i h =
+    let k : tokenOf (drop i s) .used ≤ length (drop i s) = rw (drop-cons s i 0 h) (takes-what-is-there (getD s i 0) (drop (suc i) s)) in
+    omega (arith, length-drop i s)
