@@ -1,2 +1,3 @@
 pub mod Generic
 pub mod TokenCosts
+pub mod PartCosts
