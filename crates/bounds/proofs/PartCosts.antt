@@ -4,7 +4,7 @@ use mathlib.Core.Path.{_≡_, refl, sym, ap, _∙_}
 use mathlib.Core.Bool.{Bool, true, false, cond, not, _&&_, _||_, false≢true}
 use mathlib.Core.Option.{Option, none, some}
 use mathlib.Core.List.{List, [], _∷_, map, reverse, nil≢cons}
-use native.Mathlib.Nat.{mul-add, mul-suc}
+use native.Mathlib.Nat.{mul-add, mul-suc, not-suc-le-zero}
 use native.Mathlib.Omega.{arith}
 use lib.Dec.{eqb}
 use lib.ListN.{length, getD}
@@ -27,6 +27,7 @@ use Rattle.reader.specs.Scan.{Item, born, reset, headed, keyed, metered, sung, 
 use Rattle.reader.specs.State.{PartState, Note, Measure, Half, Running, withBeam, withVoices, withRight, withMeter, withMark, withVolta, voltaBegins, onOpen, isEmpty, voiceIn, voiceNow, setVoice, setScopes, setPending, newMeasure, newPart, newLine, noScopes}
 use Rattle.reader.specs.Voltas.{starts, endsAt, close, closed}
 use Rattle.reader.specs.Part.{valueIn, halvedNote, brokenNote, onBroken, afterHalf, canBeam, beamed, beamedAgain, onNothing, groupIn, grouped, append, restNote, soundNote, onSound, leftSet, ended, onBarline, hears, onToken, opened, lineBegins, onLine, onLyric, onKey, firstKey, onItem, dropped, inOrder, markedBy, marked, finished, build}
+use Rattle.reader.proofs.LineLaws.{Kept, kept-item, ready-begins, ready-after}
 use Rattle.bounds.specs.Prices.{Prices, Covered, noteCost, voiceCost, measureCost, measuresCost, keptBack, scopesCost, stateCost, markCost, writtenCost, tokenCost, musicBytes}
 use Rattle.bounds.proofs.Generic.{sum-put, sum-reverse, sum-same}
 use Rattle.bounds.proofs.TokenCosts.{line-paid}
@@ -202,6 +203,26 @@ module _ (p : Prices) where
   unfolding scopesCost
   no-scopes = omega arith
 
+  -- BEFORE THE FIRST LINE of a part: the price of the measure that it will open
+  unfoldable pub firstCost : List Measure → ℕ
+  firstCost [] = p .measure
+  firstCost (m ∷ ms) = 0
+
+  open-first : (ms : List Measure) → 0 < length ms → firstCost ms ≡ 0
+  unfolding firstCost
+  open-first [] h = absurd (not-suc-le-zero h)
+  open-first (m ∷ ms) h = refl
+
+  -- a part with its first measure
+  abbrev paidFor : PartState → ℕ
+  paidFor s = stateCost p s + firstCost (s .measures)
+
+  -- a change of the open measure leaves it
+  first-leaves : (f : Measure → Measure) (ms : List Measure) → firstCost (onFirst f ms) ≡ firstCost ms
+  unfolding firstCost
+  first-leaves f [] = refl
+  first-leaves f (m ∷ ms) = refl
+
   module _ (paid : Covered p) where
     -- a measure that opens is paid by the barline and what the notes before it kept back
     opens-cost : (o : Bool) (b : Barline) (t : Meter) (m : Measure) (ms : List Measure) → isEmpty m ≡ false
@@ -247,7 +268,86 @@ module _ (p : Prices) where
     tokens-step (t ∷ ts) s = omega (arith, token-step s t, tokens-step ts (onToken s t))
 
     -- A MUSIC LINE: its bytes pay, but for the part's first measure
-    opened-cost : (t : Meter) (ms : List Measure) (d : ℕ) → openCost ms ≤ p .measure + d → openCost (opened t ms) ≤ p .measure + d
-    unfolding opened measureCost keptBack newMeasure
-    opened-cost t [] d h = omega arith
-    opened-cost t (m ∷ ms) d h = h
+    opened-cost : (t : Meter) (ms : List Measure) → openCost (opened t ms) ≤ openCost ms + firstCost ms
+    unfolding opened measureCost keptBack newMeasure firstCost
+    opened-cost t [] = omega arith
+    opened-cost t (m ∷ ms) = omega arith
+
+    begins-step : (u : ℕ) (t : Meter) (s : PartState) → stateCost p (lineBegins u t s) ≤ stateCost p s + firstCost (s .measures)
+    unfolding lineBegins stateCost
+    begins-step u t s = omega (arith, opened-cost t (s .measures))
+
+    line-step : (u : ℕ) (t : Meter) (l : List ℕ) (s : PartState) → Kept s → paidFor (onLine u t l s) ≤ paidFor s + p .byte * length l
+    unfolding onLine
+    line-step u t l s k =
+        let b = lineBegins u t s in
+        let e = foldl onToken b (tokens 0 l) in
+        omega (arith, begins-step u t s, tokens-step (tokens 0 l) b, line-paid p paid l, open-first (e .measures) (ready-after b (tokens 0 l) (ready-begins u t s (k .voices-kept) (k .scopes-kept)) .is-open))
+
+    -- A K LINE
+    key-step : (header k : Key) (ms : List Measure) (s : PartState) → paidFor (onKey header k ms s) ≤ paidFor s
+    unfolding onKey hears onOpen stateCost
+    key-step header k [] s = omega (arith, no-scopes)
+    key-step header k (m ∷ ms) s = omega (arith, leaves-cost (withMark k) (λ m. refl) (s .measures), first-leaves (withMark k) (s .measures), no-scopes)
+
+    -- ANY ITEM
+    pub item-step : (header : Key) (s : PartState) (i : Item) → Kept s → paidFor (onItem header s i) ≤ paidFor s + p .byte * musicBytes i
+    unfolding onItem onLyric onOpen stateCost musicBytes
+    item-step header s (born b) k = omega arith
+    item-step header s reset k = omega arith
+    item-step header s headed k = omega arith
+    item-step header s (keyed q) k = omega (arith, key-step header q (s .measures) s)
+    item-step header s (metered t) k = omega (arith, leaves-cost (withMeter t) (λ m. refl) (s .measures), first-leaves (withMeter t) (s .measures))
+    item-step header s (sung b t) k = omega arith
+    item-step header s (played u t l) k = line-step u t l s k
+
+    -- any items
+    items-step : (header : Key) (is : List Item) (s : PartState) → Kept s → paidFor (foldl (onItem header) s is) ≤ paidFor s + p .byte * sum musicBytes is
+    items-step header [] s k = omega arith
+    items-step header (i ∷ is) s k =
+        omega (arith, item-step header s i k, items-step header is (onItem header s i) (kept-item header s i k), mul-add (p .byte) (musicBytes i) (sum musicBytes is))
+
+    -- a part while it is read, after any of its items
+    pub reading-cost : (header : Key) (is : List Item) → stateCost p (foldl (onItem header) newPart is) ≤ p .measure + p .byte * sum musicBytes is
+    unfolding newPart stateCost keptBack scopesCost firstCost
+    reading-cost header is = omega (arith, items-step header is newPart (record { scopes-kept = refl; voices-kept = tt }))
+
+  -- THE END OF A PART costs nothing
+  dropped-cost : (ms : List Measure) → measuresCost p (dropped ms) ≤ measuresCost p ms
+  unfolding dropped
+  dropped-cost [] = zero-le
+  dropped-cost (m ∷ []) = omega arith
+  dropped-cost (m ∷ n ∷ ms) = by-test (isEmpty m) (λ e. rw (e, dropped) (omega (arith, dropped-cost (n ∷ ms)))) (λ e. rw (e, dropped) (omega arith))
+
+  order-cost : (m : Measure) → measureCost p (inOrder m) ≡ measureCost p m
+  unfolding inOrder measureCost
+  order-cost m = ap (λ (x : ℕ). p .measure + x) (sum-map reverse (voiceCost p) (m .voices) ∙ sum-same _ _ (λ ns. sum-reverse (noteCost p) ns) (m .voices))
+
+  close-cost : (o : Option (List ℕ)) (ms : List Measure) → measuresCost p (close o ms) ≡ measuresCost p ms
+  unfolding close measureCost
+  close-cost o [] = refl
+  close-cost none (m ∷ ms) =
+      by-test (starts m)
+      (λ e. rw (e, close)
+      (by-test (endsAt m ms) (λ f. rw (f, close) (omega (arith, close-cost none ms))) (λ f. rw (f, close) (omega (arith, close-cost (some (m .passes)) ms)))))
+      (λ e. rw (e, close) (omega (arith, close-cost none ms)))
+  close-cost (some ps) (m ∷ ms) =
+      by-test (endsAt m ms) (λ f. rw (f, close) (omega (arith, close-cost none ms))) (λ f. rw (f, close) (omega (arith, close-cost (some ps) ms)))
+
+  mark-cost : (h : Key) (m : Measure) (k : Option Key) → measureCost p (markedBy h m k) ≡ measureCost p m
+  unfolding markedBy measureCost
+  mark-cost h m none = refl
+  mark-cost h m (some k) = refl
+
+  marked-cost : (h : Key) (ms : List Measure) → measuresCost p (marked h ms) ≡ measuresCost p ms
+  unfolding marked
+  marked-cost h [] = refl
+  marked-cost h (m ∷ ms) = ap (λ (x : ℕ). x + measuresCost p ms) (mark-cost h m (m .key))
+
+  -- THE MEASURES OF A FINISHED PART: its first, and what its lines' bytes pay
+  pub part-cost : Covered p → (header : Key) (is : List Item) → measuresCost p (build header is .measures) ≤ p .measure + p .byte * sum musicBytes is
+  unfolding build finished closed stateCost
+  part-cost paid header is =
+      let s = foldl (onItem header) newPart is in
+      let r = reverse (dropped (s .measures)) in
+      omega (arith, reading-cost paid header is, marked-cost header (close none (map inOrder r)), close-cost none (map inOrder r), sum-map inOrder (measureCost p) r, sum-same (λ m. measureCost p (inOrder m)) (measureCost p) order-cost r, sum-reverse (measureCost p) (dropped (s .measures)), dropped-cost (s .measures))
