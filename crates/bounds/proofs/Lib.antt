@@ -1,3 +1,5 @@
 pub mod Generic
 pub mod TokenCosts
 pub mod PartCosts
+pub mod LyricCosts
+pub mod Counts
