@@ -3,3 +3,4 @@ pub mod TokenCosts
 pub mod PartCosts
 pub mod LyricCosts
 pub mod Counts
+pub mod RowCosts
