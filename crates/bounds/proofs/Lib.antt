@@ -4,3 +4,4 @@ pub mod PartCosts
 pub mod LyricCosts
 pub mod Counts
 pub mod RowCosts
+pub mod ScanCosts
