@@ -5,3 +5,4 @@ pub mod LyricCosts
 pub mod Counts
 pub mod RowCosts
 pub mod ScanCosts
+pub mod Length
