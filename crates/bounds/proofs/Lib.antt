@@ -6,3 +6,4 @@ pub mod Counts
 pub mod RowCosts
 pub mod ScanCosts
 pub mod Length
+pub mod TokenRanges
