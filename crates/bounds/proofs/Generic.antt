@@ -52,10 +52,16 @@ module _ {ℓ} {A : Type ℓ} where
   sum-mul n f [] = omega arith
   sum-mul n f (x ∷ xs) = omega (arith, sum-mul n f xs, mul-add n (f x) (sum f xs))
 
-  -- where the sum is nothing each is
-  pub All-back : (P : A → Type 0) (xs ys : List A) → All P xs → All P ys → All P (reverseAux xs ys)
+  -- what holds of each holds of the list turned around
+  All-back : (P : A → Type 0) (xs ys : List A) → All P xs → All P ys → All P (reverseAux xs ys)
   All-back P [] ys p q = q
   All-back P (x ∷ xs) ys p q = All-back P xs (x ∷ ys) (p .1) (p .0, q)
+
+  -- at any place, where it holds of what stands past the end
+  pub All-here : (P : A → Type 0) (xs : List A) → All P xs → (i : ℕ) (d : A) → P d → P (getD xs i d)
+  All-here P [] p i d q = q
+  All-here P (x ∷ xs) p zero d q = p .0
+  All-here P (x ∷ xs) p (suc i) d q = All-here P xs (p .1) i d q
 
   pub All-reverse : (P : A → Type 0) (xs : List A) → All P xs → All P (reverse xs)
   All-reverse P xs p = All-back P xs [] p tt

@@ -7,3 +7,4 @@ pub mod RowCosts
 pub mod ScanCosts
 pub mod Length
 pub mod TokenRanges
+pub mod PartRanges
