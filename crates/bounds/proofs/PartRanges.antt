@@ -234,3 +234,149 @@ append-state n s f h =
     let v = onFirst (afterHalf (l .half)) (beamed (l .run) g (voiceNow s)) in
     let vf : All NoteFits v = All-onFirst NoteFits _ (half-fits (l .half)) (beamed (l .run) g (voiceNow s)) (beamed-fits (l .run) g (voiceNow s) gf (now-fits s h)) in
     measures-state s (append n s) h (set-voice v s h vf) refl refl (fewer-fits (l .tuplet) (h .tuplet-fits)) (counted-verse (l .overlay) g (s .verses) .0) (counted-verse (l .overlay) g (s .verses) .1)
+
+sound-state : (ws : List Written) (l : Length) (b : Behind) (s : PartState) → All WrittenFits ws → StateFits s → StateFits (onSound ws l b s)
+unfolding onSound soundNote
+sound-state ws l b s f h =
+    let o = s .line .overlay in
+    let sc = getD (s .scopes) o [] in
+    let scf : All PitchFits sc = All-here (All PitchFits) (s .scopes) (h .scopes-fit) o [] tt in
+    append-state _ _
+    (record { value-fits = omega (arith, value-range (s .line .unit) l .0); dots-fit = omega (arith, value-range (s .line .unit) l .1); actual-fits = lit< tt; normal-fits = lit< tt; boundary-fits = lit< tt; pitches-fit = sounds-fit (s .key) sc ws scf f })
+    (record { measures-fit = h .measures-fit; scopes-fit = All-alterAt (All PitchFits) o _ (λ x p. scopes-after-fit sc ws scf f) (s .scopes) (h .scopes-fit); meter-fits = h .meter-fits; tuplet-fits = h .tuplet-fits; verse-fits = h .verse-fits; lines-fit = h .lines-fit })
+
+no-scopes-fit : All (All PitchFits) noScopes
+no-scopes-fit = (tt, (tt, (tt, (tt, tt))))
+
+-- ANY TOKEN
+pub token-state : (s : PartState) (t : Token) → TokenFits t → StateFits s → StateFits (onToken s t)
+unfolding onToken onBarline hears TokenFits RunningFits
+token-state s space f h = record { measures-fit = h .measures-fit; scopes-fit = h .scopes-fit; meter-fits = h .meter-fits; tuplet-fits = h .tuplet-fits; verse-fits = h .verse-fits; lines-fit = h .lines-fit }
+token-state s overlay f h = record { measures-fit = h .measures-fit; scopes-fit = h .scopes-fit; meter-fits = h .meter-fits; tuplet-fits = h .tuplet-fits; verse-fits = h .verse-fits; lines-fit = h .lines-fit }
+token-state s quoted f h = h
+token-state s (broken up n) f h = broken-state up n (voiceNow s) s (now-fits s h) h
+token-state s (tuplet t) f h = record { measures-fit = h .measures-fit; scopes-fit = h .scopes-fit; meter-fits = h .meter-fits; tuplet-fits = f; verse-fits = h .verse-fits; lines-fit = h .lines-fit }
+token-state s slur f h = record { measures-fit = h .measures-fit; scopes-fit = h .scopes-fit; meter-fits = h .meter-fits; tuplet-fits = h .tuplet-fits; verse-fits = h .verse-fits; lines-fit = h .lines-fit }
+token-state s graceOpen f h = record { measures-fit = h .measures-fit; scopes-fit = h .scopes-fit; meter-fits = h .meter-fits; tuplet-fits = h .tuplet-fits; verse-fits = h .verse-fits; lines-fit = h .lines-fit }
+token-state s graceClose f h = record { measures-fit = h .measures-fit; scopes-fit = h .scopes-fit; meter-fits = h .meter-fits; tuplet-fits = h .tuplet-fits; verse-fits = h .verse-fits; lines-fit = h .lines-fit }
+token-state s decoration f h = h
+token-state s (barline b o) f h =
+    record { measures-fit = ended-fit b o (s .line .meter) (s .measures) (h .meter-fits) (h .measures-fit); scopes-fit = no-scopes-fit; meter-fits = h .meter-fits; tuplet-fits = h .tuplet-fits; verse-fits = h .verse-fits; lines-fit = h .lines-fit }
+token-state s (volta ps) f h = open-state (withVolta voltaBegins ps) (volta-measure voltaBegins ps f) s h
+token-state s (unit u) f h = record { measures-fit = h .measures-fit; scopes-fit = h .scopes-fit; meter-fits = h .meter-fits; tuplet-fits = h .tuplet-fits; verse-fits = h .verse-fits; lines-fit = h .lines-fit }
+token-state s (meter t) f h =
+    open-state (withMeter t) (meter-measure t f) _
+    (record { measures-fit = h .measures-fit; scopes-fit = h .scopes-fit; meter-fits = f; tuplet-fits = h .tuplet-fits; verse-fits = h .verse-fits; lines-fit = h .lines-fit })
+token-state s (key k) f h =
+    open-state (withMark k) (mark-measure k) _
+    (record { measures-fit = h .measures-fit; scopes-fit = no-scopes-fit; meter-fits = h .meter-fits; tuplet-fits = h .tuplet-fits; verse-fits = h .verse-fits; lines-fit = h .lines-fit })
+token-state s field f h = h
+token-state s (chord ws l b) f h = sound-state ws l b s f h
+token-state s (rest k l) f h = append-state _ s (rest-fits k (s .line .unit) l) h
+token-state s (note w l b) f h = sound-state (w ∷ []) l b s (f, tt) h
+token-state s nothing f h = nothing-state (voiceNow s) s (now-fits s h) h
+token-state s skipped f h = h
+token-state s (refused n) f h = h
+
+tokens-state : (ts : List Token) (s : PartState) → All TokenFits ts → StateFits s → StateFits (foldl onToken s ts)
+tokens-state [] s f h = h
+tokens-state (t ∷ ts) s f h = tokens-state ts (onToken s t) (f .1) (token-state s t (f .0) h)
+
+-- A MUSIC LINE
+opened-fit : (t : Meter) (ms : List Measure) → MeterFits t → All MeasureFits ms → All MeasureFits (opened t ms)
+unfolding opened
+opened-fit t [] f h = (new-measure t normal f, tt)
+opened-fit t (m ∷ ms) f h = h
+
+line-state : (u : ℕ) (t : Meter) (l : List ℕ) (s : PartState) → MeterFits t → StateFits s → StateFits (onLine u t l s)
+unfolding onLine lineBegins newLine RunningFits
+line-state u t l s f h =
+    tokens-state (tokens 0 l) (lineBegins u t s) (tokens-fit 0 l)
+    (record { measures-fit = opened-fit t (s .measures) f (h .measures-fit); scopes-fit = h .scopes-fit; meter-fits = f; tuplet-fits = tt; verse-fits = lit≤ tt; lines-fit = h .lines-fit })
+
+-- A LYRIC LINE
+next-small : (b : Bool) (v : ℕ) → v ≤ 32 → cond b (nextVerse v) v ≤ 32
+unfolding nextVerse
+next-small true v h = omega arith
+next-small false v h = h
+
+key-state : (header k : Key) (ms : List Measure) (s : PartState) → StateFits s → StateFits (onKey header k ms s)
+unfolding onKey hears
+key-state header k [] s h = record { measures-fit = h .measures-fit; scopes-fit = no-scopes-fit; meter-fits = h .meter-fits; tuplet-fits = h .tuplet-fits; verse-fits = h .verse-fits; lines-fit = h .lines-fit }
+key-state header k (m ∷ ms) s h =
+    open-state (withMark k) (mark-measure k) _
+    (record { measures-fit = h .measures-fit; scopes-fit = no-scopes-fit; meter-fits = h .meter-fits; tuplet-fits = h .tuplet-fits; verse-fits = h .verse-fits; lines-fit = h .lines-fit })
+
+-- ANY ITEM
+pub item-state : (header : Key) (s : PartState) (i : Item) → ItemFits i → StateFits s → StateFits (onItem header s i)
+unfolding onItem onLyric ItemFits
+item-state header s (born b) f h = record { measures-fit = h .measures-fit; scopes-fit = h .scopes-fit; meter-fits = h .meter-fits; tuplet-fits = h .tuplet-fits; verse-fits = h .verse-fits; lines-fit = h .lines-fit }
+item-state header s reset f h = record { measures-fit = h .measures-fit; scopes-fit = h .scopes-fit; meter-fits = h .meter-fits; tuplet-fits = h .tuplet-fits; verse-fits = h .verse-fits; lines-fit = h .lines-fit }
+item-state header s headed f h = record { measures-fit = h .measures-fit; scopes-fit = h .scopes-fit; meter-fits = h .meter-fits; tuplet-fits = h .tuplet-fits; verse-fits = h .verse-fits; lines-fit = h .lines-fit }
+item-state header s (keyed k) f h = key-state header k (s .measures) s h
+item-state header s (metered t) f h = open-state (withMeter t) (meter-measure t f) s h
+item-state header s (sung b t) f h =
+    record { measures-fit = h .measures-fit; scopes-fit = h .scopes-fit; meter-fits = h .meter-fits; tuplet-fits = h .tuplet-fits; verse-fits = next-small b (s .verses .verse) (h .verse-fits); lines-fit = (record { verse-fits = h .verse-fits; text-fits = f }, h .lines-fit) }
+item-state header s (played u t l) f h = line-state u t l s f h
+
+pub items-state : (header : Key) (is : List Item) (s : PartState) → All ItemFits is → StateFits s → StateFits (foldl (onItem header) s is)
+items-state header [] s f h = h
+items-state header (i ∷ is) s f h = items-state header is (onItem header s i) (f .1) (item-state header s i (f .0) h)
+
+-- a part begins so
+pub new-part-fits : StateFits newPart
+unfolding newPart newLine RunningFits
+new-part-fits = record { measures-fit = tt; scopes-fit = no-scopes-fit; meter-fits = (lit< tt, lit< tt); tuplet-fits = tt; verse-fits = lit≤ tt; lines-fit = tt }
+
+-- THE END OF A PART
+dropped-fit : (ms : List Measure) → All MeasureFits ms → All MeasureFits (dropped ms)
+unfolding dropped
+dropped-fit [] h = tt
+dropped-fit (m ∷ []) h = h
+dropped-fit (m ∷ n ∷ ms) h =
+    let k : All MeasureFits (dropped (n ∷ ms)) = dropped-fit (n ∷ ms) (h .1) in
+    by-test (isEmpty m) (λ e. rw (e, dropped) k) (λ e. rw (e, dropped) h)
+
+reversed-fit : (vs : List (List Note)) → All (All NoteFits) vs → All (All NoteFits) (map reverse vs)
+reversed-fit [] h = tt
+reversed-fit (v ∷ vs) h = (All-reverse NoteFits v (h .0), reversed-fit vs (h .1))
+
+order-fit : (ms : List Measure) → All MeasureFits ms → All MeasureFits (map inOrder ms)
+unfolding inOrder
+order-fit [] h = tt
+order-fit (m ∷ ms) h = (record { voices-fit = reversed-fit (m .voices) (h .0 .voices-fit); meter-fits = h .0 .meter-fits; passes-fit = h .0 .passes-fit }, order-fit ms (h .1))
+
+unfoldable SpanFits : Option (List ℕ) → Type 0
+SpanFits none = Unit {0}
+SpanFits (some ps) = PassesFit 0 ps
+
+close-fit : (o : Option (List ℕ)) (ms : List Measure) → SpanFits o → All MeasureFits ms → All MeasureFits (close o ms)
+unfolding close SpanFits
+close-fit o [] f h = tt
+close-fit none (m ∷ ms) f h =
+    let k : All MeasureFits (close none ms) = close-fit none ms tt (h .1) in
+    let l : All MeasureFits (close (some (m .passes)) ms) = close-fit (some (m .passes)) ms (h .0 .passes-fit) (h .1) in
+    by-test (starts m)
+    (λ e. rw (e, close) (by-test (endsAt m ms) (λ g. rw (g, close) (volta-measure _ (m .passes) (h .0 .passes-fit) m (h .0), k)) (λ g. rw (g, close) (h .0, l))))
+    (λ e. rw (e, close) (h .0, k))
+close-fit (some ps) (m ∷ ms) f h =
+    let k : All MeasureFits (close none ms) = close-fit none ms tt (h .1) in
+    let l : All MeasureFits (close (some ps) ms) = close-fit (some ps) ms f (h .1) in
+    by-test (endsAt m ms) (λ g. rw (g, close) (volta-measure _ ps f m (h .0), k)) (λ g. rw (g, close) (h .0, l))
+
+marked-by-fit : (header : Key) (m : Measure) (k : Option Key) → MeasureFits m → MeasureFits (markedBy header m k)
+unfolding markedBy
+marked-by-fit header m none h = mark-measure header m h
+marked-by-fit header m (some k) h = h
+
+marked-fit : (header : Key) (ms : List Measure) → All MeasureFits ms → All MeasureFits (marked header ms)
+unfolding marked
+marked-fit header [] h = tt
+marked-fit header (m ∷ ms) h = (marked-by-fit header m (m .key) (h .0), h .1)
+
+-- the measures of a finished part
+pub finished-fit : (header : Key) (s : PartState) → StateFits s → All MeasureFits (finished header s .measures)
+unfolding finished closed SpanFits
+finished-fit header s h =
+    let r = reverse (dropped (s .measures)) in
+    marked-fit header (close none (map inOrder r)) (close-fit none (map inOrder r) tt (order-fit r (All-reverse MeasureFits (dropped (s .measures)) (dropped-fit (s .measures) (h .measures-fit)))))
