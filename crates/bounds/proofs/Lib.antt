@@ -8,3 +8,4 @@ pub mod ScanCosts
 pub mod Length
 pub mod TokenRanges
 pub mod PartRanges
+pub mod LyricRanges
