@@ -9,3 +9,4 @@ pub mod Length
 pub mod TokenRanges
 pub mod PartRanges
 pub mod LyricRanges
+pub mod ScanRanges
