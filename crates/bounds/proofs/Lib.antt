@@ -10,3 +10,4 @@ pub mod TokenRanges
 pub mod PartRanges
 pub mod LyricRanges
 pub mod ScanRanges
+pub mod RecordBytes
