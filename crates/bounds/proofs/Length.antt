@@ -85,7 +85,7 @@ silent-mine : (q : ℕ) (a : Items) → Silent a → any isMusic (mine q a) ≡ 
 silent-mine q [] s = refl
 silent-mine q (x ∷ a) s = by-test (eqb (x .0) q) (λ e. rw e (rw (s .0) (silent-mine q a (s .1)))) (λ e. rw e (silent-mine q a (s .1)))
 
-silent-parts : (e : Env) (a : Items) (n q : ℕ) → Silent a → sum measureCount (parts e (λ p. mine p a) n q) ≡ 0
+pub silent-parts : (e : Env) (a : Items) (n q : ℕ) → Silent a → sum measureCount (parts e (λ p. mine p a) n q) ≡ 0
 unfolding parts built measureCount emptyPart
 silent-parts e a zero q s = refl
 silent-parts e a (suc n) q s = rw (silent-mine q a s) (omega (arith, silent-parts e a n (suc q) s))

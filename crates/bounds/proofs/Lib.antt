@@ -11,3 +11,4 @@ pub mod PartRanges
 pub mod LyricRanges
 pub mod ScanRanges
 pub mod RecordBytes
+pub mod Reading
