@@ -1,8 +1,10 @@
 pub mod Bools
-pub mod Finite
-pub mod Loops
 pub mod Lists
 pub mod Spans
+pub mod Finite
+pub mod Loops
 pub mod Parts
 pub mod Splices
 pub mod Numbers
+pub mod Rows
+pub mod Orders

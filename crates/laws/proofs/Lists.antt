@@ -1,17 +1,21 @@
 -- Laws of the functions on lists of specs/Lists.antt, and of `map`.
 use Prim.Native.Nat.{ℕ, zero, suc, _+_, _≤_, _<_, zero-le, suc-le-suc}
 use mathlib.Core.Path.{_≡_, refl, sym, ap, ap₂, subst, _∙_}
-use mathlib.Core.Bool.{Bool, true, false, cond, not, _&&_, _||_, true≢false, false≢true}
+use mathlib.Core.Bool.{Bool, true, false, cond, _&&_, _||_, false≢true}
 use mathlib.Core.List.{List, [], _∷_, _++_, map, append-nil, append-assoc}
-use native.Mathlib.Nat.{not-suc-le-zero, le-of-suc-le-suc, suc-inj}
+use native.Mathlib.Nat.{not-suc-le-zero, le-of-suc-le-suc}
 use native.Mathlib.Numerals.{add-one}
 use native.Mathlib.Omega.{arith}
 use lib.Dec.{eqb}
 use lib.ListN.{length, getD, take, drop, set, length-append, drop-of-length-le}
 use lib.Seq.{drop-cons}
-use borrow.Author.Tests.{eqb-true, eq-eqb}
+use borrow.Author.Tests.{eqb-true}
 use Rattle.laws.specs.Lists.{foldl, all, any, All, keep, cat, sum, alterAt, onFirst, isNil, eqText, startsWith, has, indexOf}
-use Rattle.laws.proofs.Bools.{by-test, and-left, and-right, and-both, and-no-left, and-no-right, or-left, or-right, or-no-left, or-no-right, eqb-same, both-true, same-test}
+use Rattle.laws.proofs.Bools.{by-test, and-left, and-right, and-both, or-left, or-right, or-no-left, or-no-right, eqb-same, same-test}
+
+-- what is left from i on: the element there, and what is left from i + 1 on. So a function by recursion on the list goes on in a loop by position
+pub drop-next {ℓ} : {A : Type ℓ} (xs : List A) (i : ℕ) (d : A) → i < length xs → drop i xs ≡ getD xs i d ∷ drop (i + 1) xs
+drop-next xs i d h = rw (add-one i) (drop-cons xs i d h)
 
 -- FOLDS
 module _ {ℓ κ} {A : Type ℓ} {B : Type κ} where
@@ -28,6 +32,14 @@ module _ {ℓ κ} {A : Type ℓ} {B : Type κ} where
   pub foldl-holds {μ} : (P : B → Type μ) (f : B → A → B) → ((b : B) (x : A) → P b → P (f b x)) → (b : B) (xs : List A) → P b → P (foldl f b xs)
   foldl-holds P f h b [] p = p
   foldl-holds P f h b (x ∷ xs) p = foldl-holds P f h (f b x) xs (h b x p)
+
+  -- by position, for a loop: one step
+  pub foldl-at : (f : B → A → B) (b : B) (xs : List A) (i : ℕ) (d : A) → i < length xs → foldl f b (drop i xs) ≡ foldl f (f b (getD xs i d)) (drop (i + 1) xs)
+  foldl-at f b xs i d h = rw (drop-next xs i d h)
+
+  -- past the end the state stays
+  pub foldl-end : (f : B → A → B) (b : B) (xs : List A) (i : ℕ) → length xs ≤ i → foldl f b (drop i xs) ≡ b
+  foldl-end f b xs i h = rw (drop-of-length-le xs h)
 
 -- a fold seen through a map of states, where each step of f is a step of g on what v shows
 pub foldl-view {ℓ κ μ} : {A : Type ℓ} {B : Type κ} {C : Type μ} (v : B → C) (f : B → A → B) (g : C → A → C)
@@ -79,6 +91,14 @@ module _ {ℓ} {A : Type ℓ} (p : A → Bool) where
   all-getD (x ∷ xs) e zero d h = and-left (p x) (all p xs) e
   all-getD (x ∷ xs) e (suc i) d h = all-getD xs (and-right (p x) (all p xs) e) i d (le-of-suc-le-suc h)
 
+  -- by position, for a loop: by the element there, and the rest
+  pub all-at : (xs : List A) (i : ℕ) (d : A) → i < length xs → all p (drop i xs) ≡ (p (getD xs i d) && all p (drop (i + 1) xs))
+  all-at xs i d h = rw (drop-next xs i d h)
+
+  -- past the end each passes
+  pub all-end : (xs : List A) (i : ℕ) → length xs ≤ i → all p (drop i xs) ≡ true
+  all-end xs i h = rw (drop-of-length-le xs h)
+
   -- of two lists, one after the other
   pub all-append : (xs ys : List A) → all p (xs ++ ys) ≡ (all p xs && all p ys)
   all-append [] ys = refl
@@ -100,6 +120,14 @@ module _ {ℓ} {A : Type ℓ} (p : A → Bool) where
   pub All-all : (xs : List A) → All (λ x. p x ≡ true) xs → all p xs ≡ true
   All-all [] h = refl
   All-all (x ∷ xs) h = and-both (p x) (all p xs) (h .0) (All-all xs (h .1))
+
+  -- some element, by position: by the element there, and the rest
+  pub any-at : (xs : List A) (i : ℕ) (d : A) → i < length xs → any p (drop i xs) ≡ (p (getD xs i d) || any p (drop (i + 1) xs))
+  any-at xs i d h = rw (drop-next xs i d h)
+
+  -- past the end none passes
+  pub any-end : (xs : List A) (i : ℕ) → length xs ≤ i → any p (drop i xs) ≡ false
+  any-end xs i h = rw (drop-of-length-le xs h)
 
   -- some element of two lists, one after the other
   pub any-append : (xs ys : List A) → any p (xs ++ ys) ≡ (any p xs || any p ys)
@@ -367,7 +395,7 @@ eqText-length xs ys n = ne-eqText xs ys (λ e. n (ap length e))
 -- the test at a position, for a loop: by the two bytes there, and the rest
 pub eqText-at : (xs ys : List ℕ) (i : ℕ) → i < length xs → i < length ys
     → eqText (drop i xs) (drop i ys) ≡ (eqb (getD xs i 0) (getD ys i 0) && eqText (drop (i + 1) xs) (drop (i + 1) ys))
-eqText-at xs ys i h k = rw (add-one i, drop-cons xs i 0 h, drop-cons ys i 0 k)
+eqText-at xs ys i h k = rw (drop-next xs i 0 h, drop-next ys i 0 k)
 
 -- and at the end
 pub eqText-end : (xs ys : List ℕ) (i : ℕ) → length xs ≤ i → length ys ≤ i → eqText (drop i xs) (drop i ys) ≡ true
@@ -394,7 +422,7 @@ startsWith-length (p ∷ ps) (c ∷ s) e = suc-le-suc (startsWith-length ps s (a
 -- the test at a position, for a loop: by the two bytes there, and the rest
 pub startsWith-at : (p s : List ℕ) (i : ℕ) → i < length p → i < length s
     → startsWith (drop i p) (drop i s) ≡ (eqb (getD p i 0) (getD s i 0) && startsWith (drop (i + 1) p) (drop (i + 1) s))
-startsWith-at p s i h k = rw (add-one i, drop-cons p i 0 h, drop-cons s i 0 k)
+startsWith-at p s i h k = rw (drop-next p i 0 h, drop-next s i 0 k)
 
 -- where the prefix is over it passes
 pub startsWith-end : (p s : List ℕ) (i : ℕ) → length p ≤ i → startsWith (drop i p) (drop i s) ≡ true
@@ -402,7 +430,7 @@ startsWith-end p s i h = rw (drop-of-length-le p h)
 
 -- where the text is over and the prefix is not it fails
 pub startsWith-short : (p s : List ℕ) (i : ℕ) → i < length p → length s ≤ i → startsWith (drop i p) (drop i s) ≡ false
-startsWith-short p s i h k = rw (drop-cons p i 0 h, drop-of-length-le s k)
+startsWith-short p s i h k = rw (drop-next p i 0 h, drop-of-length-le s k)
 
 -- TEXTS IN A LIST
 -- a text of the first list stands in both, one after the other

@@ -4,16 +4,17 @@ use Prim.Native.Nat.{ℕ, zero, suc, _+_, _-_, _≤_, _<_, min}
 use mathlib.Core.Path.{_≡_, refl, sym, ap, _∙_}
 use mathlib.Core.Bool.{Bool, true, false}
 use mathlib.Core.List.{List, [], _∷_, _++_}
-use native.Mathlib.Nat.{zero-add, suc-add, add-zero}
+use native.Mathlib.Nat.{zero-add, suc-add}
 use native.Mathlib.Decide.{decLe}
 use native.Mathlib.Numerals.{add-one}
 use native.Mathlib.Omega.{arith}
 use lib.ListN.{length, take, drop, getD, length-take, length-drop, drop-of-length-le, List·getD-eq-default}
-use lib.Seq.{take-suc, take-add, take-nil, take-all, take-take, drop-cons, drop-drop, getD-take, getD-drop}
+use lib.Seq.{take-suc, take-add, take-nil, take-all, take-take, drop-drop, getD-take, getD-drop}
 use Rattle.laws.specs.Lists.{span}
 use Rattle.laws.specs.Spans.{run, endOf, endIn}
 use Rattle.laws.specs.Bytes.{part, between}
-use Rattle.laws.proofs.Spans.{span-yes, span-no, span-le, span-take, span-stops}
+use Rattle.laws.proofs.Lists.{drop-next}
+use Rattle.laws.proofs.Spans.{span-yes, span-no, span-take, span-stops}
 
 -- what is taken of what is left is what is left of what is taken
 pub take-drop {ℓ} : {A : Type ℓ} (a n : ℕ) (l : List A) → take n (drop a l) ≡ drop a (take (a + n) l)
@@ -69,7 +70,7 @@ part-rest s at n h = take-all n (drop at s) (rw length-drop (omega arith))
 -- its first byte, and the others
 pub part-cons : (s : List ℕ) (at n : ℕ) → at < length s → part s at (n + 1) ≡ getD s at 0 ∷ part s (at + 1) n
 unfolding part
-part-cons s at n h = rw (add-one n, add-one at, drop-cons s at 0 h)
+part-cons s at n h = rw (add-one n, drop-next s at 0 h)
 
 -- its last byte, and the others
 pub part-suc : (s : List ℕ) (at n : ℕ) → at + n < length s → part s at (n + 1) ≡ part s at n ++ (getD s (at + n) 0 ∷ [])

@@ -3,15 +3,15 @@ use Prim.Native.Nat.{ℕ, zero, suc, _+_, _-_, _≤_, _<_, min, zero-le, suc-le-
 use mathlib.Core.Path.{_≡_, refl, sym, ap, _∙_}
 use mathlib.Core.Bool.{Bool, true, false, false≢true}
 use mathlib.Core.List.{List, [], _∷_, _++_}
-use native.Mathlib.Nat.{not-suc-le-zero, le-of-suc-le-suc, add-zero}
+use native.Mathlib.Nat.{not-suc-le-zero, le-of-suc-le-suc}
 use native.Mathlib.Decide.{decLt}
-use native.Mathlib.Numerals.{add-one}
 use native.Mathlib.Omega.{arith}
 use lib.ListN.{length, getD, take, drop, length-take, length-drop, drop-of-length-le, List·getD-eq-default}
-use lib.Seq.{drop-cons, getD-drop}
+use lib.Seq.{getD-drop}
 use Rattle.laws.specs.Lists.{all, span}
 use Rattle.laws.specs.Spans.{run, endOf}
 use Rattle.laws.proofs.Bools.{by-test, and-both, and-left, and-right}
+use Rattle.laws.proofs.Lists.{drop-next}
 
 module _ {ℓ} {A : Type ℓ} (p : A → Bool) where
   -- one more where the first passes
@@ -106,11 +106,11 @@ module _ {ℓ} {A : Type ℓ} (p : A → Bool) where
   module _ (s : List A) (i : ℕ) where
     -- the element at i passes: one more than from i + 1 on
     pub span-more : (d : A) → i < length s → p (getD s i d) ≡ true → span p (drop i s) ≡ suc (span p (drop (i + 1) s))
-    span-more d h e = rw (add-one i, drop-cons s i d h) (span-yes (getD s i d) (drop (suc i) s) e)
+    span-more d h e = rw (drop-next s i d h) (span-yes (getD s i d) (drop (i + 1) s) e)
 
     -- it fails: none
     pub span-stop : (d : A) → i < length s → p (getD s i d) ≡ false → span p (drop i s) ≡ 0
-    span-stop d h e = rw (drop-cons s i d h) (span-no (getD s i d) (drop (suc i) s) e)
+    span-stop d h e = rw (drop-next s i d h) (span-no (getD s i d) (drop (i + 1) s) e)
 
     -- past the end: none
     pub span-end : length s ≤ i → span p (drop i s) ≡ 0
@@ -148,11 +148,11 @@ module _ {ℓ} {A : Type ℓ} (p : A → Bool) where
 
     -- the elements from i on: one, and those from i + 1 on
     pub run-more : (d : A) → i < length s → p (getD s i d) ≡ true → run p (drop i s) ≡ getD s i d ∷ run p (drop (i + 1) s)
-    run-more d h e = rw (add-one i, drop-cons s i d h) (run-yes (getD s i d) (drop (suc i) s) e)
+    run-more d h e = rw (drop-next s i d h) (run-yes (getD s i d) (drop (i + 1) s) e)
 
     -- none
     pub run-stop : (d : A) → i < length s → p (getD s i d) ≡ false → run p (drop i s) ≡ []
-    run-stop d h e = rw (drop-cons s i d h) (run-no (getD s i d) (drop (suc i) s) e)
+    run-stop d h e = rw (drop-next s i d h) (run-no (getD s i d) (drop (i + 1) s) e)
 
     -- none past the end
     pub run-end : length s ≤ i → run p (drop i s) ≡ []

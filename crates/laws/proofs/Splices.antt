@@ -2,10 +2,10 @@
 use Prim.Native.Nat.{ℕ, zero, suc, _+_, _-_, _≤_, _<_}
 use mathlib.Core.Path.{_≡_, refl, sym, ap, _∙_}
 use mathlib.Core.List.{List, [], _∷_, _++_, append-nil}
-use native.Mathlib.Nat.{zero-add, suc-add, add-zero, add-suc, le-of-suc-le-suc, not-suc-le-zero, sub-self}
+use native.Mathlib.Nat.{zero-add, suc-add, add-zero, le-of-suc-le-suc, not-suc-le-zero, sub-self}
 use native.Mathlib.Omega.{arith}
-use lib.ListN.{length, take, drop, getD, set, length-take, length-replicate, getD-replicate, replicate-append-replicate, drop-of-length-le, take-append-drop}
-use lib.Seq.{take-nil, drop-at, take-append-seam, getD-drop, sets}
+use lib.ListN.{length, take, drop, getD, set, length-take, length-replicate, replicate-append-replicate, drop-of-length-le, take-append-drop}
+use lib.Seq.{drop-at, take-append-seam, sets}
 use Rattle.laws.specs.Bytes.{part, over, splice, zeros}
 use Rattle.laws.proofs.Parts.{take-drop, length-part, getD-part, part-none, part-suc}
 
@@ -180,8 +180,9 @@ unfolding part
 part-around s b n k bs = ap (take n) (drop-splice b s k bs) ∙ take-splice-in n (drop b s) k bs
 
 -- A BYTE AFTER A WRITE
-byte-part : (s : List ℕ) (k : ℕ) → getD s k 0 ≡ getD (part s k 1) 0 0
-byte-part s k = ap (λ (j : ℕ). getD s j 0) (sym (add-zero k)) ∙ sym (getD-part s k 1 0 (omega arith))
+-- a byte is the one in its own part
+pub byte-own : (s : List ℕ) (k : ℕ) → getD s k 0 ≡ getD (part s k 1) 0 0
+byte-own s k = ap (λ (j : ℕ). getD s j 0) (sym (add-zero k)) ∙ sym (getD-part s k 1 0 (omega arith))
 
 -- one that was written
 pub byte-same : (s : List ℕ) (at : ℕ) (bs : List ℕ) (k : ℕ) → at + length bs ≤ length s → k < length bs → getD (splice s at bs) (at + k) 0 ≡ getD bs k 0
@@ -190,11 +191,11 @@ byte-same s at bs k h l = sym (getD-part (splice s at bs) at (length bs) k l) �
 -- one before it
 pub byte-below : (s : List ℕ) (at : ℕ) (bs : List ℕ) (k : ℕ) → k < at → getD (splice s at bs) k 0 ≡ getD s k 0
 byte-below s at bs k h =
-    byte-part (splice s at bs) k ∙ ap (λ (l : List ℕ). getD l 0 0) (part-below s at bs k 1 (omega arith)) ∙ sym (byte-part s k)
+    byte-own (splice s at bs) k ∙ ap (λ (l : List ℕ). getD l 0 0) (part-below s at bs k 1 (omega arith)) ∙ sym (byte-own s k)
 
 -- one past it
 pub byte-above : (s : List ℕ) (at : ℕ) (bs : List ℕ) (k : ℕ) → at + length bs ≤ k → getD (splice s at bs) k 0 ≡ getD s k 0
-byte-above s at bs k h = byte-part (splice s at bs) k ∙ ap (λ (l : List ℕ). getD l 0 0) (part-above s at bs k 1 h) ∙ sym (byte-part s k)
+byte-above s at bs k h = byte-own (splice s at bs) k ∙ ap (λ (l : List ℕ). getD l 0 0) (part-above s at bs k 1 h) ∙ sym (byte-own s k)
 
 -- ZEROS
 -- n zeros are n

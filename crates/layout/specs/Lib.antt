@@ -1,0 +1,4 @@
+pub mod Log
+pub mod Ends
+pub mod Sections
+pub mod All

@@ -1,0 +1,123 @@
+"""bundle on a small crate; what dev takes from the prover's output; what vectors writes."""
+import os
+import subprocess
+import sys
+import tempfile
+import unittest
+
+from support import TOOLS, load
+from common import short
+
+bundle, dev, vectors, places = load('bundle'), load('dev'), load('vectors'), load('places')
+
+OUTPUT = '''rt: scan proved (unchanged since it was last proved)
+crates/a/proofs/f/Proof.antt:3:5: goal ? in `returns`
+    c : lts.Then1
+  ⊢ Prim.Native.Nat._+_ (c .before .before .before .x) 1
+    (computed from:
+      something long)
+note: what antt said
+  more of it
+help: write crates/a/proofs/g/Proof.antt with these lines
+    use a.B
+
+    pub g-spec : ℕ
+help: write crates/a/proofs/h/Proof.antt with these lines
+    use a.C
+logic somewhere: libraries=16
+fn a::f: no proof
+logic=not-proved
+'''
+
+
+class Bundle(unittest.TestCase):
+    def crate(self, folder):
+        specs = os.path.join(folder, 'small', 'specs')
+        os.makedirs(specs)
+        for name, text in [('Lib', 'pub mod One\npub mod Two\n'),
+                           ('One', 'unfoldable pub first : ℕ\nfirst = 0\n\npub hidden : ℕ\nhidden = 1\n'),
+                           ('Two', 'unfoldable pub first : ℕ\nfirst = 2\n\nunfoldable pub second : ℕ\nsecond = 3\n')]:
+            with open(os.path.join(specs, name + '.antt'), 'w') as file:
+                file.write(text)
+        return os.path.join(folder, 'small')
+
+    def test_written(self):
+        with tempfile.TemporaryDirectory() as folder:
+            crate = self.crate(folder)
+            for _ in range(2):
+                run = subprocess.run([sys.executable, os.path.join(TOOLS, 'bundle'), crate], stdout=subprocess.PIPE, text=True)
+                self.assertEqual((run.returncode, run.stdout), (0, '3 definitions\n'))
+            with open(crate + '/specs/All.antt') as file:
+                self.assertEqual(file.read(), bundle.HEAD + '''use Prim.Native.Nat.{ℕ}
+use Rattle.small.specs.One.{first}
+use Rattle.small.specs.Two.{first as Two-first, second}
+
+unfoldable pub all : ℕ
+unfolding first Two-first second
+all = 0
+''')
+            with open(crate + '/specs/Lib.antt') as file:
+                self.assertEqual(file.read(), 'pub mod One\npub mod Two\npub mod All\n')
+
+
+class Dev(unittest.TestCase):
+    def test_offers(self):
+        self.assertEqual(dev.offers(OUTPUT), [('crates/a/proofs/g/Proof.antt', 'use a.B\n\npub g-spec : ℕ\n'),
+                                              ('crates/a/proofs/h/Proof.antt', 'use a.C\n')])
+
+    def test_reports(self):
+        found = [[line for line in report if line] for report in dev.reports(OUTPUT)]
+        self.assertEqual([report[0] for report in found],
+                         ['rt: scan proved (unchanged since it was last proved)', 'crates/a/proofs/f/Proof.antt:3:5: goal ? in `returns`',
+                          'fn a::f: no proof', 'logic=not-proved'])
+        self.assertEqual(found[1][1:], ['    c : lts.Then1', '  ⊢ Prim.Native.Nat._+_ (c .before .before .before .x) 1'])
+
+    def test_short(self):
+        self.assertEqual(short('⊢ Prim.Native.Nat._+_ (c .before .before .before .x) 1', 99), '⊢ _+_ (c .before×3 .x) 1')
+        self.assertEqual(short('abcdef', 3), 'abc ...')
+
+
+class Vectors(unittest.TestCase):
+    def test_wanted(self):
+        self.assertEqual(vectors.wanted('reading 0100ff'), (3, [1, 1, 0, 255]))
+        self.assertEqual(vectors.wanted('refused 14 2'), (0, [0, 14, 2]))
+        self.assertIsNone(vectors.wanted('outside 00'))
+        self.assertIsNone(vectors.wanted('panic'))
+
+    def test_theorem(self):
+        self.assertEqual(vectors.theorem('v0-1', b'A\n', 3, [1, 0]),
+                         '\nv0-1 : answered (65 ∷ 10 ∷ []) 3 8256 ≡ 1 ∷ 0 ∷ []\nunfolding all\nv0-1 = refl\n')
+
+
+class Places(unittest.TestCase):
+    TEXT = '''      pub record Entry : Type 0 where
+        pub args : Args
+        pub pre : Pre
+      pub record After-byte-at : Type 0 where
+        pub byte-at : Told
+        pub before : Entry
+      Need-returns = (c : After-byte-at) → T
+'''
+
+    def test_places(self):
+        self.assertEqual(places.places(self.TEXT), ['returns  (c : tie.After-byte-at)', '    c .byte-at  {result, ensures, last, kept}',
+                                                    '    c .before .args', '    c .before .pre'])
+        self.assertEqual(places.places(self.TEXT, 'other'), [])
+
+
+class Help(unittest.TestCase):
+    def test_each_tool_says_what_it_does(self):
+        for name in ('answers', 'bundle', 'dev', 'eval', 'places', 'reference', 'reference-tests', 'vectors'):
+            run = subprocess.run([os.path.join(TOOLS, name), '--help'], stdout=subprocess.PIPE, text=True)
+            self.assertEqual(run.returncode, 0, name)
+            self.assertGreater(len(run.stdout.split('\n')), 3, name)
+
+    def test_an_absent_reference_source_is_said(self):
+        run = subprocess.run([os.path.join(TOOLS, 'reference-tests')], stdout=subprocess.PIPE, stderr=subprocess.PIPE, text=True,
+                             env=dict(os.environ, ACORDE_SRC='no/such/folder'))
+        self.assertEqual(run.returncode, 2)
+        self.assertIn('Set ACORDE_SRC', run.stderr)
+
+
+if __name__ == '__main__':
+    unittest.main()
