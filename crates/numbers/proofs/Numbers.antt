@@ -132,6 +132,20 @@ unfolding digits
 digits-other top [] h = refl
 digits-other top (c ∷ s) h = rw (h, digits)
 
+-- what `read_number` answers: the standard's number of the digits at a position, and where they end
+module _ (top : ℕ) (line : List ℕ) (at : ℕ) (r : Read) (e : r ≡ numberAt top line at) where
+  pub read-option : option (r .digits) ≡ digits top (run isDigit (drop at line))
+  unfolding numberAt
+  read-option = rw e (option-run top (drop at line))
+
+  pub read-next : r .next ≡ at + span isDigit (drop at line)
+  unfolding numberAt
+  read-next = rw e
+
+  pub read-le : (v : ℕ) → r .digits ≡ Value v → v ≤ top
+  unfolding numberAt
+  read-le v x = value-le top (run isDigit (drop at line)) v (rw e at x)
+
 -- A WHOLE TEXT
 module _ (top : ℕ) (s : List ℕ) (r : Read) (e : r ≡ numberAt top s 0) where
   -- the digits end before the text does
