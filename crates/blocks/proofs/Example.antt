@@ -1,0 +1,204 @@
+-- THE DEMAND AT WORK on two texts, through the whole reader: nothing that it asks is beyond reach. The suppositions are computed, both halves are the theorem's.
+use Prim.Native.Nat.{ℕ}
+use mathlib.Core.Path.{_≡_, refl, sym, ap, subst, _∙_}
+use mathlib.Core.Logic.{⊎-elim}
+use mathlib.Core.Bool.{true, false, false≢true}
+use mathlib.Core.Option.{Option, none, some}
+use mathlib.Core.List.{List, [], _∷_, map}
+use Rattle.laws.specs.Lists.{has}
+use Rattle.standard.specs.Bytes.{ascii}
+use Rattle.reader.specs.Text.{rows}
+use Rattle.reader.specs.Steps.{Row, refuse, on, mine}
+use Rattle.reader.specs.Scan.{Item, born, reset, sung, Out, scan}
+use Rattle.reader.specs.Part.{Part, emptyPart}
+use Rattle.reader.specs.Tally.{Counts, countsOf}
+use Rattle.reader.specs.Answer.{parseAbc}
+use Rattle.reader.specs.All.{all}
+use Rattle.blocks.specs.Blocks.{blocks, rebuilt}
+use Rattle.blocks.specs.Frame.{Sung}
+use Rattle.blocks.specs.Demand.{Accepted, partIn, alone, only, rowsAt, voices, Moved, Meant, partOf}
+use Rattle.blocks.proofs.Instance.{reader}
+use Rattle.blocks.proofs.Moves.{Swaps, swap, later}
+use Rattle.blocks.proofs.Words.{swaps-moved}
+use Rattle.blocks.proofs.Tests.{meant-test}
+use Rattle.blocks.proofs.Demand.{demand-3, by-name}
+
+-- the two halves, for a text whose blocks and whose other texts are computed
+pub exchange : (t : List ℕ) (rl sl : ℕ) → Meant t rl sl → (old new : List (List Row)) → blocks t ≡ old → Swaps reader old new → (t′ : List ℕ) → rebuilt t new ≡ t′
+    → parseAbc t′ rl sl ≡ parseAbc t rl sl
+exchange t rl sl m old new b s t′ e =
+    ap (λ (x : List ℕ). parseAbc x rl sl) (sym e) ∙ demand-3 t rl sl m .moved new (subst (λ (l : List (List Row)). Moved l new) (sym b) (swaps-moved s))
+
+pub lone : (t : List ℕ) (rl sl : ℕ) → Meant t rl sl → (p : ℕ) (t′ : List ℕ) → alone t p ≡ t′ → (rl′ sl′ : ℕ) → Accepted (parseAbc t′ rl′ sl′)
+    → partIn (parseAbc t rl sl .verdict) p ≡ partIn (parseAbc t′ rl′ sl′ .verdict) p
+lone t rl sl m p t′ e rl′ sl′ =
+    subst (λ (x : List ℕ). Accepted (parseAbc x rl′ sl′) → partIn (parseAbc t rl sl .verdict) p ≡ partIn (parseAbc x rl′ sl′ .verdict) p) e (demand-3 t rl sl m .apart p rl′ sl′)
+
+-- what a part counts in the tally
+abbrev counted : Option Part → Option Counts
+counted none = none
+counted (some x) = some (countsOf x)
+
+-- TWO VOICES WITH LYRICS, and music before the first block, which is voice 2's
+abbrev tune : List ℕ
+tune = ascii "V:1\nV:2\nL:1/8\nM:3/4\nK:G\nz2|\nV:1\nFA|c2|\nw: one two three\nV:2 % low\nGB d>c|[GB]4|]\nw: oh_ oh\nV:1\nA2 B|]\nw: four five\n"
+
+abbrev one : List Row
+one = ascii "V:1\n" ∷ ascii "FA|c2|\n" ∷ ascii "w: one two three\n" ∷ []
+
+abbrev two : List Row
+two = ascii "V:2 % low\n" ∷ ascii "GB d>c|[GB]4|]\n" ∷ ascii "w: oh_ oh\n" ∷ []
+
+abbrev three : List Row
+three = ascii "V:1\n" ∷ ascii "A2 B|]\n" ∷ ascii "w: four five\n" ∷ []
+
+tune-blocks : blocks tune ≡ one ∷ two ∷ three ∷ []
+unfolding all
+tune-blocks = refl
+
+-- with a reading store of 600 bytes and a scratch store of 12,000
+tune-meant : Meant tune 600 12000
+unfolding all
+tune-meant = meant-test 2 tune 600 12000 tt refl refl refl refl refl
+
+-- FIRST HALF: voice 2's block first, or last, and the same answer with the same bytes in both stores
+two-first : Swaps reader (one ∷ two ∷ three ∷ []) (two ∷ one ∷ three ∷ [])
+unfolding all
+two-first = swap refl
+
+two-first-text : rebuilt tune (two ∷ one ∷ three ∷ []) ≡ ascii "V:1\nV:2\nL:1/8\nM:3/4\nK:G\nz2|\nV:2 % low\nGB d>c|[GB]4|]\nw: oh_ oh\nV:1\nFA|c2|\nw: one two three\nV:1\nA2 B|]\nw: four five\n"
+unfolding all
+two-first-text = refl
+
+pub two-first-same :
+    parseAbc (ascii "V:1\nV:2\nL:1/8\nM:3/4\nK:G\nz2|\nV:2 % low\nGB d>c|[GB]4|]\nw: oh_ oh\nV:1\nFA|c2|\nw: one two three\nV:1\nA2 B|]\nw: four five\n") 600 12000
+    ≡ parseAbc tune 600 12000
+two-first-same = exchange tune 600 12000 tune-meant (one ∷ two ∷ three ∷ []) (two ∷ one ∷ three ∷ []) tune-blocks two-first _ two-first-text
+
+two-last : Swaps reader (one ∷ two ∷ three ∷ []) (one ∷ three ∷ two ∷ [])
+unfolding all
+two-last = later (swap refl)
+
+two-last-text : rebuilt tune (one ∷ three ∷ two ∷ []) ≡ ascii "V:1\nV:2\nL:1/8\nM:3/4\nK:G\nz2|\nV:1\nFA|c2|\nw: one two three\nV:1\nA2 B|]\nw: four five\nV:2 % low\nGB d>c|[GB]4|]\nw: oh_ oh\n"
+unfolding all
+two-last-text = refl
+
+pub two-last-same :
+    parseAbc (ascii "V:1\nV:2\nL:1/8\nM:3/4\nK:G\nz2|\nV:1\nFA|c2|\nw: one two three\nV:1\nA2 B|]\nw: four five\nV:2 % low\nGB d>c|[GB]4|]\nw: oh_ oh\n") 600 12000
+    ≡ parseAbc tune 600 12000
+two-last-same = exchange tune 600 12000 tune-meant (one ∷ two ∷ three ∷ []) (one ∷ three ∷ two ∷ []) tune-blocks two-last _ two-last-text
+
+-- SECOND HALF: each voice's part as it is read without the other's blocks, with stores of other lengths
+one-text : alone tune 0 ≡ ascii "V:1\nV:2\nL:1/8\nM:3/4\nK:G\nz2|\nV:1\nFA|c2|\nw: one two three\nV:1\nA2 B|]\nw: four five\n"
+unfolding all
+one-text = refl
+
+one-read : Accepted (parseAbc (ascii "V:1\nV:2\nL:1/8\nM:3/4\nK:G\nz2|\nV:1\nFA|c2|\nw: one two three\nV:1\nA2 B|]\nw: four five\n") 500 11000)
+unfolding all
+one-read = tt
+
+pub one-alone :
+    partIn (parseAbc tune 600 12000 .verdict) 0
+    ≡ partIn (parseAbc (ascii "V:1\nV:2\nL:1/8\nM:3/4\nK:G\nz2|\nV:1\nFA|c2|\nw: one two three\nV:1\nA2 B|]\nw: four five\n") 500 11000 .verdict) 0
+one-alone = lone tune 600 12000 tune-meant 0 _ one-text 500 11000 one-read
+
+two-text : alone tune 1 ≡ ascii "V:1\nV:2\nL:1/8\nM:3/4\nK:G\nz2|\nV:2 % low\nGB d>c|[GB]4|]\nw: oh_ oh\n"
+unfolding all
+two-text = refl
+
+two-read : Accepted (parseAbc (ascii "V:1\nV:2\nL:1/8\nM:3/4\nK:G\nz2|\nV:2 % low\nGB d>c|[GB]4|]\nw: oh_ oh\n") 500 11000)
+unfolding all
+two-read = tt
+
+pub two-alone :
+    partIn (parseAbc tune 600 12000 .verdict) 1
+    ≡ partIn (parseAbc (ascii "V:1\nV:2\nL:1/8\nM:3/4\nK:G\nz2|\nV:2 % low\nGB d>c|[GB]4|]\nw: oh_ oh\n") 500 11000 .verdict) 1
+two-alone = lone tune 600 12000 tune-meant 1 _ two-text 500 11000 two-read
+
+-- by name
+two-known : has (ascii "2") (voices tune) ≡ true
+unfolding all
+two-known = refl
+
+two-only : Accepted (parseAbc (only tune (ascii "2")) 500 11000)
+unfolding all
+two-only = tt
+
+pub two-by-name : partOf tune 600 12000 (ascii "2") ≡ partOf (only tune (ascii "2")) 500 11000 (ascii "2")
+two-by-name = by-name tune 600 12000 tune-meant (ascii "2") two-known 500 11000 two-only
+
+-- and what the parts are
+tune-parts : map counted (partIn (parseAbc tune 600 12000 .verdict) 0 ∷ partIn (parseAbc tune 600 12000 .verdict) 1 ∷ [])
+    ≡ some (record { measures = 3; sounded = 5; rests = 0; syllables = 5 }) ∷ some (record { measures = 3; sounded = 5; rests = 1; syllables = 2 }) ∷ []
+unfolding all
+tune-parts = refl
+
+-- A VOICE WITH A LYRIC LINE AND NO MUSIC LINE: the condition, read literally, asks nothing of it
+abbrev pub hymn : List ℕ
+hymn = ascii "V:1\nV:2\nK:\nV:1\nw:\nV:2\nA\n"
+
+abbrev words : List Row
+words = ascii "V:1\n" ∷ ascii "w:\n" ∷ []
+
+abbrev sound : List Row
+sound = ascii "V:2\n" ∷ ascii "A\n" ∷ []
+
+abbrev pub hymn′ : List ℕ
+hymn′ = ascii "V:1\nV:2\nK:\nV:2\nA\nV:1\nw:\n"
+
+hymn-blocks : blocks hymn ≡ words ∷ sound ∷ []
+unfolding all
+hymn-blocks = refl
+
+pub hymn-meant : Meant hymn 100 10000
+unfolding all
+hymn-meant = meant-test 2 hymn 100 10000 tt refl refl refl refl refl
+
+sound-first : Swaps reader (words ∷ sound ∷ []) (sound ∷ words ∷ [])
+unfolding all
+sound-first = swap refl
+
+hymn-text : rebuilt hymn (sound ∷ words ∷ []) ≡ hymn′
+unfolding all
+hymn-text = refl
+
+pub hymn-same : parseAbc hymn′ 100 10000 ≡ parseAbc hymn 100 10000
+hymn-same = exchange hymn 100 10000 hymn-meant (words ∷ sound ∷ []) (sound ∷ words ∷ []) hymn-blocks sound-first hymn′ hymn-text
+
+sound-text : alone hymn 1 ≡ ascii "V:1\nV:2\nK:\nV:2\nA\n"
+unfolding all
+sound-text = refl
+
+sound-read : Accepted (parseAbc (ascii "V:1\nV:2\nK:\nV:2\nA\n") 90 9900)
+unfolding all
+sound-read = tt
+
+pub sound-alone : partIn (parseAbc hymn 100 10000 .verdict) 1 ≡ partIn (parseAbc (ascii "V:1\nV:2\nK:\nV:2\nA\n") 90 9900 .verdict) 1
+sound-alone = lone hymn 100 10000 hymn-meant 1 _ sound-text 90 9900 sound-read
+
+-- although voice 1's lyric line has no music line before it, so that a condition that asks for one leaves this text out,
+pub hymn-not-sung : Sung reader ⊥ (rowsAt hymn 0) → ⊥
+unfolding all
+hymn-not-sung h = ⊎-elim (λ x. x) (λ x. false≢true x) (h .1 .0 refl)
+
+-- and although its items differ in the flag that says whether the part has a place for verses
+abbrev itemsOf : Out → ℕ → List Item
+itemsOf (refuse n l) p = []
+itemsOf (on s a) p = mine p a
+
+pub hymn-items : itemsOf (scan (rows hymn)) 0 ≡ born true ∷ reset ∷ reset ∷ sung false [] ∷ []
+unfolding all
+hymn-items = refl
+
+pub hymn-items-moved : itemsOf (scan (rows hymn′)) 0 ≡ born true ∷ reset ∷ reset ∷ sung true [] ∷ []
+unfolding all
+hymn-items-moved = refl
+
+-- its part is empty either way
+pub hymn-part : partIn (parseAbc hymn 100 10000 .verdict) 0 ≡ some emptyPart
+unfolding all
+hymn-part = refl
+
+pub hymn-part-moved : partIn (parseAbc hymn′ 100 10000 .verdict) 0 ≡ some emptyPart
+unfolding all
+hymn-part-moved = refl

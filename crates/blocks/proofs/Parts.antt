@@ -1,0 +1,65 @@
+-- AN ACCEPTED TEXT'S READING HAS ONE PART FOR EACH VOICE, so the parts that demand 3 compares are there; and equal parts have equal sections. Assumes nothing.
+use Prim.Native.Nat.{ℕ, zero, suc, max}
+use mathlib.Core.Path.{_≡_, refl, sym, ap, _∙_}
+use mathlib.Core.Bool.{true}
+use mathlib.Core.Option.{Option, none, some}
+use mathlib.Core.List.{List}
+use native.Mathlib.Omega.{arith}
+use lib.ListN.{length, getElem?}
+use Rattle.laws.specs.Lists.{has, indexOf}
+use Rattle.laws.proofs.Lists.{index-lt}
+use Rattle.reader.specs.Text.{rows}
+use Rattle.reader.specs.Steps.{refuse, on, mine}
+use Rattle.reader.specs.Scan.{Item, Env, Out, scan}
+use Rattle.reader.specs.Part.{Part}
+use Rattle.reader.specs.Records.{sections}
+use Rattle.reader.specs.Answer.{Verdict, reading, Outcome, early, refusedWith, parts, finish, scanned, unless, parseAbc}
+use Rattle.blocks.specs.Demand.{Accepted, stateOf, voices, only, partIn, partOf, Meant}
+use Rattle.blocks.proofs.Lists.{getElem?-some}
+use Rattle.blocks.proofs.Demand.{by-name}
+use Rattle.blocks.proofs.End.{Not, early-not, ended-reading}
+
+parts-length : (e : Env) (f : ℕ → List Item) (n q : ℕ) → length (parts e f n q) ≡ n
+unfolding parts
+parts-length e f zero q = refl
+parts-length e f (suc n) q = ap suc (parts-length e f n (suc q))
+
+abbrev Counted : Verdict → List (List ℕ) → Type 0
+Counted v is = (ps : List Part) × (v ≡ reading ps) × (length ps ≡ max 1 (length is))
+
+after-scan : (rl sl : ℕ) (y : Out) → Accepted (scanned rl sl y) → Counted (scanned rl sl y .verdict) (stateOf y .env .voices)
+unfolding scanned finish refusedWith
+after-scan rl sl (refuse n l) h = absurd h
+after-scan rl sl (on s a) h =
+    let ps : List Part = parts (s .env) (λ p. mine p a) (max 1 (length (s .env .voices))) 0 in
+    (ps, ended-reading ps rl sl h, parts-length (s .env) (λ p. mine p a) (max 1 (length (s .env .voices))) 0)
+
+counted : (text : List ℕ) (rl sl : ℕ) (x : Option Outcome) → Not x → Accepted (unless text rl sl x) → Counted (unless text rl sl x .verdict) (voices text)
+unfolding unless
+counted text rl sl (some w) n h = absurd (n h)
+counted text rl sl none n h = after-scan rl sl (scan (rows text)) h
+
+-- as many parts as voices, and one if none is named
+pub parts-count : (text : List ℕ) (rl sl : ℕ) → Accepted (parseAbc text rl sl)
+    → (ps : List Part) × (parseAbc text rl sl .verdict ≡ reading ps) × (length ps ≡ max 1 (length (voices text)))
+unfolding parseAbc
+parts-count text rl sl h = counted text rl sl (early text rl sl) (early-not text rl sl) h
+
+-- the part of each voice is there
+pub part-there : (text : List ℕ) (rl sl : ℕ) → Accepted (parseAbc text rl sl) → (v : List ℕ) → has v (voices text) ≡ true → (x : Part) × (partOf text rl sl v ≡ some x)
+part-there text rl sl h v hv = go (parts-count text rl sl h)
+  where
+    p : ℕ
+    p = indexOf v (voices text)
+
+    go : Counted (parseAbc text rl sl .verdict) (voices text) → (x : Part) × (partOf text rl sl v ≡ some x)
+    go q =
+        let r : (x : Part) × (getElem? (q .0) p ≡ some x) = getElem?-some (q .0) p (omega (arith, q .2, index-lt v (voices text) hv)) in
+        (r .0, ap (λ (w : Verdict). partIn w p) (q .1) ∙ r .1)
+
+-- "every voice's part equals, in all five sections, the one read with all other voices' blocks removed": both are there, and their counts and sections are the same bytes
+pub same-sections : (text : List ℕ) (rl sl : ℕ) → Meant text rl sl → (v : List ℕ) → has v (voices text) ≡ true → (rl′ sl′ : ℕ) → Accepted (parseAbc (only text v) rl′ sl′)
+    → (x : Part) × (y : Part) × (partOf text rl sl v ≡ some x) × (partOf (only text v) rl′ sl′ v ≡ some y) × (sections x ≡ sections y)
+same-sections text rl sl m v hv rl′ sl′ a =
+    let q : (x : Part) × (partOf text rl sl v ≡ some x) = part-there text rl sl (m .accepted) v hv in
+    (q .0, q .0, q .1, sym (by-name text rl sl m v hv rl′ sl′ a) ∙ q .1, refl)

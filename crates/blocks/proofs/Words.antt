@@ -1,0 +1,214 @@
+-- THAT THE WORDS OF THE DEMAND SAY WHAT THEY SHOULD: lines, the moved text's own blocks, the order, the lyric condition. (What sets L or M: proofs/Sets; that each voice
+-- has a part: proofs/Parts.) Assumes nothing.
+use Prim.Native.Nat.{ℕ}
+use mathlib.Core.Path.{_≡_, refl, sym, ap, subst, _∙_}
+use mathlib.Core.Logic.{_⊎_, inl, inr, ⊎-elim}
+use mathlib.Core.Bool.{Bool, true, false, cond, false≢true}
+use mathlib.Core.List.{List, [], _∷_, _++_, append-assoc, append-nil}
+use lib.Dec.{eqb}
+use Rattle.laws.specs.Lists.{All, any, cat, foldl}
+use Rattle.laws.specs.Orders.{Perm}
+use Rattle.laws.proofs.Bools.{by-test, both-true}
+use Rattle.laws.proofs.Lists.{All-append, All-left, All-right, All-cat, All-uncat}
+use Rattle.laws.proofs.Orders.{All-perm, perm-nil}
+use Rattle.reader.specs.Text as text
+use Rattle.reader.specs.Text.{White, white, inC2, inE1, inE19A, inE2, inE280, inE281, inE3, inE380, whiteStep, isAllWhite, isBlank, rows, cut, trim, clean}
+use Rattle.reader.specs.Lines.{isK}
+use Rattle.reader.specs.Steps.{Row}
+use Rattle.blocks.specs.Blocks.{endsLF, upToK, afterK, untilV, blocksOf, header, opening, blocks, rebuilt}
+use Rattle.blocks.specs.Demand.{Moved, LyricsBehind}
+use Rattle.blocks.proofs.Instance.{reader}
+use Rattle.blocks.proofs.Moves as moves
+use Rattle.blocks.proofs.Lyrics.{Between, Stepwise, behind?, literal-stepwise, stepwise-between, between-literal, literal-test, test-literal}
+use Rattle.blocks.proofs.Scan.{music-lyric}
+use Rattle.blocks.proofs.Rows.{rows-cat, rows-closed, rows-all, rebuilt-self, Closed, Plain, Shape, until-plain, blocks-shape}
+
+-- LINES: a row's line feed, and a carriage return before it, do not count: cut and trimmed a row is as its line without them
+white-lf : (q : White) → isAllWhite (whiteStep q 10) ≡ isAllWhite q
+unfolding whiteStep isAllWhite
+white-lf white = refl
+white-lf inC2 = refl
+white-lf inE1 = refl
+white-lf inE19A = refl
+white-lf inE2 = refl
+white-lf inE280 = refl
+white-lf inE281 = refl
+white-lf inE3 = refl
+white-lf inE380 = refl
+white-lf text.other = refl
+
+white-cr : (q : White) → isAllWhite (whiteStep q 13) ≡ isAllWhite q
+unfolding whiteStep isAllWhite
+white-cr white = refl
+white-cr inC2 = refl
+white-cr inE1 = refl
+white-cr inE19A = refl
+white-cr inE2 = refl
+white-cr inE280 = refl
+white-cr inE281 = refl
+white-cr inE3 = refl
+white-cr inE380 = refl
+white-cr text.other = refl
+
+-- a byte c that is white space at any end
+module _ (c : ℕ) (w : (q : White) → isAllWhite (whiteStep q c) ≡ isAllWhite q) (p : eqb c 37 ≡ false) where
+  white-end : (q : White) (l : List ℕ) → isAllWhite (foldl whiteStep q (l ++ (c ∷ []))) ≡ isAllWhite (foldl whiteStep q l)
+  white-end q [] = w q
+  white-end q (x ∷ l) = white-end (whiteStep q x) l
+
+  blank-end : (l : List ℕ) → isBlank (l ++ (c ∷ [])) ≡ isBlank l
+  unfolding isBlank
+  blank-end l = white-end white l
+
+  trim-end : (l : List ℕ) → trim (l ++ (c ∷ [])) ≡ trim l
+  unfolding trim isBlank isAllWhite
+  trim-end [] = ap (λ (b : Bool). cond b [] (c ∷ [])) (w white)
+  trim-end (x ∷ l) = λ i. cond (blank-end (x ∷ l) i) [] (x ∷ trim-end l i)
+
+  cut-end : (l : List ℕ) → (cut (l ++ (c ∷ [])) ≡ cut l) ⊎ (cut (l ++ (c ∷ [])) ≡ cut l ++ (c ∷ []))
+  unfolding cut
+  cut-end [] = inr (ap (λ (b : Bool). cond b [] (c ∷ [])) p)
+  cut-end (x ∷ l) = go (eqb x 37) (cut-end l)
+    where
+      go : (b : Bool) → (cut (l ++ (c ∷ [])) ≡ cut l) ⊎ (cut (l ++ (c ∷ [])) ≡ cut l ++ (c ∷ []))
+          → (cond b [] (x ∷ cut (l ++ (c ∷ []))) ≡ cond b [] (x ∷ cut l)) ⊎ (cond b [] (x ∷ cut (l ++ (c ∷ []))) ≡ cond b [] (x ∷ cut l) ++ (c ∷ []))
+      go true h = inl refl
+      go false h = ⊎-elim (λ e. inl (λ i. x ∷ e i)) (λ e. inr (λ i. x ∷ e i)) h
+
+  clean-end : (l : List ℕ) → clean (l ++ (c ∷ [])) ≡ clean l
+  unfolding clean
+  clean-end l = ⊎-elim (λ e. ap trim e) (λ e. ap trim e ∙ trim-end (cut l)) (cut-end l)
+
+pub clean-lf : (l : List ℕ) → clean (l ++ (10 ∷ [])) ≡ clean l
+clean-lf = clean-end 10 white-lf refl
+
+pub clean-crlf : (l : List ℕ) → clean (l ++ (13 ∷ (10 ∷ []))) ≡ clean l
+clean-crlf l = ap clean (sym (append-assoc l (13 ∷ []) (10 ∷ []))) ∙ clean-lf (l ++ (13 ∷ [])) ∙ clean-end 13 white-cr refl l
+
+-- THE ORDER: what is moved is all there, as often, and nothing else; and it is just what exchanges of neighbours of different voices lead to
+pub moved-is-perm : (old new : List (List Row)) → Moved old new → Perm old new
+moved-is-perm = moves.moved-is-perm reader
+
+pub moved-swaps : (old new : List (List Row)) → Moved old new → moves.Swaps reader old new
+moved-swaps = moves.moved-swaps reader
+
+pub swaps-moved : {old new : List (List Row)} → moves.Swaps reader old new → Moved old new
+swaps-moved = moves.swaps-moved reader
+
+-- THE LYRIC CONDITION: as the words have it; or, a lyric row with music after it has music before it; or, if some row is music, each lyric row has a music row before it;
+-- or a test. All four are one
+pub lyrics-step : (rs : List Row) → LyricsBehind rs → Stepwise reader rs
+lyrics-step = literal-stepwise reader music-lyric
+
+pub lyrics-between : (rs : List Row) → LyricsBehind rs → Between reader rs
+lyrics-between rs h = stepwise-between reader rs (lyrics-step rs h)
+
+pub step-lyrics : (rs : List Row) → Stepwise reader rs → LyricsBehind rs
+step-lyrics rs h = between-literal reader rs (stepwise-between reader rs h)
+
+pub between-lyrics : (rs : List Row) → Between reader rs → LyricsBehind rs
+between-lyrics = between-literal reader
+
+pub lyrics-test : (rs : List Row) → LyricsBehind rs → behind? reader rs ≡ true
+lyrics-test = literal-test reader
+
+pub test-lyrics : (rs : List Row) → behind? reader rs ≡ true → LyricsBehind rs
+test-lyrics = test-literal reader
+
+-- BLOCKS: the moved text has the same rows before its first block, and its blocks are the moved ones
+up-to-again : (rs x : List Row) → any isK rs ≡ true → upToK (upToK rs ++ x) ≡ upToK rs
+up-to-again [] x h = absurd (false≢true h)
+up-to-again (r ∷ rs) x h = by-test (isK r) (λ e. rw e) (λ e. rw e (ap {B = List Row} (λ l. r ∷ l) (up-to-again rs x (rw e at h))))
+
+after-again : (rs x : List Row) → any isK rs ≡ true → afterK (upToK rs ++ x) ≡ x
+after-again [] x h = absurd (false≢true h)
+after-again (r ∷ rs) x h = by-test (isK r) (λ e. rw e) (λ e. rw e (after-again rs x (rw e at h)))
+
+until-app : (m y : List Row) → All Plain m → untilV (m ++ y) ≡ m ++ untilV y
+until-app [] y p = refl
+until-app (r ∷ m) y p = rw (p .0) (ap {B = List Row} (λ l. r ∷ l) (until-app m y (p .1)))
+
+blocks-app : (m y : List Row) → All Plain m → blocksOf (m ++ y) ≡ blocksOf y
+blocks-app [] y p = refl
+blocks-app (r ∷ m) y p = rw (p .0) (blocks-app m y (p .1))
+
+until-cat : (cs : List (List Row)) → All Shape cs → untilV (cat cs) ≡ []
+until-cat [] p = refl
+until-cat ([] ∷ cs) p = absurd (p .0)
+until-cat ((r ∷ rs) ∷ cs) p = rw (p .0 .0)
+
+blocks-cat : (cs : List (List Row)) → All Shape cs → blocksOf (cat cs) ≡ cs
+blocks-cat [] p = refl
+blocks-cat ([] ∷ cs) p = absurd (p .0)
+blocks-cat ((r ∷ rs) ∷ cs) p =
+    ap (λ (b : Bool). cond b ((r ∷ untilV (rs ++ cat cs)) ∷ blocksOf (rs ++ cat cs)) (blocksOf (rs ++ cat cs))) (p .0 .0)
+    ∙ (λ i.
+    (r ∷ (until-app rs (cat cs) (p .0 .1) ∙ ap (λ (l : List Row). rs ++ l) (until-cat cs (p .1)) ∙ append-nil rs) i)
+    ∷ (blocks-app rs (cat cs) (p .0 .1) ∙ blocks-cat cs (p .1)) i)
+
+-- of any text with a K: row whose rows all end in line feeds, and any blocks in that shape
+module _ (text : List ℕ) (hk : any isK (rows text) ≡ true) (cs : List (List Row)) (sh : All Shape cs) (cl : All Closed (header text ++ (opening text ++ cat cs))) where
+  rows-rebuilt : rows (rebuilt text cs) ≡ header text ++ (opening text ++ cat cs)
+  rows-rebuilt = rows-cat (header text ++ (opening text ++ cat cs)) cl
+
+  after-rebuilt : afterK (rows (rebuilt text cs)) ≡ opening text ++ cat cs
+  after-rebuilt = ap afterK rows-rebuilt ∙ after-again (rows text) (opening text ++ cat cs) hk
+
+  pub header-rebuilt : header (rebuilt text cs) ≡ header text
+  header-rebuilt = ap upToK rows-rebuilt ∙ up-to-again (rows text) (opening text ++ cat cs) hk
+
+  pub opening-rebuilt : opening (rebuilt text cs) ≡ opening text
+  opening-rebuilt =
+      ap untilV after-rebuilt
+      ∙ until-app (opening text) (cat cs) (until-plain (afterK (rows text)))
+      ∙ ap (λ (l : List Row). opening text ++ l) (until-cat cs sh)
+      ∙ append-nil (opening text)
+
+  pub blocks-rebuilt : blocks (rebuilt text cs) ≡ cs
+  blocks-rebuilt = ap blocksOf after-rebuilt ∙ blocks-app (opening text) (cat cs) (until-plain (afterK (rows text))) ∙ blocks-cat cs sh
+
+-- a text without a K: row has no block
+no-K : (rs : List Row) → any isK rs ≡ false → afterK rs ≡ []
+no-K [] h = refl
+no-K (r ∷ rs) h = by-test (isK r) (λ e. absurd (both-true (isK r) e (first e))) (λ e. rw e (no-K rs (rw e at h)))
+  where
+    first : isK r ≡ true → isK r ≡ false
+    first e = absurd (both-true (any isK (r ∷ rs)) (rw e) h)
+
+-- the rows of the moved text all end in line feeds
+pub moved-closed : (text : List ℕ) → endsLF text ≡ true → (bs : List (List Row)) → Moved (blocks text) bs → All Closed (header text ++ (opening text ++ cat bs))
+moved-closed text lf bs mv =
+    All-append Closed (header text) (opening text ++ cat bs) (All-left Closed (header text) (opening text ++ cat (blocks text)) whole)
+    (All-append Closed (opening text) (cat bs) (All-left Closed (opening text) (cat (blocks text)) tail)
+    (All-cat Closed bs
+    (All-perm (All Closed) (moved-is-perm (blocks text) bs mv) (All-uncat Closed (blocks text) (All-right Closed (opening text) (cat (blocks text)) tail)))))
+  where
+    whole : All Closed (header text ++ (opening text ++ cat (blocks text)))
+    whole = subst (All Closed) (sym (rows-all text)) (rows-closed text lf)
+
+    tail : All Closed (opening text ++ cat (blocks text))
+    tail = All-right Closed (header text) (opening text ++ cat (blocks text)) whole
+
+-- so it is of every text that ends in a line feed and every order of its blocks: the moved blocks are the moved text's own, and what stands before them is as it was
+pub moved-own : (text : List ℕ) → endsLF text ≡ true → (bs : List (List Row)) → Moved (blocks text) bs
+    → (header (rebuilt text bs) ≡ header text) × (opening (rebuilt text bs) ≡ opening text) × (blocks (rebuilt text bs) ≡ bs)
+moved-own text lf bs mv = by-test (any isK (rows text)) with-K without-K
+  where
+    pm : Perm (blocks text) bs
+    pm = moved-is-perm (blocks text) bs mv
+
+    shut : All Closed (header text ++ (opening text ++ cat bs))
+    shut = moved-closed text lf bs mv
+
+    shape : All Shape bs
+    shape = All-perm Shape pm (blocks-shape (afterK (rows text)))
+
+    with-K : any isK (rows text) ≡ true → (header (rebuilt text bs) ≡ header text) × (opening (rebuilt text bs) ≡ opening text) × (blocks (rebuilt text bs) ≡ bs)
+    with-K k = (header-rebuilt text k bs shape shut, opening-rebuilt text k bs shape shut, blocks-rebuilt text k bs shape shut)
+
+    without-K : any isK (rows text) ≡ false → (header (rebuilt text bs) ≡ header text) × (opening (rebuilt text bs) ≡ opening text) × (blocks (rebuilt text bs) ≡ bs)
+    without-K k =
+        let z : blocks text ≡ [] = ap blocksOf (no-K (rows text) k) in
+        let y : bs ≡ [] = perm-nil (subst (λ (l : List (List Row)). Perm l bs) z pm) in
+        let t : rebuilt text bs ≡ text = ap (rebuilt text) (y ∙ sym z) ∙ rebuilt-self text in
+        (ap header t, ap opening t, ap blocks t ∙ z ∙ sym y)

@@ -1,0 +1,4 @@
+pub mod Blocks
+pub mod Frame
+pub mod Kinds
+pub mod Demand
