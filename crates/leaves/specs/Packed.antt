@@ -1,7 +1,13 @@
 -- How the answers of the leaves are packed into one number of 64 bits.
 use Prim.Native.Nat.{ℕ, _+_, _*_, _^_}
-use mathlib.Core.Bool.{Bool, cond}
+use mathlib.Core.Bool.{Bool, cond, not}
+use mathlib.Core.Option.{none}
+use mathlib.Core.List.{List}
 use lib.Dec.{eqb}
+use lib.ListN.{length, drop}
+use Rattle.laws.specs.Spans.{endIn}
+use Rattle.reader.specs.Pitches.{chordOf}
+use Rattle.pitches.specs.Chords.{closedAt, chordFor}
 use Rattle.lengths.specs.declared.Suffix.{Suffix}
 use Rattle.lengths.specs.declared.Length.{Length}
 use Rattle.lengths.specs.declared.Length.the-variants.{Written, WholeBar}
@@ -18,6 +24,17 @@ use Rattle.pitches.specs.declared.Chord.{Chord}
 use Rattle.pitches.specs.declared.Chord.the-variants as chord
 use Rattle.pitches.specs.declared.NoteChar.{NoteChar}
 use Rattle.runs.specs.declared.Behind.{Behind}
+use Rattle.text.specs.declared.Class.{Class}
+use Rattle.text.specs.declared.Class.the-variants as class
+use Rattle.marks.specs.declared.Barline.{Barline}
+use Rattle.marks.specs.declared.Barline.the-variants as barline
+use Rattle.marks.specs.declared.Bar.{Bar}
+use Rattle.marks.specs.declared.Bar.the-variants as bar
+use Rattle.marks.specs.declared.Tuplet.{Tuplet}
+use Rattle.marks.specs.declared.Tuplet.the-variants as tuplet
+use Rattle.passes.specs.declared.Passes.{Passes}
+use Rattle.passes.specs.declared.Passes.the-variants as passes
+use Rattle.standard.specs.Keys.{Key}
 
 -- two numbers of 32 bits
 abbrev pub pair : ℕ → ℕ → ℕ
@@ -76,15 +93,75 @@ metEnd met.Over = 0
 metEnd met.Out = 0
 metEnd (met.Pitch p n) = n
 
--- a chord: 0 where it is refused, one more than its pitches, and the position after it
+-- a chord: how many pitches it has, 2^64 - 1 where it is refused; and the position after it, 0 there
 abbrev pub chordNumber : Chord → ℕ
-chordNumber (chord.Read k n) = k + 1
-chordNumber chord.Refused = 0
+chordNumber (chord.Read k n) = k
+chordNumber chord.Refused = 18446744073709551615
 
 abbrev pub chordEnd : Chord → ℕ
 chordEnd (chord.Read k n) = n
 chordEnd chord.Refused = 0
 
+-- the chord whose `[` stands before a position
+abbrev pub chordIn : List ℕ → ℕ → Chord
+chordIn line at = chordFor (closedAt line (endIn (λ c. not (eqb c 93)) line at (length line))) (chordOf 0 none (drop at line))
+
 -- a tie and a slur's end behind a note
 abbrev pub behindBytes : Behind → ℕ
 behindBytes b = bytes (flag (b .tie)) (flag (b .slur))
+
+-- a line's class
+abbrev pub classNumber : Class → ℕ
+classNumber class.Blank = 0
+classNumber class.Lyric = 1
+classNumber class.Voice = 2
+classNumber class.Key = 3
+classNumber class.Unit = 4
+classNumber class.Meter = 5
+classNumber class.Tune = 6
+classNumber class.Other = 7
+classNumber class.Music = 8
+
+-- a barline's code ("0 normal, 1 repeat start, 2 repeat end, 3 both, 4 double, 5 final")
+abbrev pub barlineCode : Barline → ℕ
+barlineCode barline.Normal = 0
+barlineCode barline.RepeatStart = 1
+barlineCode barline.RepeatEnd = 2
+barlineCode barline.RepeatBoth = 3
+barlineCode barline.Double = 4
+barlineCode barline.Final = 5
+
+-- a barline: 0 for none, 65536 and both codes for one, the right one first; and the position after it, 0 for none
+abbrev pub barNumber : Bar → ℕ
+barNumber (bar.Read r l n) = 65536 + bytes (barlineCode r) (barlineCode l)
+barNumber bar.Nothing = 0
+
+abbrev pub barEnd : Bar → ℕ
+barEnd (bar.Read r l n) = n
+barEnd bar.Nothing = 0
+
+-- a tuplet: actual and normal, its count, the position after it; 0 for none
+abbrev pub tupletBytes : Tuplet → ℕ
+tupletBytes (tuplet.Read p q r n) = bytes p q
+tupletBytes tuplet.Nothing = 0
+
+abbrev pub tupletCount : Tuplet → ℕ
+tupletCount (tuplet.Read p q r n) = r
+tupletCount tuplet.Nothing = 0
+
+abbrev pub tupletEnd : Tuplet → ℕ
+tupletEnd (tuplet.Read p q r n) = n
+tupletEnd tuplet.Nothing = 0
+
+-- a pass list: its first pass and its bits, the position after it; 0 where it is refused
+abbrev pub passesPair : Passes → ℕ
+passesPair (passes.Read f b n) = pair f b
+passesPair passes.Refused = 0
+
+abbrev pub passesEnd : Passes → ℕ
+passesEnd (passes.Read f b n) = n
+passesEnd passes.Refused = 0
+
+-- a key: its fifths, and whether it is minor
+abbrev pub keyBytes : Key → ℕ
+keyBytes k = bytes (k .fifths) (flag (k .minor))

@@ -10,15 +10,23 @@ ghost use mathlib.Core.Option.{Option, none};
 ghost use lib.Dec.{eqb, ltb, leb};
 ghost use lib.ListN.{length, drop};
 ghost use Rattle.laws.specs.Bytes.{between};
-ghost use Rattle.laws.specs.Spans.{endIn};
-ghost use Rattle.reader.specs.Text.{isUtf8, isBlank};
+ghost use Rattle.laws.specs.Spans.{endIn, endOf};
+ghost use Rattle.standard.specs.Bars.{barSymbols, symbolAt};
+ghost use Rattle.reader.specs.Text.{isUtf8, isBlank, hasHigh};
+ghost use Rattle.reader.specs.Tuplets.{tupletOf};
+ghost use Rattle.reader.specs.PassLists.{isPassByte};
+ghost use Rattle.reader.specs.Keys.{keyOf};
+ghost use Rattle.text.specs.Lines.{LineEnd, CleanEnd, classOf};
+ghost use Rattle.marks.specs.Bars.{barFor};
+ghost use Rattle.marks.specs.Tuplets.{tupletFor};
+ghost use Rattle.passes.specs.Passes.{passesAt, passesFor};
 ghost use Rattle.reader.specs.Pieces.{whiteAt};
 ghost use Rattle.reader.specs.Pitches.{accidentalOf, octaveFrom, chordOf};
 ghost use Rattle.reader.specs.Sounds.{behind};
 ghost use Rattle.runs.specs.Behind.{behindFor};
 ghost use Rattle.pitches.specs.Pitches.{noteChar, beforeFor, octaveFor};
 ghost use Rattle.pitches.specs.Chords.{pitchMet, metFor, closedAt, chordFor};
-ghost use Rattle.leaves.specs.Packed.{pair, bytes, flag, fraction, valueBytes, lengthWith, letterBytes, markNumber, octaveNumber, octaveEnd, pitchNumber, metNumber, metEnd, chordNumber, chordEnd, behindBytes};
+ghost use Rattle.leaves.specs.Packed.{pair, bytes, flag, fraction, valueBytes, lengthWith, letterBytes, markNumber, octaveNumber, octaveEnd, pitchNumber, metNumber, metEnd, chordNumber, chordEnd, chordIn, behindBytes, classNumber, barlineCode, barNumber, barEnd, tupletBytes, tupletCount, tupletEnd, passesPair, passesEnd, keyBytes};
 
 fn packed_pair(a: u32, b: u32) -> u64
     ensures { λ r. ⌜ r ≡ pair a b ⌝ }
@@ -112,6 +120,66 @@ pub extern "C" fn leaves_white_at(text: &[u8], at: usize) -> usize
         return white::white_at(text, at, text.len());
     }
     0
+}
+
+// The position behind the line at a position, 0 where no line begins.
+#[no_mangle]
+pub extern "C" fn leaves_line_end(text: &[u8], at: usize) -> usize
+    ensures { λ r. ⌜ (at < length (now (text .entry)) → LineEnd (now (text .entry)) at r) ⌝ }
+    ensures { λ r. ⌜ (length (now (text .entry)) ≤ at → r ≡ 0) ⌝ }
+{
+    if at < text.len() {
+        return text::line_end(text, at);
+    }
+    0
+}
+
+// The end of a line from one position to another, once cut and trimmed; 0 where these are no part of the text.
+#[no_mangle]
+pub extern "C" fn leaves_clean_end(text: &[u8], from: usize, to: usize) -> usize
+    ensures { λ r. ⌜ (from ≤ to → to ≤ length (now (text .entry)) → CleanEnd (now (text .entry)) from to r) ⌝ }
+    ensures { λ r. ⌜ (to < from → r ≡ 0) ⌝ }
+    ensures { λ r. ⌜ (length (now (text .entry)) < to → r ≡ 0) ⌝ }
+{
+    if to < from {
+        return 0;
+    }
+    if text.len() < to {
+        return 0;
+    }
+    text::clean_end(text, from, to)
+}
+
+// The line has a byte above 127.
+#[no_mangle]
+pub extern "C" fn leaves_has_high(line: &[u8]) -> u64
+    ensures { λ r. ⌜ r ≡ flag (hasHigh (now (line .entry))) ⌝ }
+{
+    packed_flag(text::has_high(line)) as u64
+}
+
+fn packed_class(class: text::Class) -> u64
+    ensures { λ r. ⌜ r ≡ classNumber class ⌝ }
+{
+    match class {
+        text::Class::Blank => 0,
+        text::Class::Lyric => 1,
+        text::Class::Voice => 2,
+        text::Class::Key => 3,
+        text::Class::Unit => 4,
+        text::Class::Meter => 5,
+        text::Class::Tune => 6,
+        text::Class::Other => 7,
+        text::Class::Music => 8,
+    }
+}
+
+// The class of a line.
+#[no_mangle]
+pub extern "C" fn leaves_line_class(line: &[u8]) -> u64
+    ensures { λ r. ⌜ r ≡ classNumber (classOf (now (line .entry))) ⌝ }
+{
+    packed_class(text::line_class(line))
 }
 
 // PITCHES
@@ -229,4 +297,226 @@ pub extern "C" fn leaves_chord_pitch_end(line: &[u8], at: usize) -> usize
         pitches::Met::Out => 0,
         pitches::Met::Pitch { pitch: _, next } => next,
     }
+}
+
+// The chord whose `[` stands before a position.
+fn chord_at(line: &[u8], at: usize) -> pitches::Chord
+    requires { ⌜ at ≤ length (now line) ⌝ }
+    ensures { λ r. ⌜ r ≡ chordIn (now (line .entry)) at ⌝ }
+{
+    let close = runs::find(line, at, line.len(), b']');
+    pitches::parse_abc_chord(line, at, close)
+}
+
+// How many pitches it has; 2^64 - 1 where it is refused or the position is past the line.
+#[no_mangle]
+pub extern "C" fn leaves_chord(line: &[u8], at: usize) -> u64
+    ensures { λ r. ⌜ (at ≤ length (now (line .entry)) → r ≡ chordNumber (chordIn (now (line .entry)) at)) ⌝ }
+{
+    if line.len() < at {
+        return 18446744073709551615;
+    }
+    let k = chord_at(line, at);
+    match k {
+        pitches::Chord::Read { count, next: _ } => count as u64,
+        pitches::Chord::Refused => 18446744073709551615,
+    }
+}
+
+// The position after it.
+#[no_mangle]
+pub extern "C" fn leaves_chord_end(line: &[u8], at: usize) -> usize
+    ensures { λ r. ⌜ (at ≤ length (now (line .entry)) → r ≡ chordEnd (chordIn (now (line .entry)) at)) ⌝ }
+{
+    if line.len() < at {
+        return 0;
+    }
+    let k = chord_at(line, at);
+    match k {
+        pitches::Chord::Read { count: _, next } => next,
+        pitches::Chord::Refused => 0,
+    }
+}
+
+// MARKS
+
+fn packed_barline(b: marks::Barline) -> u8
+    ensures { λ r. ⌜ r ≡ barlineCode b ⌝ }
+{
+    match b {
+        marks::Barline::Normal => 0,
+        marks::Barline::RepeatStart => 1,
+        marks::Barline::RepeatEnd => 2,
+        marks::Barline::RepeatBoth => 3,
+        marks::Barline::Double => 4,
+        marks::Barline::Final => 5,
+    }
+}
+
+fn packed_bar(bar: marks::Bar) -> u64
+    ensures { λ r. ⌜ r ≡ barNumber bar ⌝ }
+{
+    match bar {
+        marks::Bar::Read {
+            right,
+            left,
+            next: _,
+        } => {
+            let r = packed_barline(right);
+            let l = packed_barline(left);
+            65536 + ((r as u64) * 256 + (l as u64))
+        }
+        marks::Bar::Nothing => 0,
+    }
+}
+
+// The barline at a position: the right one, and the next measure's left one.
+#[no_mangle]
+pub extern "C" fn leaves_barline(line: &[u8], at: usize) -> u64
+    ensures { λ r. ⌜ r ≡ barNumber (barFor at (symbolAt barSymbols (drop at (now (line .entry))))) ⌝ }
+{
+    if at < line.len() {
+        return packed_bar(marks::parse_barline(line, at));
+    }
+    0
+}
+
+fn bar_end(bar: marks::Bar) -> usize
+    ensures { λ r. ⌜ r ≡ barEnd bar ⌝ }
+{
+    match bar {
+        marks::Bar::Read {
+            right: _,
+            left: _,
+            next,
+        } => next,
+        marks::Bar::Nothing => 0,
+    }
+}
+
+// The position after it.
+#[no_mangle]
+pub extern "C" fn leaves_barline_end(line: &[u8], at: usize) -> usize
+    ensures { λ r. ⌜ r ≡ barEnd (barFor at (symbolAt barSymbols (drop at (now (line .entry))))) ⌝ }
+{
+    if at < line.len() {
+        return bar_end(marks::parse_barline(line, at));
+    }
+    0
+}
+
+// The tuplet whose `(` stands at a position.
+fn tuplet_at(line: &[u8], at: usize) -> marks::Tuplet
+    ensures { λ r. ⌜ r ≡ tupletFor at (tupletOf (drop (at + 1) (now (line .entry)))) ⌝ }
+{
+    if at < line.len() {
+        return marks::parse_abc_tuplet(line, at);
+    }
+    marks::Tuplet::Nothing
+}
+
+// Its actual and normal notes.
+#[no_mangle]
+pub extern "C" fn leaves_tuplet(line: &[u8], at: usize) -> u64
+    ensures { λ r. ⌜ r ≡ tupletBytes (tupletFor at (tupletOf (drop (at + 1) (now (line .entry))))) ⌝ }
+{
+    let t = tuplet_at(line, at);
+    match t {
+        marks::Tuplet::Read {
+            actual,
+            normal,
+            count: _,
+            next: _,
+        } => packed_bytes(actual, normal),
+        marks::Tuplet::Nothing => 0,
+    }
+}
+
+// Its count.
+#[no_mangle]
+pub extern "C" fn leaves_tuplet_count(line: &[u8], at: usize) -> u64
+    ensures { λ r. ⌜ r ≡ tupletCount (tupletFor at (tupletOf (drop (at + 1) (now (line .entry))))) ⌝ }
+{
+    let t = tuplet_at(line, at);
+    match t {
+        marks::Tuplet::Read {
+            actual: _,
+            normal: _,
+            count,
+            next: _,
+        } => count,
+        marks::Tuplet::Nothing => 0,
+    }
+}
+
+// The position after it.
+#[no_mangle]
+pub extern "C" fn leaves_tuplet_end(line: &[u8], at: usize) -> usize
+    ensures { λ r. ⌜ r ≡ tupletEnd (tupletFor at (tupletOf (drop (at + 1) (now (line .entry))))) ⌝ }
+{
+    let t = tuplet_at(line, at);
+    match t {
+        marks::Tuplet::Read {
+            actual: _,
+            normal: _,
+            count: _,
+            next,
+        } => next,
+        marks::Tuplet::Nothing => 0,
+    }
+}
+
+// The pass list at a position, behind its `[`: the first pass, and all of them as bits.
+#[no_mangle]
+pub extern "C" fn leaves_passes(line: &[u8], at: usize) -> u64
+    ensures { λ r. ⌜ r ≡ passesPair (passesFor (endOf isPassByte (now (line .entry)) at) (passesAt 0 (now (line .entry)) at)) ⌝ }
+{
+    let p = passes::parse_passes(line, at);
+    match p {
+        passes::Passes::Read {
+            first,
+            bits,
+            next: _,
+        } => packed_pair(first as u32, bits),
+        passes::Passes::Refused => 0,
+    }
+}
+
+// The position after it.
+#[no_mangle]
+pub extern "C" fn leaves_passes_end(line: &[u8], at: usize) -> usize
+    ensures { λ r. ⌜ r ≡ passesEnd (passesFor (endOf isPassByte (now (line .entry)) at) (passesAt 0 (now (line .entry)) at)) ⌝ }
+{
+    let p = passes::parse_passes(line, at);
+    match p {
+        passes::Passes::Read {
+            first: _,
+            bits: _,
+            next,
+        } => next,
+        passes::Passes::Refused => 0,
+    }
+}
+
+// FIELDS
+
+// A position that is not past the text's end, and has the same behind it.
+fn start_in(text: &[u8], at: usize) -> usize
+    ensures { λ r. ⌜ r ≤ length (now (text .entry)) ⌝ }
+    ensures { λ r. ⌜ drop r (now (text .entry)) ≡ drop at (now (text .entry)) ⌝ }
+{
+    if at < text.len() {
+        return at;
+    }
+    text.len()
+}
+
+// The key of a K field's value, from a position on: fifths, with 128 added, and whether it is minor.
+#[no_mangle]
+pub extern "C" fn leaves_key(line: &[u8], at: usize) -> u64
+    ensures { λ r. ⌜ r ≡ keyBytes (keyOf (drop at (now (line .entry)))) ⌝ }
+{
+    let a = start_in(line, at);
+    let k = keys::parse_key(line, a, line.len());
+    packed_bytes(k.fifths, packed_flag(k.minor))
 }
