@@ -14,16 +14,16 @@ Asks each leaf of the port and the Rust's own function the same: limits first, t
 1000000, seed 1). One line for each leaf; then what was kept apart, and the first differences, made small.
 --only WORD: the leaves whose name has WORD, N inputs among them. Status 1: there is a difference.";
 
+/// The port's answer to a question.
+fn answer(ask: &Ask, input: &Input) -> u64 {
+    let [a, b, c] = ask.numbers;
+    ask.export.ask(&input.text, a, b, c)
+}
+
 /// The questions whose answers differ.
 fn differences(leaf: &Leaf, input: &Input) -> Vec<(Ask, u64)> {
     let (Verdict::Same(asks) | Verdict::Apart(_, asks)) = (leaf.rust)(input);
-    asks.into_iter()
-        .filter_map(|ask| {
-            let [a, b, c] = ask.numbers;
-            let answer = ask.export.ask(&input.text, a, b, c);
-            (answer != ask.want).then_some((ask, answer))
-        })
-        .collect()
+    asks.into_iter().map(|ask| (answer(&ask, input), ask)).filter(|(got, ask)| *got != ask.want).map(|(got, ask)| (ask, got)).collect()
 }
 
 /// A smaller input that still differs, until there is none.
@@ -82,7 +82,7 @@ impl Tally {
             same => same,
         };
         self.questions += asks.len();
-        if !differences(leaf, &input).is_empty() {
+        if asks.iter().any(|ask| answer(ask, &input) != ask.want) {
             self.differing += 1;
             if self.first.len() < 5 {
                 self.first.push(input);
@@ -98,11 +98,12 @@ fn compare(leaf: &Leaf, count: usize, seed: u64) -> Tally {
     }
     let limits = tally.inputs;
     let mut rng = Rng::new(seed);
-    for _ in 0..count {
-        let input = (leaf.random)(&mut rng);
-        tally.add(leaf, input);
+    if let Some(random) = leaf.random {
+        for _ in 0..count {
+            tally.add(leaf, random(&mut rng));
+        }
     }
-    println!("{:28} limits {:8}  random {:8}  questions {:9}  differing {}", leaf.name, limits, count, tally.questions, tally.differing);
+    println!("{:28} limits {:8}  random {:8}  questions {:9}  differing {}", leaf.name, limits, tally.inputs - limits, tally.questions, tally.differing);
     for (reason, count) in &tally.apart {
         println!("    {count} apart: {reason}");
     }
@@ -130,10 +131,12 @@ fn main() {
         }
     }
     let leaves: Vec<Leaf> = leaves::all().into_iter().filter(|leaf| leaf.name.contains(&only)).collect();
-    let mut differing = 0;
+    let sharing = leaves.iter().filter(|leaf| leaf.random.is_some()).count();
+    let (mut differing, mut done) = (0, 0);
     for (at, leaf) in leaves.iter().enumerate() {
         // as even as it goes
-        let share = count * (at + 1) / leaves.len() - count * at / leaves.len();
+        let share = if leaf.random.is_some() { count * (done + 1) / sharing - count * done / sharing } else { 0 };
+        done += usize::from(leaf.random.is_some());
         differing += compare(leaf, share, seed.wrapping_add(at as u64 * 1_000_003)).differing;
     }
     println!("{} leaves, {differing} inputs differ", leaves.len());

@@ -16,12 +16,27 @@ unsafe extern "C" {
     fn leaves_annotations_end(text: *const u8, len: usize, at: usize) -> u64;
     fn leaves_chord_pitch(text: *const u8, len: usize, at: usize) -> u64;
     fn leaves_chord_pitch_end(text: *const u8, len: usize, at: usize) -> u64;
+    fn leaves_chord(text: *const u8, len: usize, at: usize) -> u64;
+    fn leaves_chord_end(text: *const u8, len: usize, at: usize) -> u64;
+    fn leaves_line_end(text: *const u8, len: usize, at: usize) -> u64;
+    fn leaves_clean_end(text: *const u8, len: usize, from: usize, to: usize) -> u64;
+    fn leaves_has_high(text: *const u8, len: usize) -> u64;
+    fn leaves_line_class(text: *const u8, len: usize) -> u64;
+    fn leaves_barline(text: *const u8, len: usize, at: usize) -> u64;
+    fn leaves_barline_end(text: *const u8, len: usize, at: usize) -> u64;
+    fn leaves_tuplet(text: *const u8, len: usize, at: usize) -> u64;
+    fn leaves_tuplet_count(text: *const u8, len: usize, at: usize) -> u64;
+    fn leaves_tuplet_end(text: *const u8, len: usize, at: usize) -> u64;
+    fn leaves_passes(text: *const u8, len: usize, at: usize) -> u64;
+    fn leaves_passes_end(text: *const u8, len: usize, at: usize) -> u64;
+    fn leaves_key(text: *const u8, len: usize, at: usize) -> u64;
 }
 
 /// How an export takes the text and the numbers a, b, c of a question.
 enum Call {
     Text(unsafe extern "C" fn(*const u8, usize) -> u64),
     At(unsafe extern "C" fn(*const u8, usize, usize) -> u64),
+    FromTo(unsafe extern "C" fn(*const u8, usize, usize, usize) -> u64),
     AtByte(unsafe extern "C" fn(*const u8, usize, usize, u8) -> u64),
     Byte(unsafe extern "C" fn(u8) -> u64),
     Numbers(unsafe extern "C" fn(u32, u32, u32) -> u64),
@@ -58,6 +73,20 @@ exports! {
     AnnotationsEnd At leaves_annotations_end;
     ChordPitch At leaves_chord_pitch;
     ChordPitchEnd At leaves_chord_pitch_end;
+    Chord At leaves_chord;
+    ChordEnd At leaves_chord_end;
+    LineEnd At leaves_line_end;
+    CleanEnd FromTo leaves_clean_end;
+    HasHigh Text leaves_has_high;
+    LineClass Text leaves_line_class;
+    Barline At leaves_barline;
+    BarlineEnd At leaves_barline_end;
+    Tuplet At leaves_tuplet;
+    TupletCount At leaves_tuplet_count;
+    TupletEnd At leaves_tuplet_end;
+    Passes At leaves_passes;
+    PassesEnd At leaves_passes_end;
+    Key At leaves_key;
 }
 
 impl Export {
@@ -74,6 +103,7 @@ impl Export {
             match CALLS[self as usize] {
                 Call::Text(f) => f(text, len),
                 Call::At(f) => f(text, len, at),
+                Call::FromTo(f) => f(text, len, at, b as usize),
                 Call::AtByte(f) => f(text, len, at, b as u8),
                 Call::Byte(f) => f(a as u8),
                 Call::Numbers(f) => f(a, b, c),

@@ -7,9 +7,9 @@ use acorde_io::abc::leaves as rust;
 
 pub fn leaves() -> [Leaf; 3] {
     [
-        Leaf { name: "parse_duration_suffix", limits: suffixes, random: suffix, rust: duration_suffix },
-        Leaf { name: "abc_note_value", limits: values, random: value, rust: note_value },
-        Leaf { name: "apply_abc_broken_rhythm", limits: pairs, random: broken, rust: broken_rhythm },
+        Leaf { name: "parse_duration_suffix", limits: suffixes, random: Some(suffix), rust: duration_suffix },
+        Leaf { name: "abc_note_value", limits: values, random: Some(value), rust: note_value },
+        Leaf { name: "apply_abc_broken_rhythm", limits: pairs, random: Some(broken), rust: broken_rhythm },
     ]
 }
 

@@ -5,7 +5,9 @@ use acorde_core::Duration;
 use acorde_io::probe;
 use std::panic::{AssertUnwindSafe, catch_unwind};
 
+mod fields;
 mod lengths;
+mod marks;
 mod notes;
 mod texts;
 
@@ -68,7 +70,8 @@ pub struct Leaf {
     /// 000's function, or the standard library's.
     pub name: &'static str,
     pub limits: fn() -> Vec<Input>,
-    pub random: fn(&mut Rng) -> Input,
+    /// None where the limits are all there is.
+    pub random: Option<fn(&mut Rng) -> Input>,
     pub rust: fn(&Input) -> Verdict,
 }
 
@@ -76,6 +79,8 @@ pub fn all() -> Vec<Leaf> {
     let mut leaves = Vec::new();
     leaves.extend(lengths::leaves());
     leaves.extend(notes::leaves());
+    leaves.extend(marks::leaves());
+    leaves.extend(fields::leaves());
     leaves.extend(texts::leaves());
     leaves
 }

@@ -8,10 +8,10 @@ use acorde_io::abc_probe::leaves as probe;
 
 pub fn leaves() -> [Leaf; 4] {
     [
-        Leaf { name: "abc_note_char", limits: letters, random: letter, rust: note_char },
-        Leaf { name: "append_abc_pitched_note", limits: notes, random: note, rust: pitched_note },
-        Leaf { name: "apply_abc_note_annotations", limits: annotations, random: annotation, rust: note_annotations },
-        Leaf { name: "parse_abc_chord", limits: chords, random: chord, rust: pitches },
+        Leaf { name: "abc_note_char", limits: letters, random: None, rust: note_char },
+        Leaf { name: "append_abc_pitched_note", limits: notes, random: Some(note), rust: pitched_note },
+        Leaf { name: "apply_abc_note_annotations", limits: annotations, random: Some(annotation), rust: note_annotations },
+        Leaf { name: "parse_abc_chord", limits: chords, random: Some(chord), rust: pitches },
     ]
 }
 
@@ -38,10 +38,6 @@ fn note_char(input: &Input) -> Verdict {
 
 fn letters() -> Vec<Input> {
     (0..LETTERS.len() as u32).map(|n| Input::numbers(n, 0, 0)).collect()
-}
-
-fn letter(r: &mut Rng) -> Input {
-    Input::numbers(r.below(LETTERS.len()) as u32, 0, 0)
 }
 
 /// A note is asked part by part. The Rust tells what was written and where it ended; the places between are those of the
@@ -188,11 +184,11 @@ fn pitches(input: &Input) -> Verdict {
     // 000 looks for a `[` at the index; the text of an input need not have one there
     line.insert(at, '[');
     let Ok(found) = probed(|| probe::chord(&line, at)) else {
-        return Verdict::Apart(OCTAVE, vec![]);
+        return Verdict::Apart(OCTAVE, vec![ask(Export::Chord, at, u64::MAX), ask(Export::ChordEnd, at, 0)]);
     };
     let (written, end) = found.unwrap();
     line.remove(at);
-    let mut asks = vec![];
+    let mut asks = vec![ask(Export::Chord, at, written.len() as u64), ask(Export::ChordEnd, at, end as u64 - 1)];
     let mut place = at;
     for pitch in &written {
         let letter = (place..line.len()).find(|&i| LETTERS.contains(line[i])).unwrap();

@@ -1,13 +1,17 @@
-//! Text: UTF-8, white space.
-use super::{Input, Leaf, Verdict, ask};
+//! Text: UTF-8, white space, lines and their classes.
+use super::{Ask, Input, Leaf, Verdict, ask};
 use crate::port::Export;
 use crate::rng::Rng;
+use acorde_io::abc::leaves as rust;
 
-pub fn leaves() -> [Leaf; 3] {
+pub fn leaves() -> [Leaf; 6] {
     [
-        Leaf { name: "str::from_utf8", limits: sequences, random: broken_text, rust: is_utf8 },
-        Leaf { name: "str::trim is empty", limits: sequences, random: blank_text, rust: is_blank },
-        Leaf { name: "char::is_whitespace", limits: characters, random: characters_at, rust: white_at },
+        Leaf { name: "str::from_utf8", limits: sequences, random: Some(broken_text), rust: is_utf8 },
+        Leaf { name: "str::trim is empty", limits: sequences, random: Some(blank_text), rust: is_blank },
+        Leaf { name: "char::is_whitespace", limits: characters, random: Some(characters_at), rust: white_at },
+        Leaf { name: "str::lines", limits: texts, random: Some(text), rust: lines },
+        Leaf { name: "line cut at %, trim_end", limits: texts, random: Some(text), rust: cleaned },
+        Leaf { name: "parse_abc_header_line: class", limits: heads, random: Some(head), rust: line_class },
     ]
 }
 
@@ -117,4 +121,115 @@ fn characters_at(r: &mut Rng) -> Input {
     let places: Vec<usize> = text.char_indices().map(|(at, _)| at).collect();
     let at = r.pick(&places);
     Input::at(text, at)
+}
+
+/// From one line's start to the next one's: where each line ends with its line feed.
+fn lines(input: &Input) -> Verdict {
+    let Ok(text) = std::str::from_utf8(&input.text) else { return NO_TEXT };
+    let mut asks: Vec<Ask> = Vec::new();
+    for (start, _) in rows(text) {
+        if let Some(last) = asks.last_mut() {
+            last.want = start as u64;
+        }
+        asks.push(ask(Export::LineEnd, start, text.len() as u64));
+    }
+    asks.push(ask(Export::LineEnd, text.len(), 0));
+    Verdict::Same(asks)
+}
+
+/// `str::lines` with the place of each line.
+fn rows(text: &str) -> Vec<(usize, &str)> {
+    text.lines().map(|line| (line.as_ptr() as usize - text.as_ptr() as usize, line)).collect()
+}
+
+/// Each line cut at its first `%` and trimmed; and whether it is ASCII.
+fn cleaned(input: &Input) -> Verdict {
+    let Ok(text) = std::str::from_utf8(&input.text) else { return NO_TEXT };
+    let rows = rows(text);
+    let mut asks = Vec::new();
+    for (at, &(start, row)) in rows.iter().enumerate() {
+        let next = rows.get(at + 1).map_or(text.len(), |next| next.0);
+        let end = start + rust::cut_and_trimmed(row).len();
+        asks.push(Ask { export: Export::CleanEnd, numbers: [start as u32, next as u32, 0], want: end as u64 });
+    }
+    asks.push(ask(Export::HasHigh, 0, u64::from(!text.is_ascii())));
+    Verdict::Same(asks)
+}
+
+/// All texts of up to two characters that matter, and some of up to five.
+fn texts() -> Vec<Input> {
+    let marks = ["A", "%", "\n", "\r", " ", "\t", "\u{85}", "\u{a0}", "\u{1680}", "\u{2003}", "\u{2028}", "\u{205f}", "\u{3000}", "\u{200b}", "é", "\u{2027}", "\u{3001}", "\u{1681}", "\u{c}", "\u{1c}", "\u{0}"];
+    let mut inputs = vec![Input::text("")];
+    let mut texts = vec![String::new()];
+    for _ in 0..3 {
+        texts = texts.iter().flat_map(|text| marks.map(|next| format!("{text}{next}"))).collect();
+        inputs.extend(texts.iter().map(Input::text));
+    }
+    let mut texts = vec![String::new()];
+    for _ in 0..6 {
+        texts = texts.iter().flat_map(|text| ["A", "%", "\n", "\r", "\u{2003}"].map(|next| format!("{text}{next}"))).collect();
+    }
+    inputs.extend(texts.iter().map(Input::text));
+    inputs
+}
+
+fn text(r: &mut Rng) -> Input {
+    let mut text = String::new();
+    for _ in 0..r.below(4) {
+        let count = r.below(6);
+        text += &(0..count).map(|_| character(r)).collect::<String>();
+        if r.chance(30) {
+            text += r.pick(&["%", "%%", "A%"]);
+        }
+        let count = r.pick(&[0, 0, 1, 2, 5]);
+        text += &r.pieces(count, &SPACES);
+        if r.chance(20) {
+            text += r.pick(&NO_SPACES);
+        }
+        text += r.pick(&["\n", "\n", "\n", "\r\n", "\r", "\n\n", ""]);
+    }
+    Input::text(text)
+}
+
+/// A line's class: 000's own order, with its field test, and the field's letter.
+fn line_class(input: &Input) -> Verdict {
+    let Ok(line) = std::str::from_utf8(&input.text) else { return NO_TEXT };
+    let class = if line.is_empty() {
+        0
+    } else if line.strip_prefix("w:").is_some() {
+        1
+    } else if matches!(rust::header_line(line, 8, (4, 4)).field, Ok(false)) {
+        8
+    } else {
+        match line.as_bytes()[0] {
+            b'V' => 2,
+            b'K' => 3,
+            b'L' => 4,
+            b'M' => 5,
+            b'X' => 6,
+            _ => 7,
+        }
+    };
+    Verdict::Same(vec![ask(Export::LineClass, 0, class)])
+}
+
+/// Every two bytes of ASCII, with nothing and something behind them.
+fn heads() -> Vec<Input> {
+    let mut inputs = vec![Input::text(""), Input::text("é"), Input::text("é:"), Input::text("V\u{ff1a}1")];
+    for a in 0..128u8 {
+        inputs.push(Input::text([a]));
+        for b in 0..128u8 {
+            inputs.push(Input::text([a, b]));
+            inputs.push(Input::text([a, b, b'C']));
+        }
+    }
+    inputs
+}
+
+fn head(r: &mut Rng) -> Input {
+    let mut text = r.pick(&["", "", "", " ", "\u{feff}", "|", "é"]).to_string();
+    text.push(r.pick(b"VKLMXTCQwvklmxzAGIrsNZ|:1 ") as char);
+    text += r.pick(&[":", ":", ":", ":", "", " :", "::", "|"]);
+    text += &r.ascii(6, "VKLM1/4 Cmin:|");
+    Input::text(text)
 }
