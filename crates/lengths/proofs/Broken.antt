@@ -1,13 +1,12 @@
 -- `brokenLength` is what `brokenNote` does to a note's value and dots.
 use Prim.Native.Nat.{ℕ, _<_}
-use mathlib.Core.Path.{_≡_, refl, sym, ap, _∙_}
+use mathlib.Core.Path.{_≡_, ap}
 use mathlib.Core.Bool.{Bool, true, false}
 use native.Mathlib.Omega.{arith}
-use lib.Dec.{eqb}
 use borrow.Author.Tests.{eq-eqb, ne-eqb}
 use Rattle.standard.specs.Lengths.{Fraction, Value, dotted, halved}
 use Rattle.reader.specs.Lengths.{writtenAs}
-use Rattle.reader.specs.State.{Note, Half}
+use Rattle.reader.specs.State.{Note}
 use Rattle.reader.specs.Part.{valueIn, writtenOn, halvedNote, brokenNote}
 use Rattle.lengths.specs.declared.Length.{Length}
 use Rattle.lengths.specs.declared.Length.the-variants.{Written, WholeBar}

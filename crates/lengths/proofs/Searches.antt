@@ -1,7 +1,7 @@
 -- The search of the forty: the loops' invariant, and how its end gives `writtenAs`.
 use Prim.Native.Nat.{ℕ, zero, suc, _+_, _-_, _*_, _/_, _%_, _^_, _≤_, _<_, min}
 use mathlib.Core.Path.{_≡_, refl, sym, ap, _∙_}
-use mathlib.Core.Bool.{Bool, true, false, cond, not, _&&_, _||_}
+use mathlib.Core.Bool.{Bool, true, false, not, _&&_, _||_}
 use mathlib.Core.Logic.{_⊎_, inl, inr}
 use mathlib.Core.List.{List, [], _∷_}
 use native.Mathlib.Nat.{not-suc-le-zero, le-of-suc-le-suc, mul-zero, le-of-mul-le-mul-right, eq-or-lt-of-le}
@@ -9,9 +9,9 @@ use native.Mathlib.Numerals.{add-one}
 use native.Mathlib.Omega.{arith}
 use lib.Dec.{leb, ltb, eqb}
 use lib.ListN.{length, getD}
-use borrow.Author.Tests.{leb-true, leb-false, le-leb, lt-leb, ltb-true, ltb-false, eqb-true, eqb-false, eq-eqb, ne-eqb, lt-ltb}
+use borrow.Author.Tests.{leb-true, le-leb, lt-leb, ltb-true, ltb-false, eqb-true, eqb-false, ne-eqb, lt-ltb}
 use Rattle.laws.specs.Lists.{all}
-use Rattle.laws.proofs.Bools.{by-test, and-left, and-right, and-no-left, and-no-right, both-true}
+use Rattle.laws.proofs.Bools.{by-test, and-left, and-right, and-no-left, and-no-right}
 use Rattle.laws.proofs.Finite.{below, below₂}
 use Rattle.standard.specs.Lengths.{Fraction, Value, ticks, tenValues, withDots, forty}
 use Rattle.reader.specs.Lengths.{quarterNote, longa, notAbove, writtenAs}

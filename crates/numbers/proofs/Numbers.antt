@@ -1,15 +1,15 @@
 -- The digits of a run, taken one after the other, write what `written` says of the whole run; and that is the standard's `digits`.
-use Prim.Native.Nat.{ℕ, zero, suc, _+_, _-_, _*_, _^_, _≤_, _<_}
-use mathlib.Core.Path.{_≡_, refl, sym, ap, _∙_}
-use mathlib.Core.Bool.{Bool, true, false, cond, not, _&&_}
-use mathlib.Core.Option.{Option, none, some}
+use Prim.Native.Nat.{ℕ, _+_, _-_, _*_, _≤_, _<_}
+use mathlib.Core.Path.{_≡_, refl, sym, _∙_}
+use mathlib.Core.Bool.{Bool, true, false, cond}
+use mathlib.Core.Option.{none}
 use mathlib.Core.List.{List, [], _∷_}
 use native.Mathlib.Omega.{arith}
 use lib.Dec.{leb, eqb}
 use lib.ListN.{length, getD, take, drop, length-drop}
 use lib.Seq.{take-all}
-use borrow.Author.Tests.{le-leb, lt-leb, leb-true, leb-false, eq-eqb, ne-eqb}
-use Rattle.laws.specs.Lists.{all, span, isNil}
+use borrow.Author.Tests.{lt-leb, leb-true, leb-false, eq-eqb, ne-eqb}
+use Rattle.laws.specs.Lists.{all, span}
 use Rattle.laws.specs.Spans.{run, endOf}
 use Rattle.laws.proofs.Bools.{by-test, and-left, and-right}
 use Rattle.laws.proofs.Spans.{run-within, run-on, run-off, end-on, end-off, run-passes, span-all, span-whole, span-le}

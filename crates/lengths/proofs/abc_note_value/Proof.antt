@@ -1,8 +1,8 @@
 -- `lengths::abc_note_value` meets its contract. Both loops have the invariant `Searching`, at 4 × value and at 4 × value + dots.
 use borrow.Author.Needs.{needs}
-use mathlib.Core.Path.{_≡_, refl, sym, ap, _∙_}
+use mathlib.Core.Path.{_≡_, sym, ap}
 use mathlib.Core.Logic.{⊎-elim}
-use Prim.Native.Nat.{ℕ, _+_, _-_, _*_, _≤_, _<_, _^_, min, max}
+use Prim.Native.Nat.{_+_, _-_, _*_, _≤_, _<_, _^_, min, max}
 use native.Mathlib.Nat.{add-zero, mul-le-mul}
 use native.Mathlib.Omega.{arith}
 use Rattle.standard.specs.Lengths.{lengthFraction}
