@@ -1,7 +1,7 @@
 -- How the answers of the leaves are packed into one number of 64 bits.
 use Prim.Native.Nat.{ℕ, _+_, _*_, _^_}
 use mathlib.Core.Bool.{Bool, cond, not}
-use mathlib.Core.Option.{none}
+use mathlib.Core.Option.{Option, none, some}
 use mathlib.Core.List.{List}
 use lib.Dec.{eqb}
 use lib.ListN.{length, drop}
@@ -35,6 +35,9 @@ use Rattle.marks.specs.declared.Tuplet.the-variants as tuplet
 use Rattle.passes.specs.declared.Passes.{Passes}
 use Rattle.passes.specs.declared.Passes.the-variants as passes
 use Rattle.standard.specs.Keys.{Key}
+use Rattle.standard.specs.Fields.{Meter}
+use Rattle.reader.specs.Token as token
+use Rattle.words.specs.declared.Part.{Part}
 
 -- two numbers of 32 bits
 abbrev pub pair : ℕ → ℕ → ℕ
@@ -165,3 +168,40 @@ passesEnd passes.Refused = 0
 -- a key: its fifths, and whether it is minor
 abbrev pub keyBytes : Key → ℕ
 keyBytes k = bytes (k .fifths) (flag (k .minor))
+
+-- a meter: top and bottom
+abbrev pub meterBytes : Meter → ℕ
+meterBytes m = bytes (m .0) (m .1)
+
+-- the unit that is set, 0 for none
+abbrev pub unitPair : Option ℕ → ℕ
+unitPair none = 0
+unitPair (some u) = pair 1 u
+
+-- a part of a line
+abbrev pub partWith : ℕ → ℕ → Part
+partWith a b = record { start = a; end = b }
+
+-- what an inline field does: 0 nothing, 1 refusal 10, then a unit, a meter, a key
+abbrev pub fieldPair : token.Token → ℕ
+fieldPair (token.unit u) = pair 2 u
+fieldPair (token.meter m) = pair 3 (meterBytes m)
+fieldPair (token.key k) = pair 4 (keyBytes k)
+fieldPair (token.refused n) = pair 1 0
+fieldPair token.field = 0
+fieldPair token.space = 0
+fieldPair token.overlay = 0
+fieldPair token.quoted = 0
+fieldPair (token.broken up n) = 0
+fieldPair (token.tuplet t) = 0
+fieldPair token.slur = 0
+fieldPair token.graceOpen = 0
+fieldPair token.graceClose = 0
+fieldPair token.decoration = 0
+fieldPair (token.barline b o) = 0
+fieldPair (token.volta ps) = 0
+fieldPair (token.chord ps l b) = 0
+fieldPair (token.rest k l) = 0
+fieldPair (token.note p l b) = 0
+fieldPair token.nothing = 0
+fieldPair token.skipped = 0

@@ -4,7 +4,7 @@ ghost use mathlib.Core.Path.{_≡_};
 ghost use Rattle.standard.specs.Lengths.{lengthFraction};
 ghost use Rattle.reader.specs.Lengths.{writtenAs};
 ghost use Rattle.lengths.specs.Values.{suffixAt, asValue, brokenLength};
-ghost use Prim.Native.Nat.{_+_, _*_, _<_, _≤_};
+ghost use Prim.Native.Nat.{ℕ, _+_, _*_, _<_, _≤_};
 ghost use mathlib.Core.Bool.{cond, not, _&&_};
 ghost use mathlib.Core.Option.{Option, none};
 ghost use lib.Dec.{eqb, ltb, leb};
@@ -16,6 +16,9 @@ ghost use Rattle.reader.specs.Text.{isUtf8, isBlank, hasHigh};
 ghost use Rattle.reader.specs.Tuplets.{tupletOf};
 ghost use Rattle.reader.specs.PassLists.{isPassByte};
 ghost use Rattle.reader.specs.Keys.{keyOf};
+ghost use Rattle.reader.specs.Fields.{meterOf, unitOf, unitInline, middleWord};
+ghost use Rattle.reader.specs.Inline.{fieldToken};
+ghost use Rattle.fields.specs.Values.{unitAs, Identifier, tokenAs};
 ghost use Rattle.text.specs.Lines.{LineEnd, CleanEnd, classOf};
 ghost use Rattle.marks.specs.Bars.{barFor};
 ghost use Rattle.marks.specs.Tuplets.{tupletFor};
@@ -26,7 +29,7 @@ ghost use Rattle.reader.specs.Sounds.{behind};
 ghost use Rattle.runs.specs.Behind.{behindFor};
 ghost use Rattle.pitches.specs.Pitches.{noteChar, beforeFor, octaveFor};
 ghost use Rattle.pitches.specs.Chords.{pitchMet, metFor, closedAt, chordFor};
-ghost use Rattle.leaves.specs.Packed.{pair, bytes, flag, fraction, valueBytes, lengthWith, letterBytes, markNumber, octaveNumber, octaveEnd, pitchNumber, metNumber, metEnd, chordNumber, chordEnd, chordIn, behindBytes, classNumber, barlineCode, barNumber, barEnd, tupletBytes, tupletCount, tupletEnd, passesPair, passesEnd, keyBytes};
+ghost use Rattle.leaves.specs.Packed.{pair, bytes, flag, fraction, valueBytes, lengthWith, letterBytes, markNumber, octaveNumber, octaveEnd, pitchNumber, metNumber, metEnd, chordNumber, chordEnd, chordIn, behindBytes, classNumber, barlineCode, barNumber, barEnd, tupletBytes, tupletCount, tupletEnd, passesPair, passesEnd, keyBytes, meterBytes, unitPair, partWith, fieldPair};
 
 fn packed_pair(a: u32, b: u32) -> u64
     ensures { λ r. ⌜ r ≡ pair a b ⌝ }
@@ -519,4 +522,98 @@ pub extern "C" fn leaves_key(line: &[u8], at: usize) -> u64
     let a = start_in(line, at);
     let k = keys::parse_key(line, a, line.len());
     packed_bytes(k.fifths, packed_flag(k.minor))
+}
+
+// The meter of an M field's value: top and bottom.
+#[no_mangle]
+pub extern "C" fn leaves_meter(line: &[u8], at: usize) -> u64
+    ensures { λ r. ⌜ r ≡ meterBytes (meterOf (drop at (now (line .entry)))) ⌝ }
+{
+    let a = start_in(line, at);
+    let m = fields::parse_meter(line, a, line.len());
+    packed_bytes(m.top, m.bottom)
+}
+
+fn packed_unit(u: fields::FieldUnit) -> u64
+    ensures { λ r. ⌜ r ≡ unitPair (unitAs u) ⌝ }
+{
+    match u {
+        fields::FieldUnit::Nothing => 0,
+        fields::FieldUnit::Unit(n) => packed_pair(1, n),
+    }
+}
+
+// The unit that an L line's value sets.
+#[no_mangle]
+pub extern "C" fn leaves_unit_line(line: &[u8], at: usize) -> u64
+    ensures { λ r. ⌜ r ≡ unitPair (unitOf (drop at (now (line .entry)))) ⌝ }
+{
+    let a = start_in(line, at);
+    packed_unit(fields::parse_unit_line(line, a, line.len()))
+}
+
+// The unit that an inline L's value sets.
+#[no_mangle]
+pub extern "C" fn leaves_unit_inline(line: &[u8], at: usize) -> u64
+    ensures { λ r. ⌜ r ≡ unitPair (unitInline (drop at (now (line .entry)))) ⌝ }
+{
+    let a = start_in(line, at);
+    packed_unit(fields::parse_unit_inline(line, a, line.len()))
+}
+
+// Where the identifier in a V field's value starts.
+#[no_mangle]
+pub extern "C" fn leaves_voice_start(line: &[u8], at: usize) -> usize
+    ensures { λ r. ⌜ (at ≤ length (now (line .entry)) → (e : ℕ) × Identifier (now (line .entry)) at (length (now (line .entry))) (partWith r e)) ⌝ }
+{
+    if line.len() < at {
+        return 0;
+    }
+    let p = fields::voice_identifier(line, at, line.len());
+    p.start
+}
+
+// Where it ends.
+#[no_mangle]
+pub extern "C" fn leaves_voice_end(line: &[u8], at: usize) -> usize
+    ensures { λ r. ⌜ (at ≤ length (now (line .entry)) → (s : ℕ) × Identifier (now (line .entry)) at (length (now (line .entry))) (partWith s r)) ⌝ }
+{
+    if line.len() < at {
+        return 0;
+    }
+    let p = fields::voice_identifier(line, at, line.len());
+    p.end
+}
+
+// A word of the value begins with `middle=`.
+#[no_mangle]
+pub extern "C" fn leaves_has_middle(line: &[u8], at: usize) -> u64
+    ensures { λ r. ⌜ r ≡ flag (middleWord (drop at (now (line .entry)))) ⌝ }
+{
+    let a = start_in(line, at);
+    packed_flag(fields::has_middle(line, a, line.len())) as u64
+}
+
+fn packed_field(f: fields::Field) -> u64
+    ensures { λ r. ⌜ r ≡ fieldPair (tokenAs f) ⌝ }
+{
+    match f {
+        fields::Field::Unit(n) => packed_pair(2, n),
+        fields::Field::Meter(m) => packed_pair(3, (m.top as u32) * 256 + (m.bottom as u32)),
+        fields::Field::Key(k) => packed_pair(
+            4,
+            (k.fifths as u32) * 256 + (packed_flag(k.minor) as u32),
+        ),
+        fields::Field::Middle => 4294967296,
+        fields::Field::Other => 0,
+    }
+}
+
+// What an inline field does, by the bytes between its brackets, from a position on.
+#[no_mangle]
+pub extern "C" fn leaves_inline_field(line: &[u8], at: usize) -> u64
+    ensures { λ r. ⌜ r ≡ fieldPair (fieldToken (drop at (now (line .entry)))) ⌝ }
+{
+    let a = start_in(line, at);
+    packed_field(fields::parse_inline_field(line, a, line.len()))
 }
