@@ -6,13 +6,17 @@ use std::collections::BTreeMap;
 mod leaves;
 mod port;
 mod rng;
+mod sample;
 
 const HELP: &str = "\
 differential [--count N] [--seed S] [--only WORD]
+differential --sample FOLDER | --check-sample FOLDER
 
 Asks each leaf of the port and the Rust's own function the same: limits first, then random inputs, N in all (default
 1000000, seed 1). One line for each leaf; then what was kept apart, and the first differences, made small.
---only WORD: the leaves whose name has WORD, N inputs among them. Status 1: there is a difference.";
+--only WORD: the leaves whose name has WORD, N inputs among them. Status 1: there is a difference.
+--sample: writes FOLDER/stdin and FOLDER/stdout, the sample that crates/replay_leaves replays. --check-sample: these are as it
+would write them.";
 
 /// The port's answer to a question.
 fn answer(ask: &Ask, input: &Input) -> u64 {
@@ -22,8 +26,7 @@ fn answer(ask: &Ask, input: &Input) -> u64 {
 
 /// The questions whose answers differ.
 fn differences(leaf: &Leaf, input: &Input) -> Vec<(Ask, u64)> {
-    let (Verdict::Same(asks) | Verdict::Apart(_, asks)) = (leaf.rust)(input);
-    asks.into_iter().map(|ask| (answer(&ask, input), ask)).filter(|(got, ask)| *got != ask.want).map(|(got, ask)| (ask, got)).collect()
+    (leaf.rust)(input).asks().into_iter().map(|ask| (answer(&ask, input), ask)).filter(|(got, ask)| *got != ask.want).map(|(got, ask)| (ask, got)).collect()
 }
 
 /// A smaller input that still differs, until there is none.
@@ -74,13 +77,11 @@ struct Tally {
 impl Tally {
     fn add(&mut self, leaf: &Leaf, input: Input) {
         self.inputs += 1;
-        let (Verdict::Same(asks) | Verdict::Apart(_, asks)) = match (leaf.rust)(&input) {
-            Verdict::Apart(reason, asks) => {
-                *self.apart.entry(reason).or_default() += 1;
-                Verdict::Apart(reason, asks)
-            }
-            same => same,
-        };
+        let verdict = (leaf.rust)(&input);
+        if let Verdict::Refused(reason, _) | Verdict::Apart(reason, _) = verdict {
+            *self.apart.entry(reason).or_default() += 1;
+        }
+        let asks = verdict.asks();
         self.questions += asks.len();
         if asks.iter().any(|ask| answer(ask, &input) != ask.want) {
             self.differing += 1;
@@ -117,6 +118,25 @@ fn compare(leaf: &Leaf, count: usize, seed: u64) -> Tally {
     tally
 }
 
+fn write_sample(folder: &str) {
+    let (stdin, stdout) = sample::texts(&leaves::all());
+    for (name, text) in [("stdin", &stdin), ("stdout", &stdout)] {
+        std::fs::write(format!("{folder}/{name}"), text).unwrap_or_else(|error| panic!("{folder}/{name}: {error}"));
+    }
+    println!("{} rows of {} leaves in {folder}/stdin", stdin.lines().count(), stdout.lines().count());
+}
+
+fn check_sample(folder: &str) {
+    let (stdin, stdout) = sample::texts(&leaves::all());
+    for (name, text) in [("stdin", &stdin), ("stdout", &stdout)] {
+        if std::fs::read_to_string(format!("{folder}/{name}")).ok().as_ref() != Some(text) {
+            println!("{folder}/{name} is not the sample as it would be written now");
+            std::process::exit(1);
+        }
+    }
+    println!("{folder}: {} rows, as they would be written now", stdin.lines().count());
+}
+
 fn main() {
     let (mut count, mut seed, mut only) = (1_000_000, 1u64, String::new());
     let mut args = std::env::args().skip(1);
@@ -126,6 +146,8 @@ fn main() {
             "--count" => count = value().parse().expect("a number"),
             "--seed" => seed = value().parse().expect("a number"),
             "--only" => only = value(),
+            "--sample" => return write_sample(&value()),
+            "--check-sample" => return check_sample(&value()),
             "-h" | "--help" => return println!("{HELP}"),
             _ => panic!("unknown word {word}; see --help"),
         }

@@ -4,9 +4,6 @@ unsafe extern "C" {
     fn leaves_duration_suffix_end(text: *const u8, len: usize, at: usize) -> u64;
     fn leaves_note_value(unit_den: u32, num: u32, den: u32) -> u64;
     fn leaves_broken_rhythm(value: u8, dots: u8, lengthen: bool, count: u8) -> u64;
-    fn leaves_is_utf8(text: *const u8, len: usize) -> u64;
-    fn leaves_is_blank(text: *const u8, len: usize) -> u64;
-    fn leaves_white_at(text: *const u8, len: usize, at: usize) -> u64;
     fn leaves_note_char(c: u8) -> u64;
     fn leaves_accidental(text: *const u8, len: usize, at: usize) -> u64;
     fn leaves_accidental_end(text: *const u8, len: usize, at: usize) -> u64;
@@ -14,14 +11,10 @@ unsafe extern "C" {
     fn leaves_octave_end(text: *const u8, len: usize, at: usize, start: u8) -> u64;
     fn leaves_annotations(text: *const u8, len: usize, at: usize) -> u64;
     fn leaves_annotations_end(text: *const u8, len: usize, at: usize) -> u64;
-    fn leaves_chord_pitch(text: *const u8, len: usize, at: usize) -> u64;
-    fn leaves_chord_pitch_end(text: *const u8, len: usize, at: usize) -> u64;
     fn leaves_chord(text: *const u8, len: usize, at: usize) -> u64;
     fn leaves_chord_end(text: *const u8, len: usize, at: usize) -> u64;
-    fn leaves_line_end(text: *const u8, len: usize, at: usize) -> u64;
-    fn leaves_clean_end(text: *const u8, len: usize, from: usize, to: usize) -> u64;
-    fn leaves_has_high(text: *const u8, len: usize) -> u64;
-    fn leaves_line_class(text: *const u8, len: usize) -> u64;
+    fn leaves_chord_pitch(text: *const u8, len: usize, at: usize) -> u64;
+    fn leaves_chord_pitch_end(text: *const u8, len: usize, at: usize) -> u64;
     fn leaves_barline(text: *const u8, len: usize, at: usize) -> u64;
     fn leaves_barline_end(text: *const u8, len: usize, at: usize) -> u64;
     fn leaves_tuplet(text: *const u8, len: usize, at: usize) -> u64;
@@ -29,7 +22,21 @@ unsafe extern "C" {
     fn leaves_tuplet_end(text: *const u8, len: usize, at: usize) -> u64;
     fn leaves_passes(text: *const u8, len: usize, at: usize) -> u64;
     fn leaves_passes_end(text: *const u8, len: usize, at: usize) -> u64;
+    fn leaves_meter(text: *const u8, len: usize, at: usize) -> u64;
+    fn leaves_unit_line(text: *const u8, len: usize, at: usize) -> u64;
+    fn leaves_unit_inline(text: *const u8, len: usize, at: usize) -> u64;
     fn leaves_key(text: *const u8, len: usize, at: usize) -> u64;
+    fn leaves_has_middle(text: *const u8, len: usize, at: usize) -> u64;
+    fn leaves_voice_start(text: *const u8, len: usize, at: usize) -> u64;
+    fn leaves_voice_end(text: *const u8, len: usize, at: usize) -> u64;
+    fn leaves_inline_field(text: *const u8, len: usize, at: usize) -> u64;
+    fn leaves_is_utf8(text: *const u8, len: usize) -> u64;
+    fn leaves_is_blank(text: *const u8, len: usize) -> u64;
+    fn leaves_white_at(text: *const u8, len: usize, at: usize) -> u64;
+    fn leaves_line_end(text: *const u8, len: usize, at: usize) -> u64;
+    fn leaves_clean_end(text: *const u8, len: usize, from: usize, to: usize) -> u64;
+    fn leaves_has_high(text: *const u8, len: usize) -> u64;
+    fn leaves_line_class(text: *const u8, len: usize) -> u64;
 }
 
 /// How an export takes the text and the numbers a, b, c of a question.
@@ -61,9 +68,6 @@ exports! {
     DurationSuffixEnd At leaves_duration_suffix_end;
     NoteValue Numbers leaves_note_value;
     BrokenRhythm Broken leaves_broken_rhythm;
-    IsUtf8 Text leaves_is_utf8;
-    IsBlank Text leaves_is_blank;
-    WhiteAt At leaves_white_at;
     NoteChar Byte leaves_note_char;
     Accidental At leaves_accidental;
     AccidentalEnd At leaves_accidental_end;
@@ -71,14 +75,10 @@ exports! {
     OctaveEnd AtByte leaves_octave_end;
     Annotations At leaves_annotations;
     AnnotationsEnd At leaves_annotations_end;
-    ChordPitch At leaves_chord_pitch;
-    ChordPitchEnd At leaves_chord_pitch_end;
     Chord At leaves_chord;
     ChordEnd At leaves_chord_end;
-    LineEnd At leaves_line_end;
-    CleanEnd FromTo leaves_clean_end;
-    HasHigh Text leaves_has_high;
-    LineClass Text leaves_line_class;
+    ChordPitch At leaves_chord_pitch;
+    ChordPitchEnd At leaves_chord_pitch_end;
     Barline At leaves_barline;
     BarlineEnd At leaves_barline_end;
     Tuplet At leaves_tuplet;
@@ -86,7 +86,21 @@ exports! {
     TupletEnd At leaves_tuplet_end;
     Passes At leaves_passes;
     PassesEnd At leaves_passes_end;
+    Meter At leaves_meter;
+    UnitLine At leaves_unit_line;
+    UnitInline At leaves_unit_inline;
     Key At leaves_key;
+    HasMiddle At leaves_has_middle;
+    VoiceStart At leaves_voice_start;
+    VoiceEnd At leaves_voice_end;
+    InlineField At leaves_inline_field;
+    IsUtf8 Text leaves_is_utf8;
+    IsBlank Text leaves_is_blank;
+    WhiteAt At leaves_white_at;
+    LineEnd At leaves_line_end;
+    CleanEnd FromTo leaves_clean_end;
+    HasHigh Text leaves_has_high;
+    LineClass Text leaves_line_class;
 }
 
 impl Export {

@@ -1,5 +1,5 @@
 -- `leaves::leaves_annotations` meets its contract.
-use mathlib.Core.Path.{ap, _∙_}
+use mathlib.Core.Path.{ap}
 use Rattle.leaves.specs.Packed.{behindBytes}
 use borrow.Author.Needs.{needs}
 use Rattle.leaves.proofs.leaves_annotations.Statement.{statement}

@@ -1,6 +1,6 @@
 -- `leaves::leaves_broken_rhythm` meets its contract.
 use mathlib.Core.Path.{ap, _∙_}
-use Rattle.leaves.specs.Packed.{bytes, valueBytes}
+use Rattle.leaves.specs.Packed.{valueBytes}
 use Rattle.lengths.specs.declared.Length.{Length}
 use Rattle.lengths.specs.Values.{asValue, brokenLength}
 use borrow.Author.Needs.{needs}

@@ -1,10 +1,7 @@
 -- `leaves::leaves_key` meets its contract.
 use mathlib.Core.Path.{ap, _∙_}
-use mathlib.Core.List.{List}
-use Prim.Native.Nat.{ℕ}
 use native.Mathlib.Omega.{arith}
 use Rattle.laws.proofs.Parts.{part-rest}
-use Rattle.standard.specs.Keys.{Key}
 use Rattle.reader.specs.Keys.{keyOf}
 use Rattle.leaves.specs.Packed.{keyBytes}
 use borrow.Author.Needs.{needs}

@@ -1,6 +1,6 @@
 -- `leaves::leaves_note_value` meets its contract.
-use mathlib.Core.Path.{ap, _∙_}
-use Rattle.leaves.specs.Packed.{bytes, valueBytes}
+use mathlib.Core.Path.{ap}
+use Rattle.leaves.specs.Packed.{valueBytes}
 use Rattle.lengths.specs.declared.Length.{Length}
 use Rattle.lengths.specs.Values.{asValue}
 use borrow.Author.Needs.{needs}

@@ -1,5 +1,5 @@
 -- `leaves::packed_bar` meets its contract.
-use mathlib.Core.Path.{sym, ap, _∙_}
+use mathlib.Core.Path.{sym, ap}
 use Rattle.leaves.specs.Packed.{barNumber}
 use borrow.Author.Needs.{needs}
 use Rattle.leaves.proofs.packed_bar.Statement.{statement}

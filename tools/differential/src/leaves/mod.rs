@@ -62,8 +62,17 @@ fn ask_with(export: Export, at: usize, b: u8, want: u64) -> Ask {
 /// What the Rust says of an input.
 pub enum Verdict {
     Same(Vec<Ask>),
+    /// The probe copy of 000 meets a refusal of document 01, where the Rust wraps, reads on or does not come back.
+    Refused(&'static str, Vec<Ask>),
     /// Nothing to compare with the Rust, for a reason in document 01 or docs/DECISIONS.md; what these say instead.
     Apart(&'static str, Vec<Ask>),
+}
+
+impl Verdict {
+    pub fn asks(self) -> Vec<Ask> {
+        let (Verdict::Same(asks) | Verdict::Refused(_, asks) | Verdict::Apart(_, asks)) = self;
+        asks
+    }
 }
 
 pub struct Leaf {

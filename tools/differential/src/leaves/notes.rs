@@ -49,7 +49,7 @@ fn pitched_note(input: &Input) -> Verdict {
     let Ok((taken, end, note)) = probed(|| probe::pitched_note(&line, at, 8)) else {
         let letter = letter.unwrap();
         let start = raised(rust::note_char(line[letter]).1);
-        return Verdict::Apart(OCTAVE, vec![
+        return Verdict::Refused(OCTAVE, vec![
             ask(Export::AccidentalEnd, at, letter as u64),
             ask_with(Export::Octave, letter + 1, start, 256),
             ask_with(Export::OctaveEnd, letter + 1, start, 0),
@@ -184,7 +184,7 @@ fn pitches(input: &Input) -> Verdict {
     // 000 looks for a `[` at the index; the text of an input need not have one there
     line.insert(at, '[');
     let Ok(found) = probed(|| probe::chord(&line, at)) else {
-        return Verdict::Apart(OCTAVE, vec![ask(Export::Chord, at, u64::MAX), ask(Export::ChordEnd, at, 0)]);
+        return Verdict::Refused(OCTAVE, vec![ask(Export::Chord, at, u64::MAX), ask(Export::ChordEnd, at, 0)]);
     };
     let (written, end) = found.unwrap();
     line.remove(at);
