@@ -13,3 +13,4 @@ pub mod ScanRanges
 pub mod RecordBytes
 pub mod Reading
 pub mod FourBytes
+pub mod Tables
