@@ -5,3 +5,5 @@ pub mod SharedLaws
 pub mod Sizes
 pub mod LineLaws
 pub mod ValueLaws
+pub mod Digits
+pub mod Standard
