@@ -7,3 +7,4 @@ pub mod LineLaws
 pub mod ValueLaws
 pub mod Digits
 pub mod Standard
+pub mod Traps
