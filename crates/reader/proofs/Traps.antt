@@ -69,7 +69,7 @@ unfolding all
 own-parts = refl
 
 -- the tally counts what is there
-pub counted : tally (read "K:C\nA z B|[CE]2\nw: la li") ≡ record { measures = 2; sounded = 3; rests = 1; syllables = 2 } ∷ []
+pub counted : tally (read "K:C\nA z B|[CE]2\nw: la li lo") ≡ record { measures = 2; sounded = 3; rests = 1; syllables = 3 } ∷ []
 unfolding all
 counted = refl
 
