@@ -35,6 +35,7 @@ passes-small low (p ∷ ps) l h =
     let m : low ≤ p - 1 = omega (arith, h .0) in
     omega (arith, passes-small p ps (h .1 .0) (h .1 .1), d, pow-le-pow-right {n = 2} (lit< tt) m)
 
+-- those of a measure
 pub pass-bits-small : (ps : List ℕ) → PassesFit 0 ps → passBits ps < 2 ^ 32
 pass-bits-small ps h = omega (arith, passes-small 0 ps (lit≤ tt) h)
 
@@ -43,6 +44,7 @@ tagged-length : (v : ℕ) (ns : List Note) → length (tagged v ns) ≡ length n
 unfolding tagged
 tagged-length v ns = length-map ns (λ n. (v, n))
 
+-- no voice of a measure
 voice-most : (v : ℕ) (vs : List (List Note)) (k : ℕ) → length (byVoice v vs) ≤ k → All (λ (ns : List Note). length ns ≤ k) vs
 unfolding byVoice
 voice-most v [] k h = tt
@@ -50,6 +52,7 @@ voice-most v (ns ∷ vs) k h =
     let e = length-append (tagged v ns) (byVoice (suc v) vs) in
     (omega (arith, e, tagged-length v ns), voice-most (suc v) vs k (omega (arith, e)))
 
+-- nor of any measure
 voices-most : (ms : List Measure) (k : ℕ) → length (allNotes ms) ≤ k → All (λ (m : Measure). All (λ (v : List Note). length v ≤ k) (m .voices)) ms
 unfolding allNotes
 voices-most [] k h = tt
@@ -69,6 +72,7 @@ placed-below : (i k : ℕ) (w : List Syllable) → i < k → All (λ (x : ℕ ×
 placed-below i k [] h = tt
 placed-below i k (y ∷ w) h = (h, placed-below i k w h)
 
+-- each index is below the number of notes
 index-below : (i k : ℕ) (xs : List (ℕ × Note)) (ws : List (List Syllable)) → i + length xs ≤ k → All (λ (x : ℕ × Syllable). x .0 < k) (lyricsOf i xs ws)
 unfolding lyricsOf
 index-below i k [] ws h = tt
@@ -106,6 +110,7 @@ built-fours : (e : Env) (is : List Item) → Fours (built e is .measures)
 unfolding built emptyPart
 built-fours e is = by-test (any isMusic is) (λ m. rw m (four-voices (e .headerKey) is)) (λ m. rw m tt)
 
+-- the counts of each part
 parts-counts : (e : Env) (a : Items) (n q : ℕ) → All PartFits (parts e (λ p. mine p a) n q) → length (partBytes (parts e (λ p. mine p a) n q)) < 2 ^ 32 → All CountsFit (parts e (λ p. mine p a) n q)
 unfolding parts partBytes
 parts-counts e a zero q f h = tt
@@ -115,10 +120,12 @@ parts-counts e a (suc n) q f h =
     let l = length-append (sections p) (partBytes ps) in
     (counts-fit p (built-fours e (mine q a)) (f .0) (omega (arith, l, h)), parts-counts e a n (suc q) (f .1) (omega (arith, l, h)))
 
+-- a verdict that has them
 unfoldable Counted : Verdict → Type 0
 Counted (refusal n l) = Unit {0}
 Counted (reading ps) = (length ps ≤ 32) × All CountsFit ps
 
+-- every verdict
 verdict-counted : (text : List ℕ) (rl sl : ℕ) → Counted (parseAbc text rl sl .verdict)
 unfolding refusedWith written Counted encode
 verdict-counted text rl sl =

@@ -17,6 +17,7 @@ module _ {ℓ} {A : Type ℓ} where
   sum-back f [] ys = omega arith
   sum-back f (x ∷ xs) ys = omega (arith, sum-back f xs (x ∷ ys))
 
+  -- the sum does not see the order
   pub sum-reverse : (f : A → ℕ) (xs : List A) → sum f (reverse xs) ≡ sum f xs
   sum-reverse f xs = omega (arith, sum-back f xs [])
 
@@ -63,6 +64,7 @@ module _ {ℓ} {A : Type ℓ} where
   All-here P (x ∷ xs) p zero d q = p .0
   All-here P (x ∷ xs) p (suc i) d q = All-here P xs (p .1) i d q
 
+  -- the whole list
   pub All-reverse : (P : A → Type 0) (xs : List A) → All P xs → All P (reverse xs)
   All-reverse P xs p = All-back P xs [] p tt
 

@@ -73,17 +73,20 @@ module _ (p : Prices) where
         rw (length-map {B = ℕ} x (λ c. cond (is "~" c) 32 c))
         (omega (arith, mul-suc (p .text) n, mul-suc (p .byte) n, times-dearer (p .text) (p .byte) n (omega (arith, paid .syllables)), paid .syllables))
 
+    -- the syllables of a word
     syllables-paid : (b a : Bool) (ps : List (List ℕ)) → All (λ x. not (isNil x) ≡ true) ps → sum wordCost (syllables b a ps) ≤ p .byte * sum length ps
     unfolding syllables wordCost
     syllables-paid b a [] h = zero-le
     syllables-paid b a (x ∷ []) h = omega (arith, syllable-paid x (h .0), mul-add (p .byte) (length x) 0)
     syllables-paid b a (x ∷ y ∷ ps) h = omega (arith, syllable-paid x (h .0), syllables-paid true a (y ∷ ps) (h .1), mul-add (p .byte) (length x) (sum length (y ∷ ps)))
 
+    -- a skip costs nothing
     skip-paid : (ws : List Word) → sum wordCost (orSkip ws) ≡ sum wordCost ws
     unfolding orSkip wordCost
     skip-paid [] = refl
     skip-paid (w ∷ ws) = refl
 
+    -- a word
     word-paid : (w : List ℕ) → sum wordCost (wordOf w) ≤ p .byte * length w
     unfolding wordOf wordCost
     word-paid w =
@@ -97,6 +100,7 @@ module _ (p : Prices) where
         let ws = syllables (is "-" (first w)) (is "-" (last w)) ps in
         omega (arith, skip-paid ws, syllables-paid (is "-" (first w)) (is "-" (last w)) ps (words-some (mark (is "-")) w), times-more (p .byte) (sum length ps) (length w) (words-length (mark (is "-")) w))))))))
 
+    -- all words
     all-paid : (ws : List (List ℕ)) → sum wordCost (wordsOf ws) ≤ p .byte * sum length ws
     unfolding wordsOf
     all-paid [] = zero-le
@@ -115,11 +119,13 @@ module _ (p : Prices) where
       by-test (ltb (y .verse) (x .verse)) (λ e. rw (e, put) (omega (arith, put-cost x ys)))
       (λ e. rw (e, put) (by-test (eqb (y .verse) (x .verse)) (λ f. rw (f, put) (omega arith)) (λ f. rw (f, put) (omega arith))))
 
+  -- a hold costs nothing
   held-cost : (v : ℕ) (ys : List Syllable) → sum (syllableCost p) (map (held v) ys) ≤ sum (syllableCost p) ys + 0
   unfolding held syllableCost
   held-cost v [] = zero-le
   held-cost v (y ∷ ys) = by-test (eqb (y .verse) v) (λ e. rw (e, held) (omega (arith, held-cost v ys))) (λ e. rw (e, held) (omega (arith, held-cost v ys)))
 
+  -- the words of a line cost what they are
   sing-cost : (start v i : ℕ) (ws : List Word) (notes : List (List Syllable)) → wordsCost p (sing start v i ws notes) ≤ wordsCost p notes + sum wordCost ws
   unfolding sing wordCost syllableCost
   sing-cost start v i [] notes = omega arith
@@ -137,6 +143,7 @@ module _ (p : Prices) where
   abbrev sungBytes : List Sung → ℕ
   sungBytes ls = sum (λ (l : Sung). length (l .text)) ls
 
+  -- all lyric lines
   sung-cost : Covered p → (ls : List Sung) (notes : List (List Syllable)) → wordsCost p (sungBy ls notes) ≤ wordsCost p notes + p .byte * sungBytes ls
   unfolding sungBy
   sung-cost paid [] notes = omega arith
@@ -144,6 +151,7 @@ module _ (p : Prices) where
       let m = sing (l .start) (l .verse) 0 (lyricWords (l .text)) notes in
       omega (arith, sung-cost paid ls m, sing-cost (l .start) (l .verse) 0 (lyricWords (l .text)) notes, lyric-paid paid (l .text), mul-add (p .byte) (length (l .text)) (sungBytes ls))
 
+  -- notes without syllables
   none-cost : (n : ℕ) → wordsCost p (replicate n []) ≡ 0
   none-cost zero = refl
   none-cost (suc n) = omega (arith, none-cost n)

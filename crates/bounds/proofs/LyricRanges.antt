@@ -27,6 +27,7 @@ push-bytes c [] h k = ((h, tt), tt)
 push-bytes c (p ∷ ps) h k = ((h, k .0), k .1)
 
 module _ (w : List ℕ → ℕ) where
+  -- each piece
   pub pieces-bytes : (k : ℕ) (s : List ℕ) → Bytes s → All Bytes (pieces w k s)
   unfolding pieces
   pieces-bytes k [] h = (tt, tt)

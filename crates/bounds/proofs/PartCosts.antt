@@ -39,16 +39,19 @@ module _ (p : Prices) where
   broken-cost h n =
       by-test (h .up) (λ e. rw (e, brokenNote)) (λ e. rw (e, brokenNote) (by-test (eqb (n .value) 10) (λ f. rw (f, halvedNote)) (λ f. rw (f, halvedNote))))
 
+  -- the half of a broken rhythm
   half-cost : (h : Option Half) (n : Note) → noteCost p (afterHalf h n) ≡ noteCost p n
   unfolding afterHalf
   half-cost none n = refl
   half-cost (some h) n = broken-cost h n
 
+  -- the beam step once more
   again-cost : (r : ℕ) (n : Note) → noteCost p (beamedAgain r n) ≡ noteCost p n
   unfolding beamedAgain noteCost
   again-cost zero n = by-test (canBeam n) (λ e. rw (e, beamedAgain)) (λ e. rw (e, beamedAgain))
   again-cost (suc r) n = refl
 
+  -- a tuplet
   group-cost : (t : Option Running) (n : Note) → noteCost p (grouped t n) ≡ noteCost p n
   unfolding grouped noteCost
   group-cost none n = refl
@@ -231,6 +234,7 @@ module _ (p : Prices) where
     opens-cost true b t m ms e = rw (e, keptBack) (omega (arith, paid .measures))
     opens-cost false b t m ms e = omega arith
 
+    -- any barline
     ended-cost : (b : Barline) (o : Bool) (t : Meter) (ms : List Measure) → openCost (ended b o t ms) ≤ openCost ms + p .byte
     unfolding ended
     ended-cost b o t [] = omega arith
@@ -273,10 +277,12 @@ module _ (p : Prices) where
     opened-cost t [] = omega arith
     opened-cost t (m ∷ ms) = omega arith
 
+    -- a line begins
     pub begins-step : (u : ℕ) (t : Meter) (s : PartState) → stateCost p (lineBegins u t s) ≤ stateCost p s + firstCost (s .measures)
     unfolding lineBegins stateCost
     begins-step u t s = omega (arith, opened-cost t (s .measures))
 
+    -- a whole line
     line-step : (u : ℕ) (t : Meter) (l : List ℕ) (s : PartState) → Kept s → paidFor (onLine u t l s) ≤ paidFor s + p .byte * length l
     unfolding onLine
     line-step u t l s k =

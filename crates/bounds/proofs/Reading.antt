@@ -32,9 +32,11 @@ use Rattle.bounds.proofs.Length.{parts-length, encode-bound, silent-par
 not-within : (a b c : ℕ) → b < c → within a b c ≡ false
 not-within a b c h = and-no-right (leb a c) (leb c b) (lt-leb c b h)
 
+-- a byte that is higher is another
 not-eq : (c n : ℕ) → n < c → eqb c n ≡ false
 not-eq c n h = ne-eqb c n (λ e. absurd (omega (arith, e)))
 
+-- what is no byte ends it
 big-invalid : (u : Utf8) (c : ℕ) → 256 ≤ c → utf8Step u c ≡ invalid
 unfolding utf8Step
 big-invalid between c h =
@@ -48,11 +50,13 @@ big-invalid afterF0 c h = rw (not-within 0x90 0xbf c (omega arith))
 big-invalid afterF4 c h = rw (not-within 0x80 0x8f c (omega arith))
 big-invalid invalid c h = refl
 
+-- and it stays so
 stays-invalid : (s : List ℕ) → isBetween (foldl utf8Step invalid s) ≡ false
 unfolding utf8Step isBetween
 stays-invalid [] = refl
 stays-invalid (c ∷ s) = stays-invalid s
 
+-- from any state
 valid-bytes : (s : List ℕ) (u : Utf8) → isBetween (foldl utf8Step u s) ≡ true → Bytes s
 valid-bytes [] u h = tt
 valid-bytes (c ∷ s) u h =
@@ -85,10 +89,12 @@ unfolding zeros
 zero-bytes zero = tt
 zero-bytes (suc n) = (lit< tt, zero-bytes n)
 
+-- the items of a part
 mine-fit : (q : ℕ) (a : Items) → ItemsFit a → All ItemFits (mine q a)
 mine-fit q [] h = tt
 mine-fit q (x ∷ a) h = by-test (eqb (x .0) q) (λ e. rw e (h .0, mine-fit q a (h .1))) (λ e. rw e (mine-fit q a (h .1)))
 
+-- a part
 built-fits : (e : Env) (is : List Item) → All ItemFits is → PartFits (built e is)
 unfolding built
 built-fits e is h = by-test (any isMusic is) (λ m. rw m (part-fits (e .headerKey) is h)) (λ m. rw m empty-fits)
@@ -99,11 +105,13 @@ unfolding parts
 parts-fit e a zero q h = tt
 parts-fit e a (suc n) q h = (built-fits e (mine q a) (mine-fit q a h), parts-fit e a n (suc q) h)
 
+-- their sections
 parts-bytes : (ps : List Part) → All PartFits ps → Bytes (partBytes ps)
 unfolding partBytes
 parts-bytes [] h = tt
 parts-bytes (p ∷ ps) h = both (sections p) (partBytes ps) (sections-bytes p (h .0)) (parts-bytes ps (h .1))
 
+-- with the count of parts
 pub encode-bytes : (ps : List Part) → All PartFits ps → Bytes (encode ps)
 unfolding encode
 encode-bytes ps h = both (le32 (length ps)) (partBytes ps) (little-bytes 4 (length ps)) (parts-bytes ps h)

@@ -41,11 +41,13 @@ unfolding cut
 cut-length [] = zero-le
 cut-length (c ∷ r) = by-test (eqb c 37) (λ e. rw e zero-le) (λ e. rw e (omega (arith, cut-length r)))
 
+-- trimmed
 trim-length : (r : List ℕ) → length (trim r) ≤ length r
 unfolding trim
 trim-length [] = zero-le
 trim-length (c ∷ r) = by-test (isBlank (c ∷ r)) (λ e. rw e zero-le) (λ e. rw e (omega (arith, trim-length r)))
 
+-- both
 pub clean-length : (r : List ℕ) → length (clean r) ≤ length r
 unfolding clean
 clean-length r = omega (arith, cut-length r, trim-length (cut r))
@@ -55,6 +57,7 @@ feed-goes : (c : ℕ) → eqb c 10 ≡ true → length (clean (c ∷ [])) < 1
 unfolding everything
 feed-goes c e = rw (eqb-true c 10 e) (omega arith)
 
+-- a byte before it
 more-goes : (c : ℕ) (r : List ℕ) → length (clean r) < length r → length (clean (c ∷ r)) < length (c ∷ r)
 unfolding clean cut trim
 more-goes c r h =
@@ -67,17 +70,20 @@ Fed [] = Unit {0}
 Fed (r ∷ []) = Unit {0}
 Fed (r ∷ s ∷ rs) = (length (clean r) < length r) × Fed (s ∷ rs)
 
+-- a row with its feed before others
 fed-cons : (r : Row) (rs : List Row) → length (clean r) < length r → Fed rs → Fed (r ∷ rs)
 unfolding Fed
 fed-cons r [] h f = tt
 fed-cons r (s ∷ rs) h f = (h, f)
 
+-- a byte more in the first row
 fed-push : (c : ℕ) (rs : List Row) → Fed rs → Fed (push c rs)
 unfolding Fed
 fed-push c [] f = tt
 fed-push c (r ∷ []) f = tt
 fed-push c (r ∷ s ∷ rs) f = (more-goes c r (f .0), f .1)
 
+-- so are the rows of any text
 pub rows-fed : (t : List ℕ) → Fed (rows t)
 unfolding rows Fed
 rows-fed [] = tt
@@ -96,11 +102,13 @@ KindFits n tune = Unit {0}
 KindFits n other = Unit {0}
 KindFits n (music hi es l) = (1 ≤ length l) × (length l ≤ n)
 
+-- a line that begins with two bytes has them
 begins-two : (a b : ℕ) (l : List ℕ) → begins a b l ≡ true → 2 ≤ length l
 begins-two a b [] e = absurd (false≢true e)
 begins-two a b (x ∷ []) e = absurd (false≢true e)
 begins-two a b (x ∷ y ∷ r) e = omega arith
 
+-- a line that is not empty
 some-bytes : (l : List ℕ) → isNil l ≡ false → 1 ≤ length l
 some-bytes [] e = absurd (false≢true (sym e))
 some-bytes (c ∷ l) e = omega arith
@@ -110,21 +118,25 @@ no-word : identifier [] ≡ []
 unfolding everything
 no-word = refl
 
+-- a V line with an identifier
 voice-three : (l : List ℕ) → 2 ≤ length l → isNil (identifier (drop 2 l)) ≡ false → 3 ≤ length l
 voice-three [] h e = absurd (omega (arith, h))
 voice-three (a ∷ []) h e = absurd (omega (arith, h))
 voice-three (a ∷ b ∷ []) h e = absurd (false≢true (sym e ∙ ap isNil no-word))
 voice-three (a ∷ b ∷ c ∷ r) h e = omega arith
 
+-- a V line
 voice-fits : (l : List ℕ) → isV l ≡ true → KindFits (length l) (voiceKind (drop 2 l))
 unfolding voiceKind KindFits
 voice-fits l v =
     by-test (isNil (identifier (drop 2 l))) (λ e. rw e tt) (λ e. rw e (voice-three l (begins-two 86 58 l v) e))
 
+-- a K line
 key-fits : (l : List ℕ) → isK l ≡ true → KindFits (length l) (keyKind (drop 2 l))
 unfolding keyKind KindFits
 key-fits l v = by-test (middleWord (drop 2 l)) (λ e. rw e tt) (λ e. rw e (begins-two 75 58 l v))
 
+-- a field
 field-fits : (l : List ℕ) → KindFits (length l) (fieldKind l)
 unfolding fieldKind KindFits
 field-fits l =
@@ -137,6 +149,7 @@ field-fits l =
     (by-test (isM l) (λ k. rw k (by-test (hasHigh l) (λ m. rw m tt) (λ m. rw m (begins-two 77 58 l k))))
     (λ k. rw k (by-test (isX l) (λ m. rw m tt) (λ m. rw m tt)))))))))
 
+-- any line
 pub kind-fits : (l : List ℕ) → KindFits (length l) (lineKind l)
 unfolding lineKind KindFits
 kind-fits l =

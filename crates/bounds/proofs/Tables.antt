@@ -71,6 +71,7 @@ module _ (p : Prices) (paid : Covered p) where
 item-paid : Paid 2 0 1 1 0
 item-paid = record { bytes = lit≤ tt; lines = lit≤ tt; feed = lit≤ tt; voices = lit≤ tt }
 
+-- two for each item
 count-total : (a : Items) → total 2 0 1 1 0 a ≡ 2 * length a
 count-total [] = refl
 count-total (x ∷ a) = omega (arith, count-total a)
@@ -91,9 +92,11 @@ mine-bytes q (x ∷ a) = by-test (eqb (x .0) q) (λ e. rw e (omega (arith, mine-
 table-paid : Paid rowPrice (tablePrices .byte) textPays feedPays 0
 table-paid = record { bytes = lit≤ tt; lines = lit≤ tt; feed = lit≤ tt; voices = lit≤ tt }
 
+-- the tables' prices are covered
 table-covered : Covered tablePrices
 table-covered = record { notes = lit≤ tt; measures = lit≤ tt; accidentals = lit≤ tt; syllables = lit≤ tt }
 
+-- rows, and bytes
 table-total : (a : Items) → total rowPrice (tablePrices .byte) textPays feedPays 0 a ≡ rowPrice * length a + tablePrices .byte * sum (λ (x : ℕ × Item). itemBytes (x .1)) a
 table-total [] = refl
 table-total (x ∷ a) = omega (arith, table-total a)
@@ -107,6 +110,7 @@ lines-most text t a e =
     let h : Bill rowPrice (tablePrices .byte) textPays feedPays 0 begin n t a = subst (Holds (Bill rowPrice (tablePrices .byte) textPays feedPays 0 begin n)) e (rows-bill rowPrice (tablePrices .byte) textPays feedPays 0 table-paid (rows text) (rows-fed text) begin) in
     omega (arith, h, table-total a, rows-length text)
 
+-- music and lyrics
 bytes-both : (is : List Item) → sum itemBytes is ≡ sum musicBytes is + sum lyricBytes is
 unfolding itemBytes
 bytes-both is = sum-both musicBytes lyricBytes is

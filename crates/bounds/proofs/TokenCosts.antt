@@ -35,9 +35,11 @@ use Rattle.bounds.proofs.Generic.{span-wider, spans-wider, times-more}
 abbrev pub inChord : ℕ → Bool
 inChord c = not (is "]" c)
 
+-- a comma does not
 comma-in : (c : ℕ) → is "," c ≡ true → inChord c ≡ true
 comma-in c e = rw (eqb-true c 44 e)
 
+-- nor does an apostrophe
 apostrophe-in : (c : ℕ) → is "'" c ≡ true → inChord c ≡ true
 apostrophe-in c e = rw (eqb-true c 39 e)
 
@@ -71,14 +73,17 @@ module _ (p : Prices) (paid : Covered p) where
   costs-cons c a o n none h = tt
   costs-cons c a o n (some ws) h = by-test (o .fine) (λ e. rw (e, consPitch) (omega arith)) (λ e. rw (e, consPitch) tt)
 
+  -- a byte pays for an accidental
   mark-paid : (a : Option Accidental) → markCost p a ≤ p .byte
   unfolding markCost
   mark-paid none = zero-le
   mark-paid (some a) = paid .accidentals
 
+  -- and for a pitch
   pitch-paid : p .pitch ≤ p .byte
   pitch-paid = omega (arith, paid .notes)
 
+  -- no accidental costs nothing
   none-cost : markCost p none ≡ 0
   unfolding markCost
   none-cost = refl
@@ -146,6 +151,7 @@ module _ (p : Prices) (paid : Covered p) where
   pays : (cost n used : ℕ) → cost ≤ p .byte * n → n ≤ used → cost ≤ p .byte * used
   pays cost n used h l = omega (arith, times-more (p .byte) n used l)
 
+  -- one byte
   byte-once : p .byte ≤ p .byte * 1
   byte-once = omega arith
 
@@ -158,6 +164,7 @@ module _ (p : Prices) (paid : Covered p) where
       let l = lengthOf s in
       pays (p .note + p .kept + sum (writtenCost p) (w ∷ ws)) (suc m) (n + l .used + behind (drop (l .used) s) .used) (omega (arith, mul-suc (p .byte) m, paid .notes)) (omega arith)
 
+  -- the same from its bracket on
   chordAt-paid : (s : List ℕ) → tokenCost p (chordAt s .token) ≤ p .byte * chordAt s .used
   unfolding chordAt
   chordAt-paid s =

@@ -52,6 +52,7 @@ solid-end (c ∷ []) a = by-test (isSpace c) (λ e. absurd (false≢true (rw e a
 solid-end (c ∷ d ∷ s) a =
     ap (consTrim c) (solid-end (d ∷ s) (and-right (not (isSpace c)) (all (λ c. not (isSpace c)) (d ∷ s)) a))
 
+-- at neither end
 pub solid-trimmed : (s : List ℕ) → all (λ c. not (isSpace c)) s ≡ true → trimmed s ≡ s
 unfolding trimmed trimStart
 solid-trimmed [] a = solid-end [] a
@@ -64,6 +65,7 @@ digits-solid (c ∷ d) a = rw (digit-solid c (and-left (isDigit c) (all isDigit 
 
 -- BEFORE AND AFTER A MARK that is no digit
 module _ (x : ℕ) (n : isDigit x ≡ false) where
+  -- the byte is the mark
   abbrev at : ℕ → Bool
   at c = eqb c x
 
