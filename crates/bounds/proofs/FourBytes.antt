@@ -20,7 +20,7 @@ use Rattle.reader.specs.Lyrics.{Syllable}
 use Rattle.reader.specs.Part.{Part, build, emptyPart}
 use Rattle.reader.specs.Records.{passBits, tagged, byVoice, allNotes, isSung, lyricsOf, notesOf, pitchesOf, lyrics, lyricText, sections}
 use Rattle.reader.specs.Answer.{Verdict, refusal, reading, mostBytes, refusedWith, isMusic, built, parts, partBytes, encode, written, parseAbc}
-use Rattle.reader.proofs.Sizes.{Fours, four-voices, sections-length}
+use Rattle.reader.proofs.Sizes.{Fours, built-fours, sections-length}
 use Rattle.bounds.specs.Ranges.{PassesFit, MeasureFits, PartFits, FourBytes, CountsFit}
 use Rattle.bounds.proofs.ScanCosts.{voiceCount}
 use Rattle.bounds.proofs.Reading.{partsAfter, parts-fit, parts-most, outcome-cases}
@@ -106,10 +106,6 @@ counts-fit p f h l =
     }
 
 -- THE PARTS OF A READING
-built-fours : (e : Env) (is : List Item) → Fours (built e is .measures)
-unfolding built emptyPart
-built-fours e is = by-test (any isMusic is) (λ m. rw m (four-voices (e .headerKey) is)) (λ m. rw m tt)
-
 -- the counts of each part
 parts-counts : (e : Env) (a : Items) (n q : ℕ) → All PartFits (parts e (λ p. mine p a) n q) → length (partBytes (parts e (λ p. mine p a) n q)) < 2 ^ 32 → All CountsFit (parts e (λ p. mine p a) n q)
 unfolding parts partBytes

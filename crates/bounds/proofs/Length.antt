@@ -60,10 +60,10 @@ shares-all n q [] = none n q
 shares-all n q (x ∷ a) = omega (arith, shares-once n q x a, shares-all n q a)
 
 -- THE PARTS
-pub parts-length : (e : Env) (f : ℕ → List Item) (n q : ℕ) → length (parts e f n q) ≡ n
+pub parts-count : (e : Env) (f : ℕ → List Item) (n q : ℕ) → length (parts e f n q) ≡ n
 unfolding parts
-parts-length e f zero q = refl
-parts-length e f (suc n) q = ap suc (parts-length e f n (suc q))
+parts-count e f zero q = refl
+parts-count e f (suc n) q = ap suc (parts-count e f n (suc q))
 
 -- 48 bytes for each, and 23 for each byte of its lines
 pub parts-bound : (e : Env) (a : Items) (n q : ℕ) → length (partBytes (parts e (λ p. mine p a) n q)) ≤ 48 * n + 23 * shares n q a

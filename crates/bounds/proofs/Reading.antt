@@ -26,7 +26,7 @@ use Rattle.bounds.proofs.ScanCosts.{Holds, Silent, voiceCount}
 use Rattle.bounds.proofs.ScanRanges.{ItemsFit, OutFits, ScanFits, scan-out}
 use Rattle.bounds.proofs.LyricRanges.{part-fits, empty-fits}
 use Rattle.bounds.proofs.RecordBytes.{both, sections-bytes}
-use Rattle.bounds.proofs.Length.{parts-length, encode-bound, silent-parts, scan-bound}
+use Rattle.bounds.proofs.Length.{parts-count, encode-bound, silent-parts, scan-bound}
 
 -- UTF-8 IS OF BYTES
 not-within : (a b c : ℕ) → b < c → within a b c ≡ false
@@ -122,7 +122,7 @@ partsAfter t a = parts (t .env) (λ p. mine p a) (voiceCount t) 0
 
 -- they are 32 at most
 pub parts-most : (t : ScanState) (a : Items) → ScanFits t → length (partsAfter t a) ≤ mostVoices
-parts-most t a h = omega (arith, parts-length (t .env) (λ p. mine p a) (voiceCount t) 0, h .voices-in)
+parts-most t a h = omega (arith, parts-count (t .env) (λ p. mine p a) (voiceCount t) 0, h .voices-in)
 
 -- where there is a measure, 23 bytes for each byte of the text are enough
 enough : (text : List ℕ) (t : ScanState) (a : Items) → Silent a ⊎ (4 + 48 * voiceCount t + 23 * sum (λ (x : ℕ × Item). itemBytes (x .1)) a ≤ 23 * length text)

@@ -72,6 +72,7 @@ before-count s = unnamed-count (s .opened) (s .env .voices)
 
 -- THE BILL OF A ROW: an item's price and what a byte of its line costs, what a byte of the text pays, what is left to the line feed, what a voice costs
 module _ (item byte pays rest voiceCost : ℕ) where
+  -- what each byte pays covers these prices
   pub record Paid : Type 0 where
     -- a line of one byte, and its feed
     pub bytes : byte ≤ pays

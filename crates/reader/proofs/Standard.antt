@@ -30,10 +30,10 @@ use Rattle.reader.specs.Text.{isSpace}
 use Rattle.reader.specs.Pieces.{pieces, mark, after}
 use Rattle.reader.specs.Fields.{meterOf, meterText, meterOr, meterNumber, meterBottom, orFour, unitOf, unitInline, unitText, unitNumber, lineUnit, inlineUnit, orEight}
 use Rattle.reader.specs.Pitches.{Octave, octaveFrom, Before, accidentalOf, signs}
-use Rattle.reader.specs.Token.{Taken, taken, barline, tuplet}
+use Rattle.reader.specs.Token.{Taken, taken, barline, tuplet, volta}
 use Rattle.reader.specs.Tuplets.{notZero, positive, normalFor, orOneLess, counted, withCount, withNormal, withActual, tupletOf}
 use Rattle.reader.specs.Barlines.{barlineOf}
-use Rattle.reader.specs.PassLists.{passNumber, itemOf, single, range, lastPass, inTurn, passList}
+use Rattle.reader.specs.PassLists.{passNumber, itemOf, single, range, lastPass, inTurn, passList, isPassByte, voltaAs, voltaOf}
 use Rattle.reader.specs.State.{Note, withBeam}
 use Rattle.reader.specs.Part.{canBeam, beamed, runAfter}
 use Rattle.reader.specs.All.{all as everything}
@@ -223,6 +223,38 @@ unfolding passList itemOf range inTurn
 range-meets d e nd ne ad ae zd ze low less high =
     rw (pieces-two 45 refl d e ad, pieces-digits 45 refl e ae, pass-meets d nd ad zd (omega arith), pass-meets e ne ae ze high, lt-ltb 0 (decimal 0 d) low, lt-ltb (decimal 0 d) (decimal 0 e) less)
     (ap some (append-nil (passesOf (passes (decimal 0 d) (decimal 0 e)))))
+
+-- a digit is a pass byte
+digit-pass : (d : List ℕ) → all isDigit d ≡ true → all isPassByte d ≡ true
+digit-pass [] a = refl
+digit-pass (c ∷ d) a = rw (and-left (isDigit c) (all isDigit d) a) (digit-pass d (and-right (isDigit c) (all isDigit d) a))
+
+-- in a music line: `[` and a number, before what is no pass byte
+pub ending-meets : (d s : List ℕ) → 0 < length d → all isDigit d ≡ true → is "0" (first d) ≡ false → 1 ≤ decimal 0 d → decimal 0 d ≤ 32 → span isPassByte s ≡ 0
+    → voltaOf (d ++ s) ≡ taken (volta (passesOf (pass (decimal 0 d)))) (suc (length d))
+unfolding voltaOf voltaAs
+ending-meets d s n a z low high r =
+    rw (span-front isPassByte d s (digit-pass d a) r, take-append-seam d s, pieces-digits 44 refl d a, single-meets d n a z low high)
+
+-- so are two numbers and a hyphen
+range-bytes : (d e : List ℕ) → all isDigit d ≡ true → all isDigit e ≡ true → all isPassByte (d ++ (45 ∷ e)) ≡ true
+range-bytes [] e a b = digit-pass e b
+range-bytes (c ∷ d) e a b = rw (and-left (isDigit c) (all isDigit d) a) (range-bytes d e (and-right (isDigit c) (all isDigit d) a) b)
+
+-- and they are one piece
+range-piece : (d e : List ℕ) → all isDigit d ≡ true → all isDigit e ≡ true → pieces (mark (is ",")) 0 (d ++ (45 ∷ e)) ≡ (d ++ (45 ∷ e)) ∷ []
+unfolding pieces
+range-piece [] e a b = rw (pieces-digits 44 refl e b)
+range-piece (c ∷ d) e a b = rw (digit-not c 44 (and-left (isDigit c) (all isDigit d) a) refl, pieces) (rw (range-piece d e (and-right (isDigit c) (all isDigit d) a) b))
+
+-- `[` and two numbers around a hyphen
+pub endings-meet : (d e s : List ℕ) → 0 < length d → 0 < length e → all isDigit d ≡ true → all isDigit e ≡ true → is "0" (first d) ≡ false → is "0" (first e) ≡ false
+    → 1 ≤ decimal 0 d → decimal 0 d < decimal 0 e → decimal 0 e ≤ 32 → span isPassByte s ≡ 0
+    → voltaOf ((d ++ (45 ∷ e)) ++ s) ≡ taken (volta (passesOf (passes (decimal 0 d) (decimal 0 e)))) (suc (length (d ++ (45 ∷ e))))
+unfolding voltaOf voltaAs
+endings-meet d e s nd ne ad ae zd ze low less high r =
+    let t : List ℕ = d ++ (45 ∷ e) in
+    rw (span-front isPassByte t s (range-bytes d e ad ae) r, take-append-seam t s, range-piece d e ad ae, range-meets d e nd ne ad ae zd ze low less high)
 
 -- BROKEN RHYTHM: two notes of equal length without dots keep their sum, where neither dots nor halving come to their end
 sums : ℕ → ℕ → Bool
