@@ -1,0 +1,5 @@
+mod Letters
+mod Accidentals
+mod Octaves
+mod InChord
+pub mod Walk
