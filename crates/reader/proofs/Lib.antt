@@ -4,3 +4,4 @@ pub mod WordLaws
 pub mod SharedLaws
 pub mod Sizes
 pub mod LineLaws
+pub mod ValueLaws

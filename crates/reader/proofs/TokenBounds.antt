@@ -222,7 +222,7 @@ unfolding brokenOf
 broken-in up n c s h = by-test (ltb 255 (suc n)) (λ e. rw (e, brokenOf) (omega arith)) (λ e. rw (e, brokenOf) (omega arith))
 
 -- a token of any class
-as-in : (k : Class) (c : ℕ) (s : List ℕ) → tokenAs k (c ∷ s) .used ≤ suc (length s)
+pub as-in : (k : Class) (c : ℕ) (s : List ℕ) → tokenAs k (c ∷ s) .used ≤ suc (length s)
 unfolding tokenAs restAs
 as-in white c s = omega arith
 as-in ampersand c s = omega arith

@@ -165,7 +165,7 @@ unfolding noteOf
 note-takes c s = note-takes-at (accidentalOf (c ∷ s)) (c ∷ s) (drop (accidentalOf (c ∷ s) .used) (c ∷ s)) refl (omega arith)
 
 -- a token of any class
-as-takes : (k : Class) (c : ℕ) (s : List ℕ) → 0 < tokenAs k (c ∷ s) .used
+pub as-takes : (k : Class) (c : ℕ) (s : List ℕ) → 0 < tokenAs k (c ∷ s) .used
 unfolding tokenAs restAs
 as-takes white c s = omega arith
 as-takes ampersand c s = omega arith

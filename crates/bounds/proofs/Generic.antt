@@ -1,0 +1,91 @@
+-- Laws of sums, spans and numbers that crate laws does not have.
+use Prim.Native.Nat.{ℕ, zero, suc, _+_, _-_, _*_, _≤_, _<_, zero-le, suc-le-suc}
+use mathlib.Core.Path.{_≡_, refl, sym, ap, _∙_}
+use mathlib.Core.Bool.{Bool, true, false, cond, not}
+use mathlib.Core.List.{List, [], _∷_, _++_, map, reverse, reverseAux}
+use native.Mathlib.Nat.{mul-le-mul, le-refl, mul-one, mul-add}
+use native.Mathlib.Omega.{arith}
+use lib.ListN.{length, getD, drop, length-map}
+use Rattle.laws.specs.Lists.{sum, span, alterAt, All}
+use Rattle.laws.proofs.Bools.{by-test}
+use Rattle.laws.proofs.Spans.{span-yes, span-no}
+
+-- SUMS
+module _ {ℓ} {A : Type ℓ} where
+  -- of a list turned around
+  sum-back : (f : A → ℕ) (xs ys : List A) → sum f (reverseAux xs ys) ≡ sum f xs + sum f ys
+  sum-back f [] ys = omega arith
+  sum-back f (x ∷ xs) ys = omega (arith, sum-back f xs (x ∷ ys))
+
+  pub sum-reverse : (f : A → ℕ) (xs : List A) → sum f (reverse xs) ≡ sum f xs
+  sum-reverse f xs = omega (arith, sum-back f xs [])
+
+  -- one element put in the place of another: the sum grows by what the element grows
+  pub sum-put : (f : A → ℕ) (k : ℕ) (v : A) (xs : List A) (e : A) (d : ℕ) → f v ≤ f (getD xs k e) + d → sum f (alterAt k (λ old. v) xs) ≤ sum f xs + d
+  sum-put f k v [] e d h = omega arith
+  sum-put f zero v (x ∷ xs) e d h = omega arith
+  sum-put f (suc k) v (x ∷ xs) e d h = omega (arith, sum-put f k v xs e d h)
+
+  -- one element changed, where any change costs d at most
+  pub sum-alter : (f : A → ℕ) (k : ℕ) (g : A → A) (d : ℕ) → ((x : A) → f (g x) ≤ f x + d) → (xs : List A) → sum f (alterAt k g xs) ≤ sum f xs + d
+  sum-alter f k g d h [] = omega arith
+  sum-alter f zero g d h (x ∷ xs) = omega (arith, h x)
+  sum-alter f (suc k) g d h (x ∷ xs) = omega (arith, sum-alter f k g d h xs)
+
+  -- equal numbers have equal sums
+  pub sum-same : (f g : A → ℕ) → ((x : A) → f x ≡ g x) → (xs : List A) → sum f xs ≡ sum g xs
+  sum-same f g h [] = refl
+  sum-same f g h (x ∷ xs) = omega (arith, h x, sum-same f g h xs)
+
+  -- how often one counts
+  pub sum-times : (n : ℕ) (xs : List A) → sum (λ x. n) xs ≡ n * length xs
+  sum-times n [] = omega arith
+  sum-times n (x ∷ xs) = let h = mul-add n 1 (length xs) in let e : 1 + length xs ≡ suc (length xs) = omega arith in omega (arith, sum-times n xs, rw e at h, mul-one n)
+
+  -- two sums at once
+  pub sum-both : (f g : A → ℕ) (xs : List A) → sum (λ x. f x + g x) xs ≡ sum f xs + sum g xs
+  sum-both f g [] = refl
+  sum-both f g (x ∷ xs) = omega (arith, sum-both f g xs)
+
+  -- so many times each
+  pub sum-mul : (n : ℕ) (f : A → ℕ) (xs : List A) → sum (λ x. n * f x) xs ≡ n * sum f xs
+  sum-mul n f [] = omega arith
+  sum-mul n f (x ∷ xs) = omega (arith, sum-mul n f xs, mul-add n (f x) (sum f xs))
+
+  -- what holds of each holds of the list turned around
+  All-back : (P : A → Type 0) (xs ys : List A) → All P xs → All P ys → All P (reverseAux xs ys)
+  All-back P [] ys p q = q
+  All-back P (x ∷ xs) ys p q = All-back P xs (x ∷ ys) (p .1) (p .0, q)
+
+  -- at any place, where it holds of what stands past the end
+  pub All-here : (P : A → Type 0) (xs : List A) → All P xs → (i : ℕ) (d : A) → P d → P (getD xs i d)
+  All-here P [] p i d q = q
+  All-here P (x ∷ xs) p zero d q = p .0
+  All-here P (x ∷ xs) p (suc i) d q = All-here P xs (p .1) i d q
+
+  pub All-reverse : (P : A → Type 0) (xs : List A) → All P xs → All P (reverse xs)
+  All-reverse P xs p = All-back P xs [] p tt
+
+-- SPANS
+module _ {ℓ} {A : Type ℓ} (p q r : A → Bool) (pr : (c : A) → p c ≡ true → r c ≡ true) (qr : (c : A) → q c ≡ true → r c ≡ true) where
+  -- what passes one test passes a wider one
+  pub span-wider : (s : List A) → span q s ≤ span r s
+  span-wider [] = zero-le
+  span-wider (c ∷ s) =
+      by-test (q c) (λ e. rw (span-yes q c s e, span-yes r c s (qr c e)) (suc-le-suc (span-wider s))) (λ e. rw (span-no q c s e) zero-le)
+
+  -- two kinds, one after the other, within a wider one
+  pub spans-wider : (s : List A) → span p s + span q (drop (span p s) s) ≤ span r s
+  spans-wider [] = zero-le
+  spans-wider (c ∷ s) =
+      by-test (p c) (λ e. rw (span-yes p c s e, span-yes r c s (pr c e)) (omega (arith, spans-wider s)))
+      (λ e. rw (span-no p c s e) (omega (arith, span-wider (c ∷ s))))
+
+-- NUMBERS
+-- a product grows with its second factor
+pub times-more : (n a b : ℕ) → a ≤ b → n * a ≤ n * b
+times-more n a b h = mul-le-mul (le-refl n) h
+
+-- and with its first
+pub times-dearer : (m n a : ℕ) → m ≤ n → m * a ≤ n * a
+times-dearer m n a h = mul-le-mul h (le-refl a)

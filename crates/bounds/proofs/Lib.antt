@@ -1,0 +1,12 @@
+pub mod Generic
+pub mod TokenCosts
+pub mod PartCosts
+pub mod LyricCosts
+pub mod Counts
+pub mod RowCosts
+pub mod ScanCosts
+pub mod Length
+pub mod TokenRanges
+pub mod PartRanges
+pub mod LyricRanges
+pub mod ScanRanges

@@ -1,0 +1,396 @@
+-- The numbers of each token are in their ranges.
+use Prim.Native.Nat.{ℕ, zero, suc, _+_, _-_, _^_, _%_, min, _≤_, _<_, zero-le}
+use mathlib.Core.Path.{_≡_, refl, sym, ap, _∙_}
+use mathlib.Core.Bool.{Bool, true, false, cond, not, _&&_, _||_}
+use mathlib.Core.Option.{Option, none, some}
+use mathlib.Core.List.{List, [], _∷_, _++_}
+use native.Mathlib.Nat.{add-zero}
+use native.Mathlib.Omega.{arith}
+use lib.Dec.{ltb, leb, eqb, lit<, lit≤}
+use lib.ListN.{length, take, drop}
+use borrow.Author.Tests.{ltb-true, ltb-false, leb-true, eqb-false}
+use Rattle.laws.specs.Lists.{span, all, isNil, eqText, All}
+use Rattle.laws.proofs.Bools.{by-test, and-left, and-right}
+use Rattle.standard.specs.Bytes.{ascii, is, isDigit, first, decimal, digits}
+use Rattle.standard.specs.Fields.{Meter, namedMeter}
+use Rattle.standard.specs.Passes.{Item, pass, passes, rising, passesOf}
+use Rattle.standard.specs.Bars.{Symbol, barSymbols, symbolAt}
+use Rattle.standard.specs.Tuplets.{usualNormal}
+use Rattle.standard.specs.Pitches.{Accidental, Written, isLetter, stepOf, letterOctave}
+use Rattle.reader.specs.Lengths.{lengthOf}
+use Rattle.reader.specs.Pieces.{numeral, before, after, pieces, mark, trimmed}
+use Rattle.reader.specs.Fields.{orFour, meterNumber, meterBottom, meterOr, meterText, meterOf, unitInline, middleWord}
+use Rattle.reader.specs.Pitches.{Octave, octaveFrom, octaveOf, Before, signs, accidentalOf, natural, quarterTone, moved, added, isQuarter, consPitch, chordOf}
+use Rattle.reader.specs.Token.{Token, quoted, decoration, skipped, Taken, taken}
+use Rattle.reader.specs.Tuplets.{notZero, positive, orOneLess, normalFor, counted, withCount, withNormal, withActual, tupletOf, orSlur}
+use Rattle.reader.specs.Barlines.{barlineAs, barlineOf}
+use Rattle.reader.specs.PassLists.{passNumber, single, range, itemOf, lastPass, inTurn, isPassByte, passList, voltaAs, voltaOf}
+use Rattle.reader.specs.Inline.{unitToken, keyToken, fieldToken, isInline, inlineAt}
+use Rattle.reader.specs.Sounds.{behind, chordTaken, chordAt, restAs, noteAs, noteAfter, noteOf}
+use Rattle.reader.specs.Tokens.{closedBy, brokenOf, bracketOf, Class, white, ampersand, quote, more, less, paren, braceOpen, braceClose, bang, plus, bars, bracket, pitched, none-of-these, resting, classOf, tokenAs, tokenOf, tokens}
+use Rattle.bounds.specs.Ranges.{MeterFits, PassesFit, MarkFits, WrittenFits, TokenFits}
+
+-- NUMBERS
+-- a number that is read is at most what may be read
+unfoldable pub Most : ℕ → Option ℕ → Type 0
+Most top none = Unit {0}
+Most top (some v) = v ≤ top
+
+pub digits-most : (top : ℕ) (s : List ℕ) → Most top (digits top s)
+unfolding digits Most
+digits-most top s =
+    by-test (not (isNil s) && all isDigit s && leb (decimal 0 s) top)
+    (λ e. rw (e, digits) (leb-true (decimal 0 s) top (and-right (not (isNil s) && all isDigit s) (leb (decimal 0 s) top) e)))
+    (λ e. rw (e, digits) tt)
+
+pub numeral-most : (top : ℕ) (s : List ℕ) → Most top (numeral top s)
+unfolding numeral
+numeral-most top s = by-test (is "+" (first s)) (λ e. rw (e, numeral) (digits-most top (drop 1 s))) (λ e. rw (e, numeral) (digits-most top s))
+
+-- METERS
+four-most : (o : Option ℕ) → Most 255 o → orFour o < 256
+unfolding orFour Most
+four-most none h = lit< tt
+four-most (some v) h = omega arith
+
+number-most : (s : List ℕ) → meterNumber s < 256
+unfolding meterNumber
+number-most s = four-most (numeral 255 (trimmed s)) (numeral-most 255 (trimmed s))
+
+bottom-most : (o : Option (List ℕ)) → meterBottom o < 256
+unfolding meterBottom
+bottom-most none = lit< tt
+bottom-most (some s) = number-most s
+
+unfoldable NamedFits : Option Meter → Type 0
+NamedFits none = Unit {0}
+NamedFits (some m) = MeterFits m
+
+named-fits : (m : List ℕ) → NamedFits (namedMeter m)
+unfolding namedMeter NamedFits
+named-fits m =
+    by-test (eqText m (ascii "C")) (λ e. rw (e, namedMeter) (lit< tt, lit< tt))
+    (λ e. rw (e, namedMeter) (by-test (eqText m (ascii "C|")) (λ f. rw f (lit< tt, lit< tt)) (λ f. rw f tt)))
+
+or-fits : (m : List ℕ) (o : Option Meter) → NamedFits o → MeterFits (meterOr m o)
+unfolding meterOr NamedFits
+or-fits m (some t) h = h
+or-fits m none h =
+    by-test (eqText m (ascii "c|")) (λ e. rw (e, meterOr) (lit< tt, lit< tt))
+    (λ e. rw (e, meterOr) (number-most (before (is "/") m), bottom-most (after (is "/") m)))
+
+-- top and bottom of an M field are below 256
+pub meter-fits : (s : List ℕ) → MeterFits (meterOf s)
+unfolding meterOf meterText
+meter-fits s = or-fits (trimmed s) (namedMeter (trimmed s)) (named-fits (trimmed s))
+
+-- PASS LISTS
+pass-most : (s : List ℕ) → Most 32 (passNumber s)
+unfolding passNumber Most
+pass-most s = by-test (is "0" (first s)) (λ e. rw e tt) (λ e. rw e (digits-most 32 s))
+
+-- an item lies above `low`, and its last pass is at most 32
+unfoldable ItemAbove : ℕ → Option Item → Type 0
+ItemAbove low none = Unit {0}
+ItemAbove low (some (pass a)) = (low < a) × (a ≤ 32)
+ItemAbove low (some (passes a b)) = (low < a) × ((a < b) × (b ≤ 32))
+
+single-above : (low : ℕ) (o : Option ℕ) → Most 32 o → ItemAbove low (single low o)
+unfolding single Most ItemAbove
+single-above low none h = tt
+single-above low (some a) h = by-test (ltb low a) (λ e. rw e (ltb-true low a e, h)) (λ e. rw e tt)
+
+range-above : (low : ℕ) (o q : Option ℕ) → Most 32 q → ItemAbove low (range low o q)
+unfolding range Most ItemAbove
+range-above low none q h = tt
+range-above low (some a) none h = tt
+range-above low (some a) (some b) h =
+    by-test (ltb low a && ltb a b)
+    (λ e. rw e (ltb-true low a (and-left (ltb low a) (ltb a b) e), (ltb-true a b (and-right (ltb low a) (ltb a b) e), h)))
+    (λ e. rw e tt)
+
+item-above : (low : ℕ) (ps : List (List ℕ)) → ItemAbove low (itemOf low ps)
+unfolding itemOf ItemAbove
+item-above low [] = tt
+item-above low (a ∷ []) = single-above low (passNumber a) (pass-most a)
+item-above low (a ∷ b ∷ []) = range-above low (passNumber a) (passNumber b) (pass-most b)
+item-above low (a ∷ b ∷ c ∷ s) = tt
+
+-- the passes from a on, n + 1 of them, before others
+rising-fits : (low a n : ℕ) (qs : List ℕ) → low < a → a + n ≤ 32 → PassesFit (a + n) qs → PassesFit low (rising a (suc n) ++ qs)
+unfolding rising PassesFit
+rising-fits low a zero qs h l f = (h, (omega arith, rw (add-zero a) at f))
+rising-fits low a (suc n) qs h l f =
+    let e : suc a + n ≡ a + suc n = omega arith in
+    (h, (omega arith, rising-fits a (suc a) n qs (omega arith) (omega arith) (rw e f)))
+
+unfoldable ListFits : ℕ → Option (List ℕ) → Type 0
+ListFits low none = Unit {0}
+ListFits low (some ps) = PassesFit low ps
+
+turn-fits : (low : ℕ) (i : Option Item) (o : Option (List ℕ)) → ItemAbove low i → ListFits (lastPass low i) o → ListFits low (inTurn i o)
+unfolding inTurn ItemAbove ListFits lastPass passesOf PassesFit
+turn-fits low none o h f = tt
+turn-fits low (some (pass a)) none h f = tt
+turn-fits low (some (passes a b)) none h f = tt
+turn-fits low (some (pass a)) (some qs) h f = (h .0, (h .1, f))
+turn-fits low (some (passes a b)) (some qs) h f =
+    let e : a + (b - a) ≡ b = omega (arith, h .1 .0) in
+    rising-fits low a (b - a) qs (h .0) (omega (arith, h .1 .0, h .1 .1)) (rw e f)
+
+list-fits : (low : ℕ) (xs : List (List ℕ)) → ListFits low (passList low xs)
+unfolding passList ListFits PassesFit
+list-fits low [] = tt
+list-fits low (x ∷ xs) =
+    let i = itemOf low (pieces (mark (is "-")) 0 x) in
+    turn-fits low i (passList (lastPass low i) xs) (item-above low (pieces (mark (is "-")) 0 x)) (list-fits (lastPass low i) xs)
+
+-- TUPLETS
+zero-most : (top : ℕ) (o : Option ℕ) → Most top o → Most top (notZero o)
+unfolding notZero Most
+zero-most top none h = tt
+zero-most top (some v) h = by-test (eqb v 0) (λ e. rw e tt) (λ e. rw e h)
+
+pub positive-most : (top : ℕ) (s : List ℕ) → Most top (positive top s)
+unfolding positive
+positive-most top s = zero-most top (digits top (take (span isDigit s) s)) (digits-most top (take (span isDigit s) s))
+
+less-most : (p : ℕ) (o : Option ℕ) → p ≤ 255 → Most 255 o → orOneLess p o ≤ 255
+unfolding orOneLess Most
+less-most p none h k = omega arith
+less-most p (some q) h k = k
+
+usual-most : (p : ℕ) → Most 255 (usualNormal p)
+unfolding usualNormal Most
+usual-most p =
+    by-test (eqb p 2 || eqb p 4) (λ e. rw (e, usualNormal) (lit≤ tt))
+    (λ e. rw (e, usualNormal) (by-test (eqb p 3) (λ f. rw f (lit≤ tt)) (λ f. rw f tt)))
+
+normal-most : (p : ℕ) → p ≤ 255 → normalFor p ≤ 255
+unfolding normalFor
+normal-most p h = less-most p (usualNormal p) h (usual-most p)
+
+-- a tuplet's answer, if it is one
+unfoldable TakenFits : Option Taken → Type 0
+TakenFits none = Unit {0}
+TakenFits (some t) = TokenFits (t .token)
+
+counted-fits : (p q n : ℕ) (o : Option ℕ) → p ≤ 255 → q ≤ 255 → TakenFits (counted p q n o)
+unfolding counted TakenFits TokenFits
+counted-fits p q n none h k = tt
+counted-fits p q n (some r) h k = (omega arith, omega arith)
+
+count-fits : (p q n : ℕ) (s : List ℕ) → p ≤ 255 → q ≤ 255 → TakenFits (withCount p q n s)
+unfolding withCount TakenFits TokenFits
+count-fits p q n s h k =
+    by-test (is ":" (first s))
+    (λ e. rw (e, withCount) (counted-fits p q (n + 1 + span isDigit (drop 1 s)) (positive (2 ^ 64 - 1) (drop 1 s)) h k))
+    (λ e. rw (e, withCount) (omega arith, omega arith))
+
+normal-fits : (p n : ℕ) (s : List ℕ) (o : Option ℕ) → p ≤ 255 → Most 255 o → TakenFits (withNormal p n s o)
+unfolding withNormal TakenFits Most
+normal-fits p n s none h k = tt
+normal-fits p n s (some q) h k = count-fits p q (n + 1 + span isDigit (drop 1 s)) (drop (1 + span isDigit (drop 1 s)) s) h k
+
+actual-fits : (n : ℕ) (s : List ℕ) (o : Option ℕ) → Most 255 o → TakenFits (withActual n s o)
+unfolding withActual TakenFits TokenFits Most
+actual-fits n s none h = tt
+actual-fits n s (some p) h =
+    by-test (ltb p 2)
+    (λ e. rw (e, withActual) tt)
+    (λ e. rw (e, withActual)
+    (by-test (is ":" (first s)) (λ f. rw (f, withActual) (normal-fits p n s (positive 255 (drop 1 s)) h (positive-most 255 (drop 1 s))))
+    (λ f. rw (f, withActual) (omega arith, omega (arith, normal-most p h)))))
+
+slur-fits : (o : Option Taken) → TakenFits o → TokenFits (orSlur o .token)
+unfolding orSlur TakenFits TokenFits
+slur-fits none h = tt
+slur-fits (some t) h = h
+
+tuplet-fits : (s : List ℕ) → TokenFits (orSlur (tupletOf s) .token)
+unfolding tupletOf
+tuplet-fits s = slur-fits (tupletOf s) (actual-fits (1 + span isDigit s) (drop (span isDigit s) s) (positive 255 s) (positive-most 255 s))
+
+-- PITCHES
+step-small : (c : ℕ) → stepOf c < 7
+unfolding stepOf
+step-small c = omega arith
+
+octave-small : (c : ℕ) (s : List ℕ) → octaveOf c s .fine ≡ true → octaveOf c s .octave < 256
+unfolding octaveOf octaveFrom
+octave-small c s e =
+    let start = letterOctave c in
+    let down = span (is ",") s in
+    let up = span (is "'") (drop down s) in
+    omega (arith, leb-true (start - down + up) 255 (and-right (leb down start) (leb (start - down + up) 255) e))
+
+moved-small : (up : Bool) (n a : ℕ) → a < 256 → moved up n a < 256
+moved-small true n a h = omega arith
+moved-small false n a h = omega arith
+
+quarter-fits : (up : Bool) → MarkFits (some (quarterTone up))
+unfolding MarkFits
+quarter-fits true = (lit< tt, lit< tt)
+quarter-fits false = (lit< tt, lit< tt)
+
+signs-fit : (up : Bool) (n : ℕ) (s : List ℕ) → MarkFits (signs up n s .mark)
+unfolding signs MarkFits
+signs-fit up n s =
+    by-test (eqb n 1 && is "/" (first (drop n s))) (λ e. rw (e, signs) (quarter-fits up)) (λ e. rw (e, signs) (moved-small up n 128 (lit< tt), lit< tt))
+
+accidental-fits : (s : List ℕ) → MarkFits (accidentalOf s .mark)
+unfolding accidentalOf MarkFits
+accidental-fits s =
+    by-test (is "^" (first s)) (λ e. rw (e, accidentalOf) (signs-fit true (span (is "^") s) s))
+    (λ e. rw (e, accidentalOf)
+    (by-test (is "_" (first s)) (λ f. rw (f, accidentalOf) (signs-fit false (span (is "_") s) s))
+    (λ f. rw (f, accidentalOf) (by-test (is "=" (first s)) (λ g. rw g (lit< tt, lit< tt)) (λ g. rw g tt)))))
+
+added-fits : (up : Bool) (a : Option Accidental) → MarkFits a → MarkFits (some (added up a))
+unfolding added MarkFits
+added-fits up none h = (moved-small up 1 128 (lit< tt), lit< tt)
+added-fits up (some a) h = (moved-small up 1 (a .alter) (h .0), lit< tt)
+
+-- a chord's pitches, unless one is refused
+unfoldable ChordFits : Option (List Written) → Type 0
+ChordFits none = Unit {0}
+ChordFits (some ws) = All WrittenFits ws
+
+cons-fits : (c : ℕ) (a : Option Accidental) (s : List ℕ) (r : Option (List Written)) → MarkFits a → ChordFits r → ChordFits (consPitch c a (octaveOf c s) r)
+unfolding consPitch ChordFits
+cons-fits c a s none h k = tt
+cons-fits c a s (some ws) h k =
+    by-test (octaveOf c s .fine)
+    (λ e. rw (e, consPitch) (record { step-fits = step-small c; octave-fits = octave-small c s e; mark-fits = h }, k))
+    (λ e. rw (e, consPitch) tt)
+
+no-mark : MarkFits none
+unfolding MarkFits
+no-mark = tt
+
+natural-fits : MarkFits (some natural)
+unfolding MarkFits
+natural-fits = (lit< tt, lit< tt)
+
+chord-fits : (k : ℕ) (a : Option Accidental) (s : List ℕ) → MarkFits a → ChordFits (chordOf k a s)
+unfolding chordOf ChordFits
+chord-fits k a [] h = tt
+chord-fits zero a (c ∷ s) h =
+    by-test (is "]" c) (λ e. rw (e, chordOf) tt)
+    (λ e. rw (e, chordOf)
+    (by-test (is "^" c || is "_" c)
+    (λ f. rw (f, chordOf)
+    (by-test (isQuarter a s) (λ g. rw (g, chordOf) (chord-fits 1 (some (quarterTone (is "^" c))) s (quarter-fits (is "^" c))))
+    (λ g. rw (g, chordOf) (chord-fits 0 (some (added (is "^" c) a)) s (added-fits (is "^" c) a h)))))
+    (λ f. rw (f, chordOf)
+    (by-test (is "=" c) (λ g. rw (g, chordOf) (chord-fits 0 (some natural) s natural-fits))
+    (λ g. rw (g, chordOf)
+    (by-test (isLetter c)
+    (λ i. rw (i, chordOf) (cons-fits c a s (chordOf (octaveOf c s .used) none s) h (chord-fits (octaveOf c s .used) none s no-mark)))
+    (λ i. rw (i, chordOf) (chord-fits 0 a s h))))))))
+chord-fits (suc k) a (c ∷ s) h = chord-fits k a s h
+
+-- TOKENS
+taken-fits : (n : ℕ) (s : List ℕ) (o : Option (List Written)) → ChordFits o → TokenFits (chordTaken n s o .token)
+unfolding chordTaken ChordFits TokenFits
+taken-fits n s none h = (lit≤ tt, lit≤ tt)
+taken-fits n s (some []) h = tt
+taken-fits n s (some (w ∷ ws)) h = h
+
+chordAt-fits : (s : List ℕ) → TokenFits (chordAt s .token)
+unfolding chordAt
+chordAt-fits s = let n = span (λ c. not (is "]" c)) s in taken-fits (cond (ltb n (length s)) (2 + n) (1 + n)) (drop (suc n) s) (chordOf 0 none s) (chord-fits 0 none s no-mark)
+
+noteAs-fits : (a : Before) (c : ℕ) (s : List ℕ) → MarkFits (a .mark) → TokenFits (noteAs a c s .token)
+unfolding noteAs TokenFits
+noteAs-fits a c s h =
+    by-test (octaveOf c s .fine)
+    (λ e. rw (e, noteAs) (record { step-fits = step-small c; octave-fits = octave-small c s e; mark-fits = h }))
+    (λ e. rw (e, noteAs) (lit≤ tt, lit≤ tt))
+
+noteAfter-fits : (a : Before) (r : List ℕ) → MarkFits (a .mark) → TokenFits (noteAfter a r .token)
+unfolding noteAfter TokenFits
+noteAfter-fits a [] h = tt
+noteAfter-fits a (c ∷ r) h = by-test (isLetter c) (λ e. rw (e, noteAfter) (noteAs-fits a c r h)) (λ e. rw (e, noteAfter) tt)
+
+note-fits : (s : List ℕ) → TokenFits (noteOf s .token)
+unfolding noteOf
+note-fits s = let a = accidentalOf s in noteAfter-fits a (drop (a .used) s) (accidental-fits s)
+
+closed-fits : (x : ℕ → Bool) (t : Token) (s : List ℕ) (other : Taken) → TokenFits t → TokenFits (other .token) → TokenFits (closedBy x t s other .token)
+unfolding closedBy
+closed-fits x t s other g h = by-test (ltb (span (λ c. not (x c)) s) (length s)) (λ e. rw (e, closedBy) g) (λ e. rw (e, closedBy) h)
+
+broken-fits : (up : Bool) (n : ℕ) (s : List ℕ) → TokenFits (brokenOf up n s .token)
+unfolding brokenOf TokenFits
+broken-fits up n s = by-test (ltb 255 n) (λ e. rw (e, brokenOf) (lit≤ tt, lit≤ tt)) (λ e. rw (e, brokenOf) (omega (arith, ltb-false 255 n e)))
+
+barline-fits : (s : List ℕ) (o : Option Symbol) → TokenFits (barlineAs s o .token)
+unfolding barlineAs TokenFits
+barline-fits s none = tt
+barline-fits s (some x) = tt
+
+volta-fits : (n : ℕ) (s : List ℕ) (o : Option (List ℕ)) → ListFits 0 o → TokenFits (voltaAs n s o .token)
+unfolding voltaAs ListFits TokenFits
+volta-fits n s none h = (lit≤ tt, lit≤ tt)
+volta-fits n s (some ps) h = h
+
+unit-fits : (o : Option ℕ) → TokenFits (unitToken o)
+unfolding unitToken TokenFits
+unit-fits none = tt
+unit-fits (some u) = tt
+
+key-fits : (s : List ℕ) → TokenFits (keyToken s)
+unfolding keyToken TokenFits
+key-fits s = by-test (middleWord s) (λ e. rw (e, keyToken) (lit≤ tt, lit≤ tt)) (λ e. rw (e, keyToken) tt)
+
+field-fits : (s : List ℕ) → TokenFits (fieldToken s)
+unfolding fieldToken TokenFits
+field-fits s =
+    by-test (is ":" (first (drop 1 s)))
+    (λ e. rw (e, fieldToken)
+    (by-test (is "L" (first s)) (λ f. rw (f, fieldToken) (unit-fits (unitInline (drop 2 s))))
+    (λ f. rw (f, fieldToken)
+    (by-test (is "M" (first s)) (λ g. rw (g, fieldToken) (meter-fits (drop 2 s)))
+    (λ g. rw (g, fieldToken) (by-test (is "K" (first s)) (λ k. rw (k, fieldToken) (key-fits (drop 2 s))) (λ k. rw (k, fieldToken) tt)))))))
+    (λ e. rw (e, fieldToken) tt)
+
+bracket-fits : (s : List ℕ) → TokenFits (bracketOf s .token)
+unfolding bracketOf voltaOf inlineAt
+bracket-fits s =
+    let n = span isPassByte s in
+    let xs = pieces (mark (is ",")) 0 (take n s) in
+    by-test (isDigit (first s))
+    (λ e. rw (e, bracketOf) (volta-fits n s (passList 0 xs) (list-fits 0 xs)))
+    (λ e. rw (e, bracketOf)
+    (by-test (isInline s) (λ f. rw (f, bracketOf) (field-fits (take (span (λ c. not (is "]" c)) s) s))) (λ f. rw (f, bracketOf) (chordAt-fits s))))
+
+as-fits : (k : Class) (s : List ℕ) → TokenFits (tokenAs k s .token)
+unfolding tokenAs restAs barlineOf TokenFits
+as-fits white s = tt
+as-fits ampersand s = tt
+as-fits quote s = closed-fits (is "\"") quoted (drop 1 s) (taken quoted (length s)) tt tt
+as-fits more s = broken-fits true (suc (span (is ">") (drop 1 s))) s
+as-fits less s = broken-fits false (suc (span (is "<") (drop 1 s))) s
+as-fits paren s = tuplet-fits (drop 1 s)
+as-fits braceOpen s = tt
+as-fits braceClose s = tt
+as-fits bang s = closed-fits (is "!") decoration (drop 1 s) (taken skipped 1) tt tt
+as-fits plus s = closed-fits (is "+") decoration (drop 1 s) (taken skipped 1) tt tt
+as-fits bars s = barline-fits s (symbolAt barSymbols s)
+as-fits bracket s = bracket-fits (drop 1 s)
+as-fits pitched s = note-fits s
+as-fits none-of-these s = tt
+as-fits (resting k) s = tt
+
+-- every token at the front of any text fits
+pub token-fits : (s : List ℕ) → TokenFits (tokenOf s .token)
+unfolding tokenOf
+token-fits s = as-fits (classOf (first s)) s
+
+-- so do all tokens of a line
+pub tokens-fit : (k : ℕ) (s : List ℕ) → All TokenFits (tokens k s)
+unfolding tokens
+tokens-fit k [] = tt
+tokens-fit zero (c ∷ s) = (token-fits (c ∷ s), tokens-fit _ s)
+tokens-fit (suc k) (c ∷ s) = tokens-fit k s

@@ -1,0 +1,121 @@
+-- WHAT FITS IN A RECORD: the range of each number that a record holds in a byte, from a token to a part.
+use Prim.Native.Nat.{ℕ, _≤_, _<_}
+use mathlib.Core.Option.{Option, none, some}
+use mathlib.Core.List.{List, [], _∷_}
+use Rattle.laws.specs.Lists.{All}
+use Rattle.standard.specs.Pitches.{Accidental, Written, Pitch}
+use Rattle.standard.specs.Fields.{Meter}
+use Rattle.reader.specs.Token.{Token, space, overlay, quoted, broken, tuplet, slur, graceOpen, graceClose, decoration, barline, volta, unit, meter, key, field, chord, rest, note, nothing, skipped, refused}
+use Rattle.reader.specs.Scan.{Item, born, reset, headed, keyed, metered, sung, played}
+use Rattle.reader.specs.State.{Note, Measure, Running, Sung, PartState}
+use Rattle.reader.specs.Lyrics.{Syllable}
+use Rattle.reader.specs.Part.{Part}
+
+-- every byte is one
+abbrev pub Bytes : List ℕ → Type 0
+Bytes s = All (λ b. b < 256) s
+
+-- top and bottom of a meter
+abbrev pub MeterFits : Meter → Type 0
+MeterFits m = (m .0 < 256) × (m .1 < 256)
+
+-- passes rise strictly above `low`, up to 32
+unfoldable pub PassesFit : ℕ → List ℕ → Type 0
+PassesFit low [] = Unit {0}
+PassesFit low (a ∷ ps) = (low < a) × ((a ≤ 32) × PassesFit a ps)
+
+-- an accidental, if there is one: both with 128 added
+unfoldable pub MarkFits : Option Accidental → Type 0
+MarkFits none = Unit {0}
+MarkFits (some a) = (a .alter < 256) × (a .cents < 256)
+
+-- a pitch as written
+pub record WrittenFits (w : Written) : Type 0 where
+  pub step-fits : w .step < 7
+  pub octave-fits : w .octave < 256
+  pub mark-fits : MarkFits (w .mark)
+
+-- a pitch as sounded
+pub record PitchFits (p : Pitch) : Type 0 where
+  pub step-fits : p .step < 7
+  pub octave-fits : p .octave < 256
+  pub alter-fits : p .alter < 256
+  pub cents-fits : p .cents < 256
+
+-- a token; a refusal in a music line is 10, 12, 13 or 14
+unfoldable pub TokenFits : Token → Type 0
+TokenFits space = Unit {0}
+TokenFits overlay = Unit {0}
+TokenFits quoted = Unit {0}
+TokenFits (broken up n) = n < 256
+TokenFits (tuplet t) = (t .actual < 256) × (t .normal < 256)
+TokenFits slur = Unit {0}
+TokenFits graceOpen = Unit {0}
+TokenFits graceClose = Unit {0}
+TokenFits decoration = Unit {0}
+TokenFits (barline b o) = Unit {0}
+TokenFits (volta ps) = PassesFit 0 ps
+TokenFits (unit u) = Unit {0}
+TokenFits (meter m) = MeterFits m
+TokenFits (key k) = Unit {0}
+TokenFits field = Unit {0}
+TokenFits (chord ws l b) = All WrittenFits ws
+TokenFits (rest k l) = Unit {0}
+TokenFits (note w l b) = WrittenFits w
+TokenFits nothing = Unit {0}
+TokenFits skipped = Unit {0}
+TokenFits (refused n) = (10 ≤ n) × (n ≤ 14)
+
+-- a note
+pub record NoteFits (n : Note) : Type 0 where
+  pub value-fits : n .value ≤ 10
+  pub dots-fit : n .dots ≤ 3
+  pub actual-fits : n .group .actual < 256
+  pub normal-fits : n .group .normal < 256
+  pub boundary-fits : n .group .boundary < 4
+  pub pitches-fit : All PitchFits (n .pitches)
+
+-- a measure
+pub record MeasureFits (m : Measure) : Type 0 where
+  pub voices-fit : All (All NoteFits) (m .voices)
+  pub meter-fits : MeterFits (m .meter)
+  pub passes-fit : PassesFit 0 (m .passes)
+
+-- a tuplet that is being read, if there is one
+unfoldable pub RunningFits : Option Running → Type 0
+RunningFits none = Unit {0}
+RunningFits (some r) = (r .tuplet .actual < 256) × (r .tuplet .normal < 256)
+
+-- a lyric line
+pub record SungFits (l : Sung) : Type 0 where
+  pub verse-fits : l .verse ≤ 32
+  pub text-fits : Bytes (l .text)
+
+-- a syllable
+pub record SyllableFits (y : Syllable) : Type 0 where
+  pub verse-fits : y .verse ≤ 32
+  pub text-fits : Bytes (y .text)
+
+-- a part while it is read
+pub record StateFits (s : PartState) : Type 0 where
+  pub measures-fit : All MeasureFits (s .measures)
+  pub scopes-fit : All (All PitchFits) (s .scopes)
+  pub meter-fits : MeterFits (s .line .meter)
+  pub tuplet-fits : RunningFits (s .line .tuplet)
+  pub verse-fits : s .verses .verse ≤ 32
+  pub lines-fit : All SungFits (s .verses .lines)
+
+-- an item
+unfoldable pub ItemFits : Item → Type 0
+ItemFits (born b) = Unit {0}
+ItemFits reset = Unit {0}
+ItemFits headed = Unit {0}
+ItemFits (keyed k) = Unit {0}
+ItemFits (metered m) = MeterFits m
+ItemFits (sung b t) = Bytes t
+ItemFits (played u m l) = MeterFits m
+
+-- a finished part
+pub record PartFits (p : Part) : Type 0 where
+  pub measures-fit : All MeasureFits (p .measures)
+  pub words-fit : All (All SyllableFits) (p .words)
