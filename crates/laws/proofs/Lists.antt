@@ -272,6 +272,11 @@ module _ {ℓ} {A : Type ℓ} where
   pub cat-snoc : (xs : List (List A)) (x : List A) → cat (xs ++ (x ∷ [])) ≡ cat xs ++ x
   cat-snoc xs x = cat-append xs (x ∷ []) ∙ ap (λ (l : List A). cat xs ++ l) (append-nil x)
 
+  -- of lists of one element each
+  pub cat-singles : (xs : List A) → cat (map (λ x. x ∷ []) xs) ≡ xs
+  cat-singles [] = refl
+  cat-singles (x ∷ xs) = ap {B = List A} (λ r. x ∷ r) (cat-singles xs)
+
   -- its length is the sum of the lengths
   pub length-cat : (xs : List (List A)) → length (cat xs) ≡ sum length xs
   length-cat [] = refl

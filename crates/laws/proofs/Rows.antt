@@ -13,7 +13,7 @@ use Rattle.laws.specs.Lists.{cat, All}
 use Rattle.laws.specs.Bytes.{part, over, splice, rows, mapTo, encAll}
 use Rattle.laws.proofs.Lists.{map-append, cat-append}
 use Rattle.laws.proofs.Parts.{length-part, part-part, part-front, part-back, take-part, drop-part}
-use Rattle.laws.proofs.Splices.{over-eq, part-same, part-below, part-above, part-around}
+use Rattle.laws.proofs.Splices.{over-eq, part-same, part-below, part-above, part-around, part-within}
 
 -- a row lies within its table
 pub row-in : (w i n : ℕ) → i < n → w * i + w ≤ w * n
@@ -83,6 +83,14 @@ module _ {R : Type 0} (dec : List ℕ → R) (w : ℕ) where
       rows-moved s (part s at m) (at + base) base n
       (λ i l. let e : at + (base + w * i) ≡ at + base + w * i = omega arith in
       part-part s at m (base + w * i) w (omega (arith, row-in w i n l)) ∙ ap (λ (k : ℕ). part s k w) e)
+
+  -- a table in what was written: in a part that was lent and came back, say
+  pub rows-within : (s : List ℕ) (at : ℕ) (bs : List ℕ) (base n : ℕ) → at + length bs ≤ length s → base + w * n ≤ length bs
+      → rows dec w (splice s at bs) (at + base) n ≡ rows dec w bs base n
+  rows-within s at bs base n h l =
+      rows-moved bs (splice s at bs) base (at + base) n
+      (λ i k. let e : at + base + w * i ≡ at + (base + w * i) = omega arith in
+      ap (λ (j : ℕ). part (splice s at bs) j w) e ∙ part-within s at bs (base + w * i) w h (omega (arith, row-in w i n k)))
 
   -- LEFT ALONE
   -- by a write past it

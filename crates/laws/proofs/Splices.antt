@@ -1,13 +1,13 @@
 -- Laws of a write into a store of bytes. Few have a condition: `splice` loses what does not fit, so the length stays.
-use Prim.Native.Nat.{ℕ, zero, suc, _+_, _-_, _≤_, _<_}
+use Prim.Native.Nat.{ℕ, zero, suc, _+_, _-_, _≤_, _<_, zero-le}
 use mathlib.Core.Path.{_≡_, refl, sym, ap, _∙_}
 use mathlib.Core.List.{List, [], _∷_, _++_, append-nil}
-use native.Mathlib.Nat.{zero-add, suc-add, add-zero, le-of-suc-le-suc, not-suc-le-zero, sub-self}
+use native.Mathlib.Nat.{zero-add, suc-add, add-zero, le-of-suc-le-suc, not-suc-le-zero, sub-self, sub-zero}
 use native.Mathlib.Omega.{arith}
 use lib.ListN.{length, take, drop, getD, set, length-take, length-replicate, replicate-append-replicate, drop-of-length-le, take-append-drop}
-use lib.Seq.{drop-at, take-append-seam, sets}
+use lib.Seq.{drop-at, drop-drop, take-append-seam, sets}
 use Rattle.laws.specs.Bytes.{part, over, splice, zeros}
-use Rattle.laws.proofs.Parts.{take-drop, length-part, getD-part, part-none, part-suc}
+use Rattle.laws.proofs.Parts.{take-drop, length-part, getD-part, part-none, part-cons, part-suc, part-part}
 
 -- LENGTH
 -- a write at the front keeps the length
@@ -179,6 +179,11 @@ pub part-around : (s : List ℕ) (b n k : ℕ) (bs : List ℕ) → part (splice 
 unfolding part
 part-around s b n k bs = ap (take n) (drop-splice b s k bs) ∙ take-splice-in n (drop b s) k bs
 
+-- what stands within it
+pub part-within : (s : List ℕ) (at : ℕ) (bs : List ℕ) (b n : ℕ) → at + length bs ≤ length s → b + n ≤ length bs → part (splice s at bs) (at + b) n ≡ part bs b n
+part-within s at bs b n h l =
+    sym (part-part (splice s at bs) at (length bs) b n l) ∙ ap (λ (x : List ℕ). part x b n) (part-same s at bs h)
+
 -- A BYTE AFTER A WRITE
 -- a byte is the one in its own part
 pub byte-own : (s : List ℕ) (k : ℕ) → getD s k 0 ≡ getD (part s k 1) 0 0
@@ -233,6 +238,10 @@ splice-zeros s at h =
     ∙ ap (λ (l : List ℕ). take at s ++ (zeros n ++ l)) (drop-of-length-le s {i = at + length (zeros n)} (rw length-zeros (omega arith)))
     ∙ ap (λ (l : List ℕ). take at s ++ l) (append-nil (zeros n))
 
+-- zeros all over
+pub zeros-whole : (s : List ℕ) → splice s 0 (zeros (length s - 0)) ≡ zeros (length s)
+zeros-whole s = splice-zeros s 0 zero-le ∙ ap zeros (sub-zero (length s))
+
 -- A COPY
 -- a loop that copies: nothing yet
 pub copy-none : (s : List ℕ) (at : ℕ) (t : List ℕ) (from : ℕ) → s ≡ splice s at (part t from 0)
@@ -245,6 +254,36 @@ copy-more s d t at from j e h =
     ∙ splice-snoc s at (part t from j) (at + j) (getD t (from + j) 0) (ap (λ (k : ℕ). at + k) (length-part t from j (omega arith)))
     ∙ ap (splice s at) (sym (part-suc t from j h))
 
+-- a loop that copies within one list towards the front, the lowest first: one more. What it reads is not yet written over
+pub move-more : (s d : List ℕ) (at from j : ℕ) → d ≡ splice s at (part s from j) → from + j < length s → at ≤ from
+    → set d (at + j) (getD d (from + j) 0) ≡ splice s at (part s from (j + 1))
+move-more s d at from j e h l =
+    let n : length (part s from j) ≡ j = length-part s from j (omega arith) in
+    let v : getD d (from + j) 0 ≡ getD s (from + j) 0 = ap (λ (x : List ℕ). getD x (from + j) 0) e ∙ byte-above s at (part s from j) (from + j) (omega arith) in
+    ap (set d (at + j)) v ∙ copy-more s d s at from j e h
+
+-- towards the back, the highest first: none yet
+pub move-none : (s : List ℕ) (at from n : ℕ) → s ≡ splice s (at + n) (part s (from + n) (n - n))
+move-none s at from n = rw (sub-self n) (copy-none s (at + n) s (from + n))
+
+-- one more
+pub move-less : (s d : List ℕ) (at from n k : ℕ) → d ≡ splice s (at + (k + 1)) (part s (from + (k + 1)) (n - (k + 1))) → k < n → from + k < length s → from ≤ at
+    → set d (at + k) (getD d (from + k) 0) ≡ splice s (at + k) (part s (from + k) (n - k))
+move-less s d at from n k e h r l =
+    let rest = part s (from + (k + 1)) (n - (k + 1)) in
+    let v : getD d (from + k) 0 ≡ getD s (from + k) 0 = ap (λ (x : List ℕ). getD x (from + k) 0) e ∙ byte-below s (at + (k + 1)) rest (from + k) (omega arith) in
+    let a : at + (k + 1) ≡ at + k + 1 = omega arith in
+    let b : from + k + 1 ≡ from + (k + 1) = omega arith in
+    let c : n - (k + 1) + 1 ≡ n - k = omega arith in
+    let first : getD s (from + k) 0 ∷ rest ≡ part s (from + k) (n - k)
+    = ap (λ (i : ℕ). getD s (from + k) 0 ∷ part s i (n - (k + 1))) (sym b) ∙ sym (part-cons s (from + k) (n - (k + 1)) r) ∙ ap (part s (from + k)) c in
+    ap (set d (at + k)) v
+    ∙ set-splice d (at + k) (getD s (from + k) 0)
+    ∙ ap (λ (x : List ℕ). splice x (at + k) (getD s (from + k) 0 ∷ [])) e
+    ∙ ap (λ (i : ℕ). splice (splice s i rest) (at + k) (getD s (from + k) 0 ∷ [])) a
+    ∙ splice-before s (at + k) (getD s (from + k) 0 ∷ []) rest
+    ∙ ap (splice s (at + k)) first
+
 -- A PART LENT
 -- a part lent as `&mut s[a..e]`, k long, that came back as ys with bs written from j on: the same write in s, from a + j on
 pub lent-back : (s : List ℕ) (a k : ℕ) (ys : List ℕ) (j : ℕ) (bs : List ℕ) → ys ≡ splice (take k (drop a s)) j bs → j + length bs ≤ k
@@ -256,6 +295,12 @@ lent-back s a k ys j bs e h =
     ∙ ap (λ (l : List ℕ). take a s ++ l) (take-append-drop k z ∙ sym (drop-splice a s j bs))
     ∙ ap (λ (l : List ℕ). l ++ drop a (splice s (a + j) bs)) (sym (take-splice a s (a + j) bs (omega arith)))
     ∙ take-append-drop a (splice s (a + j) bs)
+
+-- a part lent, that came back as ys, whatever was done to it: a write of ys
+pub lent-whole : (s : List ℕ) (a k : ℕ) (ys : List ℕ) → length ys ≡ k → a + k ≤ length s → take a s ++ (ys ++ drop k (drop a s)) ≡ splice s a ys
+lent-whole s a k ys e h =
+    ap (λ (l : List ℕ). take a s ++ (ys ++ l)) (drop-drop k a s ∙ ap (λ (n : ℕ). drop (a + n) s) (sym e))
+    ∙ sym (splice-eq s a ys (omega arith))
 
 -- ACROSS A SEAM
 -- a write into the first of two lists

@@ -1,0 +1,4 @@
+pub mod Suffixes
+pub mod Sizes
+pub mod Searches
+pub mod Broken

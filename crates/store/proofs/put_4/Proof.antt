@@ -1,0 +1,27 @@
+-- `store::put_4` meets its contract: four stores, each where the last ended.
+use native.Mathlib.Omega.{arith}
+use borrow.Author.Needs.{needs}
+use lib.ListN.{length-set}
+use Rattle.laws.proofs.Splices.{set-splice, splice-snoc}
+use Rattle.store.proofs.put_4.Statement.{statement}
+use Rattle.store.proofs.put_4.Tie as tie
+
+returns : tie.Need-returns
+returns c =
+    let s = c .args .store .now in
+    let at = c .args .at in
+    rw (set-splice s at, splice-snoc s at, splice-snoc s at, splice-snoc s at)
+
+pub put-4-spec : {M : Type 1} → statement M
+put-4-spec =
+    tie.close
+    (tie.spec
+    (λ c. search needs)
+    (λ c. search needs)
+    (λ c. simp length-set (omega arith))
+    (λ c. search needs)
+    (λ c. simp length-set (omega arith))
+    (λ c. search needs)
+    (λ c. simp length-set (omega arith))
+    (λ c. search needs)
+    returns)

@@ -1,0 +1,3 @@
+pub mod Rows
+pub mod Cleaning
+pub mod Classes

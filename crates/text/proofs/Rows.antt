@@ -1,0 +1,83 @@
+-- The rows of a text, one after the other, by position; and a byte above 127.
+use Prim.Native.Nat.{ℕ, suc, _+_, _-_, _<_, _≤_}
+use mathlib.Core.Path.{_≡_, sym, ap, _∙_}
+use mathlib.Core.Bool.{true, false, cond}
+use mathlib.Core.List.{List, [], _∷_}
+use native.Mathlib.Numerals.{add-one}
+use native.Mathlib.Omega.{arith}
+use lib.Dec.{eqb, ltb}
+use lib.ListN.{length, getD, take, drop, length-drop, drop-of-length-le}
+use lib.Seq.{drop-cons, drop-drop}
+use Rattle.laws.specs.Bytes.{part}
+use Rattle.laws.proofs.Bools.{by-test}
+use Rattle.reader.specs.Text.{push, rows, hasHigh}
+use Rattle.text.specs.Lines.{LineEnd}
+
+-- how long the first row is
+unfoldable pub rowLength : List ℕ → ℕ
+rowLength [] = 0
+rowLength (c ∷ l) = cond (eqb c 10) 1 (suc (rowLength l))
+
+-- the first row, and the others
+pub rows-next : (c : ℕ) (l : List ℕ) → rows (c ∷ l) ≡ take (rowLength (c ∷ l)) (c ∷ l) ∷ rows (drop (rowLength (c ∷ l)) (c ∷ l))
+unfolding rows rowLength
+rows-next c [] = by-test (eqb c 10) (λ e. rw e) (λ e. rw e)
+rows-next c (d ∷ l) = let r = rows-next d l in by-test (eqb c 10) (λ e. rw e) (λ e. rw e (ap (push c) r))
+
+row-some : (c : ℕ) (l : List ℕ) → (0 < rowLength (c ∷ l)) × (rowLength (c ∷ l) ≤ length (c ∷ l))
+unfolding rowLength
+row-some c [] = by-test (eqb c 10) (λ e. rw e (omega arith, omega arith)) (λ e. rw e (omega arith, omega arith))
+row-some c (d ∷ l) =
+    let r = row-some d l in
+    by-test (eqb c 10) (λ e. rw e (omega arith, omega arith)) (λ e. rw e (omega arith, omega (arith, r .1)))
+
+first : (l : List ℕ) → 0 < length l → (0 < rowLength l) × (rowLength l ≤ length l) × (rows l ≡ take (rowLength l) l ∷ rows (drop (rowLength l) l))
+first [] h = absurd (omega arith)
+first (c ∷ l) h = (row-some c l .0, row-some c l .1, rows-next c l)
+
+-- the end of the row at a position
+pub row-is : (t : List ℕ) (i e : ℕ) → i < length t → e ≡ i + rowLength (drop i t) → LineEnd t i e
+unfolding part
+row-is t i e h x =
+    let n = rowLength (drop i t) in
+    let f = first (drop i t) (omega (arith, length-drop i t)) in
+    let k : n ≡ e - i = omega (arith, x) in
+    record {
+      past = omega (arith, x, f .0);
+      inside = omega (arith, x, f .1, length-drop i t);
+      rest = f .2 ∙ (λ j. take (k j) (drop i t) ∷ rows (drop-drop n i t j)) ∙ ap (λ (m : ℕ). take (e - i) (drop i t) ∷ rows (drop m t)) (sym x);
+    }
+
+-- no row past the end
+pub rows-over : (t : List ℕ) (i : ℕ) → length t ≤ i → rows (drop i t) ≡ []
+unfolding rows
+rows-over t i h = rw (drop-of-length-le t h)
+
+module _ (t : List ℕ) (i : ℕ) where
+  -- a row goes on, ends with its line feed, ends with the text
+  pub row-on : i < length t → eqb (getD t i 0) 10 ≡ false → i + 1 + rowLength (drop (i + 1) t) ≡ i + rowLength (drop i t)
+  unfolding rowLength
+  row-on h e =
+      let k : rowLength (drop i t) ≡ suc (rowLength (drop (i + 1) t)) = rw (add-one i, drop-cons t i 0 h, e) in
+      omega arith
+
+  pub row-off : i < length t → eqb (getD t i 0) 10 ≡ true → rowLength (drop i t) ≡ 1
+  unfolding rowLength
+  row-off h e = rw (drop-cons t i 0 h, e)
+
+  pub row-end : length t ≤ i → rowLength (drop i t) ≡ 0
+  unfolding rowLength
+  row-end h = rw (drop-of-length-le t h)
+
+  -- a byte above 127 at a position
+  pub high-here : i < length t → ltb 127 (getD t i 0) ≡ true → hasHigh (drop i t) ≡ true
+  unfolding hasHigh
+  high-here h e = rw (drop-cons t i 0 h, e)
+
+  pub high-on : i < length t → ltb 127 (getD t i 0) ≡ false → hasHigh (drop i t) ≡ hasHigh (drop (i + 1) t)
+  unfolding hasHigh
+  high-on h e = rw (add-one i, drop-cons t i 0 h, e)
+
+  pub high-end : length t ≤ i → hasHigh (drop i t) ≡ false
+  unfolding hasHigh
+  high-end h = rw (drop-of-length-le t h)

@@ -1,0 +1,90 @@
+-- White space at a position.
+use Prim.Native.Nat.{ℕ, _+_, _≤_, _<_}
+use mathlib.Core.Path.{_≡_, refl, sym, ap, _∙_}
+use mathlib.Core.Bool.{Bool, true, false, cond}
+use mathlib.Core.List.{List, [], _∷_}
+use native.Mathlib.Numerals.{add-one}
+use native.Mathlib.Omega.{arith}
+use lib.ListN.{length, getD, drop, drop-of-length-le}
+use lib.Seq.{drop-cons}
+use Rattle.laws.specs.Lists.{foldl}
+use Rattle.reader.specs.Text.{White, white, inC2, inE1, inE19A, inE2, inE280, inE281, inE3, inE380, other, whiteStep, isAllWhite, isBlank}
+use Rattle.reader.specs.Pieces.{whiteAt}
+
+-- a fold at a position: one byte further, and at the end
+module _ {S : Type 0} (step : S → ℕ → S) (q : S) (t : List ℕ) (i : ℕ) where
+  pub foldl-at : i < length t → foldl step q (drop i t) ≡ foldl step (step q (getD t i 0)) (drop (i + 1) t)
+  foldl-at h = rw (add-one i, drop-cons t i 0 h)
+
+  pub foldl-over : length t ≤ i → foldl step q (drop i t) ≡ q
+  foldl-over h = rw (drop-of-length-le t h)
+
+-- 0 is no byte of white space
+zero-is-other : (q : White) → whiteStep q 0 ≡ other
+unfolding whiteStep
+zero-is-other white = refl
+zero-is-other inC2 = refl
+zero-is-other inE1 = refl
+zero-is-other inE19A = refl
+zero-is-other inE2 = refl
+zero-is-other inE280 = refl
+zero-is-other inE281 = refl
+zero-is-other inE3 = refl
+zero-is-other inE380 = refl
+zero-is-other other = refl
+
+-- something else stays something else
+pub other-stays : (l : List ℕ) → foldl whiteStep other l ≡ other
+unfolding whiteStep
+other-stays [] = refl
+other-stays (c ∷ l) = other-stays l
+
+-- A WHITE CHARACTER at the front, by the first three bytes, 0 past the end
+abbrev pub after1 : List ℕ → White
+after1 s = whiteStep white (getD s 0 0)
+
+abbrev pub after2 : List ℕ → White
+after2 s = whiteStep (after1 s) (getD s 1 0)
+
+abbrev pub after3 : List ℕ → White
+after3 s = whiteStep (after2 s) (getD s 2 0)
+
+-- by the answers of the three tests
+abbrev pub widthBy : Bool → Bool → Bool → ℕ
+widthBy a b c = elim a [ true ↦ 1 | false ↦ elim b [ true ↦ 2 | false ↦ cond c 3 0 ] ]
+
+short : (q : White) → isAllWhite (whiteStep q 0) ≡ false
+unfolding isAllWhite
+short q = ap isAllWhite (zero-is-other q)
+
+pub white-width : (s : List ℕ) → 0 < length s → whiteAt s ≡ widthBy (isAllWhite (after1 s)) (isAllWhite (after2 s)) (isAllWhite (after3 s))
+unfolding whiteAt isBlank
+white-width [] h = absurd (omega arith)
+white-width (a ∷ []) h = alone (isAllWhite (whiteStep white a)) (short (whiteStep white a)) (short (whiteStep (whiteStep white a) 0))
+  where
+    alone : (x : Bool) {y z : Bool} → y ≡ false → z ≡ false → widthBy x x x ≡ widthBy x y z
+    alone true p q = refl
+    alone false p q = rw (p, q)
+white-width (a ∷ b ∷ []) h = pair (isAllWhite (whiteStep white a)) (isAllWhite (whiteStep (whiteStep white a) b)) (short (whiteStep (whiteStep white a) b))
+  where
+    pair : (x y : Bool) {z : Bool} → z ≡ false → widthBy x y y ≡ widthBy x y z
+    pair true y p = refl
+    pair false true p = refl
+    pair false false p = rw p
+white-width (a ∷ b ∷ c ∷ s) h = refl
+
+-- each of the four answers
+module _ (s : List ℕ) (h : 0 < length s) where
+  pub width-one : isAllWhite (after1 s) ≡ true → 1 ≡ whiteAt s
+  width-one a = sym (white-width s h ∙ rw a)
+
+  module _ (a : isAllWhite (after1 s) ≡ false) where
+    pub width-two : isAllWhite (after2 s) ≡ true → 2 ≡ whiteAt s
+    width-two b = sym (white-width s h ∙ rw (a, b))
+
+    module _ (b : isAllWhite (after2 s) ≡ false) where
+      pub width-three : isAllWhite (after3 s) ≡ true → 3 ≡ whiteAt s
+      width-three c = sym (white-width s h ∙ rw (a, b, c))
+
+      pub width-none : isAllWhite (after3 s) ≡ false → 0 ≡ whiteAt s
+      width-none c = sym (white-width s h ∙ rw (a, b, c))
