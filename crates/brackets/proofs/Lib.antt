@@ -1,2 +1,0 @@
-mod Inlines
-mod Chorded
