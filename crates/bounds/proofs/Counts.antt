@@ -1,27 +1,25 @@
 -- The counts of a part's five sections by its costs, and the length of its sections by its lines' bytes.
-use Prim.Native.Nat.{ℕ, zero, suc, _+_, _-_, _*_, _≤_, _<_, zero-le}
-use mathlib.Core.Path.{_≡_, refl, sym, ap, _∙_}
-use mathlib.Core.Bool.{Bool, true, false, cond}
-use mathlib.Core.List.{List, [], _∷_, _++_, map}
+use Prim.Native.Nat.{ℕ, suc, _+_, _-_, _*_, _≤_}
+use mathlib.Core.Path.{_≡_, refl, ap}
+use mathlib.Core.List.{List, [], _∷_, map}
 use native.Mathlib.Nat.{mul-add, mul-suc}
 use native.Mathlib.Omega.{arith}
 use lib.Dec.{lit≤}
 use lib.ListN.{length, length-append}
 use Rattle.laws.specs.Lists.{sum, any, cat}
 use Rattle.laws.proofs.Bools.{by-test}
-use Rattle.laws.proofs.Lists.{sum-append, sum-map, length-cat}
+use Rattle.laws.proofs.Lists.{sum-append, sum-map}
 use Rattle.standard.specs.Keys.{Key}
-use Rattle.standard.specs.Pitches.{Pitch}
 use Rattle.reader.specs.Scan.{Item, Env}
 use Rattle.reader.specs.State.{Note, Measure}
 use Rattle.reader.specs.Lyrics.{Syllable}
 use Rattle.reader.specs.Part.{Part, build, emptyPart}
-use Rattle.reader.specs.Records.{measureWidth, noteWidth, pitchWidth, lyricWidth, tagged, byVoice, allNotes, notesOf, pitchesOf, lyrics, lyricText, sections}
+use Rattle.reader.specs.Records.{tagged, byVoice, allNotes, notesOf, pitchesOf, lyrics, lyricText, sections}
 use Rattle.reader.specs.Answer.{isMusic, built}
 use Rattle.reader.specs.All.{all as everything}
-use Rattle.reader.proofs.Sizes.{Fours, four-voices, sections-length}
-use Rattle.bounds.specs.Prices.{Prices, Covered, sectionPrices, notePrices, pitchPrices, accidentalPrices, measurePrices, syllablePrices, textPrices, noteCost, voiceCost, measureCost, measuresCost, syllableCost, musicBytes, lyricBytes, itemBytes}
-use Rattle.bounds.proofs.Generic.{sum-both, sum-mul, sum-times}
+use Rattle.reader.proofs.Sizes.{four-voices, sections-length}
+use Rattle.bounds.specs.Prices.{Prices, Covered, sectionPrices, noteCost, voiceCost, measureCost, measuresCost, syllableCost, musicBytes, lyricBytes, itemBytes}
+use Rattle.bounds.proofs.Generic.{sum-both}
 use Rattle.bounds.proofs.PartCosts.{part-cost}
 use Rattle.bounds.proofs.LyricCosts.{words-cost, lyrics-cost}
 

@@ -1,25 +1,23 @@
 -- Every number that a reading writes in four bytes is below 2^32, so the four bytes say the number itself.
-use Prim.Native.Nat.{ℕ, zero, suc, _+_, _-_, _*_, _^_, max, _≤_, _<_, zero-le}
-use mathlib.Core.Path.{_≡_, refl, sym, ap, subst, _∙_}
-use mathlib.Core.Bool.{Bool, true, false, cond}
-use mathlib.Core.List.{List, [], _∷_, _++_, map}
+use Prim.Native.Nat.{ℕ, zero, suc, _+_, _-_, _*_, _^_, _≤_, _<_}
+use mathlib.Core.Path.{_≡_, subst}
+use mathlib.Core.List.{List, [], _∷_, map}
 use native.Mathlib.Nat.{pow-suc, pow-le-pow-right}
 use native.Mathlib.Omega.{arith}
-use lib.Dec.{leb, lit<, lit≤}
+use lib.Dec.{lit<, lit≤}
 use lib.ListN.{length, length-append, length-map}
-use Rattle.laws.specs.Lists.{All, any, cat}
-use Rattle.laws.specs.Bytes.{le32, little, littleAt, u32At}
+use Rattle.laws.specs.Lists.{All, cat}
+use Rattle.laws.specs.Bytes.{le32, u32At}
 use Rattle.laws.proofs.Bools.{by-test}
 use Rattle.laws.proofs.Lists.{All-map, All-append}
 use Rattle.laws.proofs.Numbers.{littleAt-little}
-use Rattle.standard.specs.Keys.{Key}
 use Rattle.reader.specs.Steps.{mine}
-use Rattle.reader.specs.Scan.{Item, Env, ScanState, Items, mostVoices}
+use Rattle.reader.specs.Scan.{Env, Items}
 use Rattle.reader.specs.State.{Note, Measure}
 use Rattle.reader.specs.Lyrics.{Syllable}
-use Rattle.reader.specs.Part.{Part, build, emptyPart}
+use Rattle.reader.specs.Part.{Part}
 use Rattle.reader.specs.Records.{passBits, tagged, byVoice, allNotes, isSung, lyricsOf, notesOf, pitchesOf, lyrics, lyricText, sections}
-use Rattle.reader.specs.Answer.{Verdict, refusal, reading, mostBytes, refusedWith, isMusic, built, parts, partBytes, encode, written, parseAbc}
+use Rattle.reader.specs.Answer.{Verdict, refusal, reading, refusedWith, built, parts, partBytes, encode, written, parseAbc}
 use Rattle.reader.proofs.Sizes.{Fours, built-fours, sections-length}
 use Rattle.bounds.specs.Ranges.{PassesFit, MeasureFits, PartFits, FourBytes, CountsFit}
 use Rattle.bounds.proofs.ScanCosts.{voiceCount}

@@ -1,21 +1,19 @@
 -- The bytes of a part's lyric lines pay for its syllables and their text.
-use Prim.Native.Nat.{ℕ, zero, suc, _+_, _-_, _*_, _≤_, _<_, zero-le}
-use mathlib.Core.Path.{_≡_, refl, sym, ap, _∙_}
-use mathlib.Core.Bool.{Bool, true, false, cond, not, _&&_, _||_, false≢true}
-use mathlib.Core.Option.{Option, none, some}
-use mathlib.Core.List.{List, [], _∷_, _++_, map, reverse}
-use native.Mathlib.Nat.{mul-add, mul-suc, not-suc-le-zero, add-mul, mul-one}
+use Prim.Native.Nat.{ℕ, zero, suc, _+_, _-_, _*_, _≤_, zero-le}
+use mathlib.Core.Path.{_≡_, refl, ap, _∙_}
+use mathlib.Core.Bool.{Bool, true, false, cond, not, _&&_, false≢true}
+use mathlib.Core.List.{List, [], _∷_, map, reverse}
+use native.Mathlib.Nat.{mul-add, mul-suc}
 use native.Mathlib.Omega.{arith}
 use lib.Dec.{ltb, eqb}
-use lib.ListN.{length, getD, replicate, length-map}
-use Rattle.laws.specs.Lists.{foldl, sum, keep, isNil, eqText, All, alterAt}
+use lib.ListN.{length, replicate, length-map}
+use Rattle.laws.specs.Lists.{foldl, sum, isNil, eqText, All, alterAt}
 use Rattle.laws.proofs.Bools.{by-test}
 use Rattle.laws.proofs.Lists.{sum-append, sum-map, sum-keep, keep-passes}
 use Rattle.standard.specs.Bytes.{ascii, is, first, last}
 use Rattle.standard.specs.Keys.{Key}
-use Rattle.standard.specs.Fields.{Meter}
 use Rattle.standard.specs.Notes.{isSounded}
-use Rattle.standard.specs.Lyrics.{Syllabic, Word, skip, hold, syllable, syllabicOf, syllableText, syllables}
+use Rattle.standard.specs.Lyrics.{Word, skip, hold, syllable, syllableText, syllables}
 use Rattle.reader.specs.Text.{push}
 use Rattle.reader.specs.Pieces.{pieces, words, mark, whiteAt}
 use Rattle.reader.specs.Token.{Token, space, overlay, quoted, broken, tuplet, slur, graceOpen, graceClose, decoration, barline, volta, unit, meter, key, field, chord, rest, note, nothing, skipped, refused}

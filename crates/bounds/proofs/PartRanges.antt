@@ -1,23 +1,23 @@
 -- The numbers of a part are in their ranges, while it is read and when it is finished.
-use Prim.Native.Nat.{ℕ, zero, suc, _+_, _-_, min, _≤_, _<_, zero-le}
-use mathlib.Core.Path.{_≡_, refl, sym, ap, _∙_}
-use mathlib.Core.Bool.{Bool, true, false, cond, not, _&&_, _||_}
+use Prim.Native.Nat.{ℕ, zero, suc, _+_, _-_, _≤_, _<_}
+use mathlib.Core.Path.{_≡_, refl}
+use mathlib.Core.Bool.{Bool, true, false, cond, _&&_}
 use mathlib.Core.Option.{Option, none, some}
 use mathlib.Core.List.{List, [], _∷_, map, reverse}
 use native.Mathlib.Omega.{arith}
 use lib.Dec.{ltb, leb, eqb, lit<, lit≤}
-use lib.ListN.{length, getD}
-use Rattle.laws.specs.Lists.{foldl, All, alterAt, onFirst}
+use lib.ListN.{getD}
+use Rattle.laws.specs.Lists.{foldl, All, onFirst}
 use Rattle.laws.proofs.Bools.{by-test}
 use Rattle.laws.proofs.Lists.{All-alterAt, All-onFirst}
 use Rattle.standard.specs.Keys.{Key, keyAlter, place}
 use Rattle.standard.specs.Fields.{Meter}
 use Rattle.standard.specs.Bars.{Barline, normal, repeatStart, repeatEnd, repeatBoth, double, final}
-use Rattle.standard.specs.Lengths.{Value, dotted, halved}
+use Rattle.standard.specs.Lengths.{dotted, halved}
 use Rattle.standard.specs.Pitches.{Accidental, Written, Pitch, altered}
 use Rattle.standard.specs.Tuplets.{boundary}
 use Rattle.standard.specs.Notes
-use Rattle.standard.specs.Notes.{NoteKind, Beam, Behind, Pending, isSounded, pendingAfter}
+use Rattle.standard.specs.Notes.{NoteKind, Beam, Behind, isSounded}
 use Rattle.standard.specs.Lyrics.{nextVerse}
 use Rattle.reader.specs.Lengths.{Length, valueOf}
 use Rattle.reader.specs.Pitches.{Scope, remembered, orKey, soundBy, soundOf, scopeBy, scopeAfter, soundsOf, scopeAfterAll}
@@ -25,11 +25,11 @@ use Rattle.reader.specs.Token.{Token, space, overlay, quoted, broken, tuplet, s
 use Rattle.reader.specs.Tokens.{tokens}
 use Rattle.reader.specs.Barlines.{leftOf}
 use Rattle.reader.specs.Scan.{Item, born, reset, headed, keyed, metered, sung, played}
-use Rattle.reader.specs.State.{PartState, Note, Measure, Half, Running, Sung, Verses, withBeam, withVoices, withRight, withLeft, withMeter, withMark, withVolta, Volta, voltaBegins, onOpen, isEmpty, voiceIn, voiceNow, setVoice, setScopes, setPending, newMeasure, newPart, newLine, noScopes}
+use Rattle.reader.specs.State.{PartState, Note, Measure, Half, Running, Verses, withBeam, withVoices, withRight, withLeft, withMeter, withMark, withVolta, Volta, voltaBegins, onOpen, isEmpty, voiceIn, voiceNow, setVoice, newMeasure, newPart, newLine, noScopes}
 use Rattle.reader.specs.Voltas.{starts, endsAt, close, closed}
-use Rattle.reader.specs.Part.{halvedNote, brokenNote, onBroken, afterHalf, canBeam, beamed, beamedAgain, onNothing, groupIn, grouped, oneFewer, countedIn, append, restNote, soundNote, onSound, leftSet, ended, onBarline, hears, onToken, opened, lineBegins, onLine, onLyric, onKey, firstKey, onItem, dropped, inOrder, markedBy, marked, finished, build}
+use Rattle.reader.specs.Part.{halvedNote, brokenNote, onBroken, afterHalf, canBeam, beamed, beamedAgain, onNothing, groupIn, grouped, oneFewer, countedIn, append, restNote, soundNote, onSound, leftSet, ended, onBarline, hears, onToken, opened, lineBegins, onLine, onLyric, onKey, onItem, dropped, inOrder, markedBy, marked, finished}
 use Rattle.reader.proofs.ValueLaws.{value-range}
-use Rattle.bounds.specs.Ranges.{Bytes, MeterFits, PassesFit, MarkFits, WrittenFits, PitchFits, TokenFits, NoteFits, MeasureFits, RunningFits, SungFits, StateFits, ItemFits}
+use Rattle.bounds.specs.Ranges.{MeterFits, PassesFit, MarkFits, WrittenFits, PitchFits, TokenFits, NoteFits, MeasureFits, RunningFits, StateFits, ItemFits}
 use Rattle.bounds.proofs.Generic.{All-reverse, All-here}
 use Rattle.bounds.proofs.TokenRanges.{tokens-fit}
 

@@ -1,23 +1,21 @@
 -- THE READING OF EVERY TEXT: its bytes are bytes, it is at most 23 times as long as the text, and a store that long is never too short.
-use Prim.Native.Nat.{ℕ, zero, suc, _+_, _-_, _*_, max, _≤_, _<_}
+use Prim.Native.Nat.{ℕ, zero, suc, _+_, _-_, _*_, _≤_, _<_}
 use mathlib.Core.Path.{_≡_, refl, sym, ap, subst, _∙_}
-use mathlib.Core.Bool.{Bool, true, false, cond, not, _&&_, false≢true}
-use mathlib.Core.Option.{Option, none, some}
+use mathlib.Core.Bool.{true, false, false≢true}
 use mathlib.Core.Logic.{_⊎_, inl, inr}
-use mathlib.Core.List.{List, [], _∷_, _++_}
+use mathlib.Core.List.{List, [], _∷_}
 use native.Mathlib.Omega.{arith}
 use lib.Dec.{eqb, leb, ltb, lit<, lit≤}
-use lib.ListN.{length, replicate}
-use borrow.Author.Tests.{leb-true, leb-false, ltb-true, ltb-false, lt-leb, le-leb, ne-eqb, eqb-false}
+use lib.ListN.{length}
+use borrow.Author.Tests.{leb-true, leb-false, ltb-true, ltb-false, lt-leb, ne-eqb}
 use Rattle.laws.specs.Lists.{foldl, sum, any, All}
 use Rattle.laws.specs.Bytes.{le32, zeros}
 use Rattle.laws.proofs.Bools.{by-test, and-no-right}
 use Rattle.laws.proofs.Numbers.{little-bytes}
-use Rattle.standard.specs.Keys.{Key}
 use Rattle.reader.specs.Text.{within, Utf8, between, one, two, three, afterE0, afterED, afterF0, afterF4, invalid, utf8Step, isBetween, isUtf8, isBlank, rows}
-use Rattle.reader.specs.Steps.{Step, refuse, on, mine}
+use Rattle.reader.specs.Steps.{refuse, on, mine}
 use Rattle.reader.specs.Scan.{Item, Env, ScanState, scan, Items, Out, mostVoices}
-use Rattle.reader.specs.Part.{Part, build, emptyPart}
+use Rattle.reader.specs.Part.{Part}
 use Rattle.reader.specs.Records.{sections}
 use Rattle.reader.specs.Answer.{Verdict, refusal, reading, Outcome, mostBytes, scratchNeeded, refusedWith, early, isMusic, built, parts, partBytes, encode, measureCount, written, ended, finish, scanned, unless, parseAbc}
 use Rattle.bounds.specs.Prices.{itemBytes}

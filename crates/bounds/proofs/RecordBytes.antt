@@ -1,16 +1,15 @@
 -- Every byte of a part's records is below 256.
-use Prim.Native.Nat.{ℕ, zero, suc, _+_, _-_, _%_, _^_, _≤_, _<_}
-use mathlib.Core.Path.{_≡_, refl}
-use mathlib.Core.Bool.{Bool, true, false, cond}
+use Prim.Native.Nat.{ℕ, suc, _+_, _-_, _≤_, _<_}
+use mathlib.Core.Bool.{Bool, true, false}
 use mathlib.Core.Option.{Option, none, some}
 use mathlib.Core.List.{List, [], _∷_, _++_, map}
 use native.Mathlib.Omega.{arith}
-use lib.Dec.{ltb, lit<, lit≤}
+use lib.Dec.{ltb, lit<}
 use lib.ListN.{length, getD}
-use Rattle.laws.specs.Lists.{All, any, cat}
+use Rattle.laws.specs.Lists.{All, cat}
 use Rattle.laws.specs.Bytes.{le32}
 use Rattle.laws.proofs.Bools.{by-test}
-use Rattle.laws.proofs.Lists.{All-append, All-cat, All-every}
+use Rattle.laws.proofs.Lists.{All-append}
 use Rattle.laws.proofs.Numbers.{little-bytes}
 use Rattle.standard.specs.Keys.{Key}
 use Rattle.standard.specs.Bars.{Barline, normal, repeatStart, repeatEnd, repeatBoth, double, final}

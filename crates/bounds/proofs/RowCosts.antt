@@ -1,28 +1,20 @@
 -- The rows of a text pay for the items that the scan makes of them, and for the voices that they name.
-use Prim.Native.Nat.{ℕ, zero, suc, _+_, _-_, _*_, _≤_, _<_, max, zero-le}
+use Prim.Native.Nat.{ℕ, suc, _+_, _-_, _≤_, _<_, zero-le}
 use mathlib.Core.Path.{_≡_, refl, sym, ap, _∙_}
-use mathlib.Core.Bool.{Bool, true, false, cond, not, _&&_, _||_, false≢true}
-use mathlib.Core.Option.{Option, none, some}
-use mathlib.Core.List.{List, [], _∷_, _++_}
-use native.Mathlib.Nat.{mul-add, mul-suc}
+use mathlib.Core.Bool.{true, false, false≢true}
+use mathlib.Core.List.{List, [], _∷_}
 use native.Mathlib.Omega.{arith}
-use lib.Dec.{eqb, leb, ltb}
-use lib.ListN.{length, drop, length-drop, length-append}
-use borrow.Author.Tests.{eqb-true, leb-false}
-use Rattle.laws.specs.Lists.{sum, isNil, has, indexOf}
-use Rattle.laws.proofs.Bools.{by-test, and-left, and-right}
-use Rattle.laws.proofs.Lists.{sum-append, isNil-true}
+use lib.Dec.{eqb, ltb}
+use lib.ListN.{length, drop, length-drop}
+use borrow.Author.Tests.{eqb-true}
+use Rattle.laws.specs.Lists.{sum, isNil}
+use Rattle.laws.proofs.Bools.{by-test}
 use Rattle.reader.specs.Text.{isBlank, push, rows, cut, trim, clean, hasHigh}
-use Rattle.reader.specs.Pieces.{pieces, words, fieldWords, mark}
-use Rattle.reader.specs.Fields.{middleWord, firstWord, identifier}
-use Rattle.reader.specs.Tokens.{Effect}
-use Rattle.reader.specs.Lines.{begins, isV, isK, isL, isM, isX, isLyric, isField, Kind, blank, refused, lyric, voice, key, meter, unit, tune, other, music, voiceKind, keyKind, fieldKind, lineKind, kindOf}
-use Rattle.reader.specs.Steps.{Row, Step, refuse, on, run}
+use Rattle.reader.specs.Fields.{middleWord, identifier}
+use Rattle.reader.specs.Lines.{begins, isV, isK, isL, isM, isX, isLyric, isField, Kind, blank, refused, lyric, voice, key, meter, unit, tune, other, music, voiceKind, keyKind, fieldKind, lineKind}
+use Rattle.reader.specs.Steps.{Row}
 use Rattle.reader.specs.Steps
-use Rattle.reader.specs.Scan.{Item, born, reset, headed, keyed, metered, sung, played, Env, ScanState, begin, mostVoices, mostLines, withUnnamed, voicesBefore, playOn, voiceOn, unitOn, act, step, scan, firstRefusal, Out, Items}
 use Rattle.reader.specs.All.{all as everything}
-use Rattle.bounds.specs.Prices.{musicBytes, lyricBytes, itemBytes}
-use Rattle.bounds.proofs.Generic.{times-more, times-dearer}
 
 -- THE ROWS OF A TEXT
 push-length : (c : ℕ) (rs : List Row) → sum length (push c rs) ≡ suc (sum length rs)

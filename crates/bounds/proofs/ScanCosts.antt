@@ -1,23 +1,22 @@
 -- The scan: each row pays for its items and for the voice that it names; so many rows, so many items; voices up to 32.
-use Prim.Native.Nat.{ℕ, zero, suc, _+_, _-_, _*_, _≤_, _<_, max, zero-le}
+use Prim.Native.Nat.{ℕ, suc, _+_, _-_, _*_, _≤_, _<_, max}
 use mathlib.Core.Path.{_≡_, refl, sym, ap, subst, _∙_}
-use mathlib.Core.Bool.{Bool, true, false, cond, not, _&&_, _||_, false≢true}
+use mathlib.Core.Bool.{Bool, true, false}
 use mathlib.Core.Option.{Option, none, some}
 use mathlib.Core.List.{List, [], _∷_, _++_, append-nil}
 use mathlib.Core.Logic.{_⊎_, inl, inr}
 use native.Mathlib.Nat.{mul-add, mul-suc}
 use native.Mathlib.Omega.{arith}
-use lib.Dec.{eqb, leb, ltb}
+use lib.Dec.{leb, ltb}
 use lib.ListN.{length, length-append}
-use borrow.Author.Tests.{leb-false}
-use Rattle.laws.specs.Lists.{sum, All, has, indexOf}
+use Rattle.laws.specs.Lists.{sum, All, has}
 use Rattle.laws.proofs.Bools.{by-test}
 use Rattle.laws.proofs.Lists.{sum-append, All-append}
-use Rattle.reader.specs.Text.{rows, clean}
+use Rattle.reader.specs.Text.{clean}
 use Rattle.reader.specs.Tokens.{Effect}
 use Rattle.reader.specs.Lines.{Kind, blank, refused, lyric, voice, key, meter, unit, tune, other, music, lineKind, kindOf}
-use Rattle.reader.specs.Steps.{Row, Step, refuse, on, run, first}
-use Rattle.reader.specs.Scan.{Item, born, reset, headed, keyed, metered, sung, played, Env, ScanState, begin, mostVoices, mostLines, withUnnamed, voicesBefore, playOn, voiceOn, unitOn, act, step, scan, firstRefusal, Out, Items}
+use Rattle.reader.specs.Steps.{Row, refuse, on, run, first}
+use Rattle.reader.specs.Scan.{Item, ScanState, mostVoices, mostLines, withUnnamed, voicesBefore, playOn, voiceOn, unitOn, act, step, firstRefusal, Out, Items}
 use Rattle.reader.specs.Answer.{isMusic}
 use Rattle.bounds.specs.Prices.{musicBytes, lyricBytes, itemBytes}
 use Rattle.bounds.proofs.Generic.{times-more, times-dearer}

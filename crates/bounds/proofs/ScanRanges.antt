@@ -1,25 +1,25 @@
 -- The scan: its items are in their ranges, there are 32 voices at most, and its refusals are 4 to 14.
-use Prim.Native.Nat.{ℕ, zero, suc, _+_, max, _≤_, _<_}
-use mathlib.Core.Path.{_≡_, refl, sym, ap, subst, _∙_}
-use mathlib.Core.Bool.{Bool, true, false, cond}
+use Prim.Native.Nat.{ℕ, zero, suc, _≤_, _<_}
+use mathlib.Core.Path.{_≡_, refl}
+use mathlib.Core.Bool.{Bool, true, false}
 use mathlib.Core.Option.{Option, none, some}
-use mathlib.Core.List.{List, [], _∷_, _++_, map}
+use mathlib.Core.List.{List, [], _∷_, map}
 use native.Mathlib.Omega.{arith}
 use lib.Dec.{eqb, leb, ltb, lit<, lit≤}
 use lib.ListN.{length, drop, length-append}
 use borrow.Author.Tests.{leb-false}
-use Rattle.laws.specs.Lists.{All, has, indexOf, isNil}
+use Rattle.laws.specs.Lists.{All, has, isNil}
 use Rattle.laws.proofs.Bools.{by-test}
 use Rattle.laws.proofs.Lists.{All-append}
 use Rattle.standard.specs.Fields.{Meter}
 use Rattle.reader.specs.Text.{isBlank, push, rows, cut, trim, clean, hasHigh}
-use Rattle.reader.specs.Fields.{middleWord, identifier, meterOf}
+use Rattle.reader.specs.Fields.{middleWord, identifier}
 use Rattle.reader.specs.Token.{Token, space, overlay, quoted, broken, tuplet, slur, graceOpen, graceClose, decoration, barline, volta, chord, rest, note, nothing, skipped}
 use Rattle.reader.specs.Token
 use Rattle.reader.specs.Tokens.{tokens, Effect, counts, refuses, setsUnit, setsMeter, passes, effectOf, effects}
 use Rattle.reader.specs.Lines.{isV, isK, isL, isM, isX, isLyric, isField, Kind, blank, refused, lyric, voice, key, meter, unit, tune, other, music, voiceKind, keyKind, fieldKind, lineKind, kindOf}
-use Rattle.reader.specs.Steps.{Row, Step, refuse, on, run, first}
-use Rattle.reader.specs.Scan.{Item, born, reset, headed, keyed, metered, sung, played, Env, ScanState, begin, mostNotes, mostVoices, mostLines, noteCount, lastUnit, lastMeter, firstRefusal, voicesBefore, playOn, voiceOn, unitOn, act, step, scan, Out, Items}
+use Rattle.reader.specs.Steps.{Row, refuse, on, run, first}
+use Rattle.reader.specs.Scan.{Item, ScanState, begin, mostNotes, mostVoices, mostLines, lastMeter, firstRefusal, voicesBefore, playOn, voiceOn, unitOn, act, step, scan, Out, Items}
 use Rattle.bounds.specs.Ranges.{Bytes, MeterFits, TokenFits, ItemFits}
 use Rattle.bounds.proofs.TokenRanges.{tokens-fit, meter-fits}
 use Rattle.bounds.proofs.ScanCosts.{before-count}

@@ -1,13 +1,12 @@
 -- THE LENGTH LAW IS SHARP: 22 bytes for each byte of the text are not enough. A note and a barline are two bytes of text and 45 of the reading.
-use Prim.Native.Nat.{ℕ, _*_, _<_}
+use Prim.Native.Nat.{ℕ, _*_}
 use mathlib.Core.Path.{_≡_, refl}
-use mathlib.Core.Bool.{Bool, true}
-use mathlib.Core.List.{List, [], _∷_, _++_}
+use mathlib.Core.Bool.{true}
+use mathlib.Core.List.{List, _++_}
 use lib.Dec.{ltb}
 use lib.ListN.{length, replicate}
 use Rattle.laws.specs.Lists.{cat}
 use Rattle.standard.specs.Bytes.{ascii}
-use Rattle.reader.specs.Part.{Part}
 use Rattle.reader.specs.Answer.{Verdict, refusal, reading, encode, scratchNeeded, parseAbc}
 use Rattle.reader.specs.All.{all}
 

@@ -1,6 +1,6 @@
 -- The bytes of a token pay for what it adds, so a line's bytes pay for all its tokens.
 use Prim.Native.Nat.{ℕ, zero, suc, _+_, _-_, _*_, _^_, pred, _≤_, _<_, zero-le}
-use mathlib.Core.Path.{_≡_, refl, sym, ap, _∙_}
+use mathlib.Core.Path.{_≡_, refl}
 use mathlib.Core.Bool.{Bool, true, false, cond, not, _&&_, _||_, false≢true}
 use mathlib.Core.Option.{Option, none, some}
 use mathlib.Core.List.{List, [], _∷_}
@@ -8,10 +8,10 @@ use native.Mathlib.Nat.{not-suc-le-zero, mul-add, mul-suc}
 use native.Mathlib.Omega.{arith}
 use lib.Dec.{ltb, eqb}
 use lib.ListN.{length, take, drop}
-use borrow.Author.Tests.{eqb-true, ltb-true}
+use borrow.Author.Tests.{eqb-true}
 use Rattle.laws.specs.Lists.{span, sum}
-use Rattle.laws.proofs.Bools.{by-test, both-true, and-left, and-right}
-use Rattle.laws.proofs.Spans.{span-yes, span-no, span-le}
+use Rattle.laws.proofs.Bools.{by-test}
+use Rattle.laws.proofs.Spans.{span-yes, span-no}
 use Rattle.standard.specs.Bytes.{is, isDigit, first}
 use Rattle.standard.specs.Bars.{Symbol, barSymbols, symbolAt}
 use Rattle.standard.specs.Pitches.{Accidental, Written, isLetter}
@@ -29,7 +29,7 @@ use Rattle.reader.specs.Tokens.{closedBy, brokenOf, bracketOf, Class, white, am
 use Rattle.reader.proofs.TokenLaws.{as-takes, takes-a-byte}
 use Rattle.reader.proofs.TokenBounds.{takes-what-is-there}
 use Rattle.bounds.specs.Prices.{Prices, Covered, markCost, writtenCost, tokenCost}
-use Rattle.bounds.proofs.Generic.{span-wider, spans-wider, times-more}
+use Rattle.bounds.proofs.Generic.{spans-wider, times-more}
 
 -- a byte that does not end a chord
 abbrev pub inChord : ℕ → Bool

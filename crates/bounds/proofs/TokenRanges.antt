@@ -1,6 +1,6 @@
 -- The numbers of each token are in their ranges.
-use Prim.Native.Nat.{ℕ, zero, suc, _+_, _-_, _^_, _%_, min, _≤_, _<_, zero-le}
-use mathlib.Core.Path.{_≡_, refl, sym, ap, _∙_}
+use Prim.Native.Nat.{ℕ, zero, suc, _+_, _-_, _^_, _≤_, _<_}
+use mathlib.Core.Path.{_≡_}
 use mathlib.Core.Bool.{Bool, true, false, cond, not, _&&_, _||_}
 use mathlib.Core.Option.{Option, none, some}
 use mathlib.Core.List.{List, [], _∷_, _++_}
@@ -8,7 +8,7 @@ use native.Mathlib.Nat.{add-zero}
 use native.Mathlib.Omega.{arith}
 use lib.Dec.{ltb, leb, eqb, lit<, lit≤}
 use lib.ListN.{length, take, drop}
-use borrow.Author.Tests.{ltb-true, ltb-false, leb-true, eqb-false}
+use borrow.Author.Tests.{ltb-true, ltb-false, leb-true}
 use Rattle.laws.specs.Lists.{span, all, isNil, eqText, All}
 use Rattle.laws.proofs.Bools.{by-test, and-left, and-right}
 use Rattle.standard.specs.Bytes.{ascii, is, isDigit, first, decimal, digits}
@@ -17,16 +17,15 @@ use Rattle.standard.specs.Passes.{Item, pass, passes, rising, passesOf}
 use Rattle.standard.specs.Bars.{Symbol, barSymbols, symbolAt}
 use Rattle.standard.specs.Tuplets.{usualNormal}
 use Rattle.standard.specs.Pitches.{Accidental, Written, isLetter, stepOf, letterOctave}
-use Rattle.reader.specs.Lengths.{lengthOf}
 use Rattle.reader.specs.Pieces.{numeral, before, after, pieces, mark, trimmed}
 use Rattle.reader.specs.Fields.{orFour, meterNumber, meterBottom, meterOr, meterText, meterOf, unitInline, middleWord}
-use Rattle.reader.specs.Pitches.{Octave, octaveFrom, octaveOf, Before, signs, accidentalOf, natural, quarterTone, moved, added, isQuarter, consPitch, chordOf}
+use Rattle.reader.specs.Pitches.{octaveFrom, octaveOf, Before, signs, accidentalOf, natural, quarterTone, moved, added, isQuarter, consPitch, chordOf}
 use Rattle.reader.specs.Token.{Token, quoted, decoration, skipped, Taken, taken}
 use Rattle.reader.specs.Tuplets.{notZero, positive, orOneLess, normalFor, counted, withCount, withNormal, withActual, tupletOf, orSlur}
 use Rattle.reader.specs.Barlines.{barlineAs, barlineOf}
 use Rattle.reader.specs.PassLists.{passNumber, single, range, itemOf, lastPass, inTurn, isPassByte, passList, voltaAs, voltaOf}
 use Rattle.reader.specs.Inline.{unitToken, keyToken, fieldToken, isInline, inlineAt}
-use Rattle.reader.specs.Sounds.{behind, chordTaken, chordAt, restAs, noteAs, noteAfter, noteOf}
+use Rattle.reader.specs.Sounds.{chordTaken, chordAt, restAs, noteAs, noteAfter, noteOf}
 use Rattle.reader.specs.Tokens.{closedBy, brokenOf, bracketOf, Class, white, ampersand, quote, more, less, paren, braceOpen, braceClose, bang, plus, bars, bracket, pitched, none-of-these, resting, classOf, tokenAs, tokenOf, tokens}
 use Rattle.bounds.specs.Ranges.{MeterFits, PassesFit, MarkFits, WrittenFits, TokenFits}
 

@@ -1,7 +1,7 @@
 -- WHAT A PART COSTS: so many bytes for each measure, note, pitch, accidental in force, syllable, byte of lyric text and item, and so many that
 -- each byte of the part's lines pays. The reading's sections and the tables of a scratch store are such prices; the laws hold for any that are covered.
-use Prim.Native.Nat.{ℕ, zero, suc, _+_, _*_, _≤_}
-use mathlib.Core.Bool.{Bool, true, false, cond}
+use Prim.Native.Nat.{ℕ, _+_, _*_, _≤_}
+use mathlib.Core.Bool.{cond}
 use mathlib.Core.Option.{Option, none, some}
 use mathlib.Core.List.{List, [], _∷_}
 use lib.ListN.{length}

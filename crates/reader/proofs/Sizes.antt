@@ -1,6 +1,6 @@
 -- Every measure of a part has four voices, so a part's five sections have a length that its five counts give.
-use Prim.Native.Nat.{ℕ, zero, suc, _+_, _*_, _≤_}
-use mathlib.Core.Path.{_≡_, refl, sym, ap, ap₂, _∙_}
+use Prim.Native.Nat.{ℕ, _+_, _*_}
+use mathlib.Core.Path.{_≡_, refl, ap, _∙_}
 use mathlib.Core.Bool.{Bool, true, false, cond}
 use mathlib.Core.Option.{Option, none, some}
 use mathlib.Core.List.{List, [], _∷_, _++_, map, reverse, reverseAux}
@@ -20,7 +20,7 @@ use Rattle.reader.specs.Token.{Token, space, overlay, quoted, broken, tu
 use Rattle.reader.specs.Tokens.{tokens}
 use Rattle.reader.specs.Barlines.{leftOf}
 use Rattle.reader.specs.Scan.{Env, Item, born, reset, headed, keyed, metered, sung, played}
-use Rattle.reader.specs.State.{PartState, Note, Measure, onOpen, setVoice, voiceNow, isEmpty, newMeasure, newPart, withLeft, withRight}
+use Rattle.reader.specs.State.{PartState, Note, Measure, onOpen, setVoice, voiceNow, isEmpty, newMeasure, newPart, withRight}
 use Rattle.reader.specs.Voltas.{starts, endsAt, close, closed}
 use Rattle.reader.specs.Lyrics.{Syllable}
 use Rattle.reader.specs.Answer.{isMusic, built, partBytes, encode}

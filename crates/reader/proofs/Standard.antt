@@ -1,40 +1,40 @@
 -- WHERE THE READER AND THE STANDARD AGREE: on the inputs that each law states, the reader's definition gives what crate standard says.
 -- That ticks are 1024ths of a whole note is `ticks-fraction` (ValueLaws).
-use Prim.Native.Nat.{ℕ, zero, suc, _+_, _-_, _*_, _^_, _≤_, _<_, min, zero-le}
+use Prim.Native.Nat.{ℕ, zero, suc, _+_, _-_, _*_, _^_, _≤_, _<_, min}
 use mathlib.Core.Path.{_≡_, refl, sym, ap, _∙_}
-use mathlib.Core.Bool.{Bool, true, false, cond, not, _&&_, _||_, false≢true}
+use mathlib.Core.Bool.{Bool, true, false, not, _||_}
 use mathlib.Core.Option.{Option, none, some}
 use mathlib.Core.List.{List, [], _∷_, _++_, map, reverse, reverseAux, append-nil, nil≢cons, tail-eq-of-cons-eq}
 use native.Mathlib.Nat.{add-zero, not-suc-le-zero}
 use native.Mathlib.Omega.{arith}
-use lib.Dec.{eqb, leb, ltb}
-use lib.ListN.{length, take, drop, replicate, length-replicate}
+use lib.Dec.{eqb, ltb}
+use lib.ListN.{length, drop, replicate, length-replicate}
 use lib.Seq.{take-append-seam, drop-at}
-use borrow.Author.Tests.{eqb-true, le-leb, le-ltb, lt-ltb, ne-eqb, ltb-false}
-use Rattle.laws.specs.Lists.{foldl, All, all, allBelow, span, eqText, onFirst}
+use borrow.Author.Tests.{eqb-true, le-leb, le-ltb, lt-ltb, ne-eqb}
+use Rattle.laws.specs.Lists.{foldl, All, all, allBelow, span, eqText}
 use Rattle.laws.proofs.Bools.{by-test, both-true, and-left, and-right, and-both, eqb-sym}
 use Rattle.laws.proofs.Finite.{below, below₂}
 use Rattle.laws.proofs.Lists.{eqText-true, foldl-append}
-use Rattle.laws.proofs.Spans.{span-yes, span-no}
-use Rattle.standard.specs.Bytes.{ascii, is, isDigit, first, decimal, digits}
-use Rattle.standard.specs.Pitches.{Accidental, isLetter, octaveMark, octaveBy, alterOf, stepOf}
-use Rattle.standard.specs.Keys.{Key, keyAlter}
-use Rattle.standard.specs.Bars.{Barline, normal, repeatStart, repeatEnd, repeatBoth, double, final, symbolAt}
+use Rattle.laws.proofs.Spans.{span-no}
+use Rattle.standard.specs.Bytes.{ascii, is, isDigit, first, decimal}
+use Rattle.standard.specs.Pitches.{isLetter, octaveMark, octaveBy, alterOf, stepOf}
+use Rattle.standard.specs.Keys.{keyAlter}
+use Rattle.standard.specs.Bars.{normal, repeatStart, repeatEnd, repeatBoth, double, final, symbolAt}
 use Rattle.standard.specs.Tuplets.{usualNormal}
-use Rattle.standard.specs.Passes.{Item, pass, passes, passesOf}
-use Rattle.standard.specs.Lengths.{Value, ticks, dotted, halved}
+use Rattle.standard.specs.Passes.{pass, passes, passesOf}
+use Rattle.standard.specs.Lengths.{ticks, dotted, halved}
 use Rattle.standard.specs.Notes
 use Rattle.standard.specs.Notes.{Beam, beams}
 use Rattle.standard.specs.Fields.{namedMeter}
 use Rattle.reader.specs.Text.{isSpace}
 use Rattle.reader.specs.Pieces.{pieces, mark, after}
 use Rattle.reader.specs.Fields.{meterOf, meterText, meterOr, meterNumber, meterBottom, orFour, unitOf, unitInline, unitText, unitNumber, lineUnit, inlineUnit, orEight}
-use Rattle.reader.specs.Pitches.{Octave, octaveFrom, Before, accidentalOf, signs}
-use Rattle.reader.specs.Token.{Taken, taken, barline, tuplet, volta}
+use Rattle.reader.specs.Pitches.{octaveFrom, Before, accidentalOf, signs}
+use Rattle.reader.specs.Token.{taken, barline, tuplet, volta}
 use Rattle.reader.specs.Tuplets.{notZero, positive, normalFor, orOneLess, counted, withCount, withNormal, withActual, tupletOf}
 use Rattle.reader.specs.Barlines.{barlineOf}
-use Rattle.reader.specs.PassLists.{passNumber, itemOf, single, range, lastPass, inTurn, passList, isPassByte, voltaAs, voltaOf}
-use Rattle.reader.specs.State.{Note, withBeam}
+use Rattle.reader.specs.PassLists.{passNumber, itemOf, single, range, inTurn, passList, isPassByte, voltaAs, voltaOf}
+use Rattle.reader.specs.State.{Note}
 use Rattle.reader.specs.Part.{canBeam, beamed, runAfter}
 use Rattle.reader.specs.All.{all as everything}
 use Rattle.reader.proofs.ValueLaws.{written}
