@@ -1,5 +1,5 @@
 pub mod Closed
-mod Ratio
+pub mod Ratio
 mod Bar
 mod Ending
 mod Sounding

@@ -1,1 +1,2 @@
 mod Dispatch
+pub mod Chords
