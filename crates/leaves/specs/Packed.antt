@@ -38,6 +38,8 @@ use Rattle.standard.specs.Keys.{Key}
 use Rattle.standard.specs.Fields.{Meter}
 use Rattle.reader.specs.Token as token
 use Rattle.words.specs.declared.Part.{Part}
+use Rattle.tokens.specs.declared.Token.{Token}
+use Rattle.tokens.specs.declared.Token.the-variants as t
 
 -- two numbers of 32 bits
 abbrev pub pair : ℕ → ℕ → ℕ
@@ -205,3 +207,31 @@ fieldPair (token.rest k l) = 0
 fieldPair (token.note p l b) = 0
 fieldPair token.nothing = 0
 fieldPair token.skipped = 0
+
+-- a length, a tie and a slur's end: a byte each for value, dots, tie, slur
+abbrev pub soundNumber : Length → Bool → Bool → ℕ
+soundNumber l tied slurred = asValue l .value * 16777216 + asValue l .dots * 65536 + flag tied * 256 + flag slurred
+
+-- a token by its kind and what it holds
+abbrev pub tokenNumber : Token → ℕ
+tokenNumber t.Space = pair 0 0
+tokenNumber t.Overlay = pair 1 0
+tokenNumber t.Quoted = pair 2 0
+tokenNumber (t.Broken up n) = pair 3 (flag up * 256 + n)
+tokenNumber (t.Tuplet p q r) = pair 4 (p * 256 + q)
+tokenNumber t.Slur = pair 5 0
+tokenNumber t.GraceOpen = pair 6 0
+tokenNumber t.GraceClose = pair 7 0
+tokenNumber t.Decoration = pair 8 0
+tokenNumber (t.Barline r l opens) = pair 9 (barlineCode r * 65536 + barlineCode l * 256 + flag opens)
+tokenNumber (t.Volta f bits) = pair 10 bits
+tokenNumber (t.Unit u) = pair 11 u
+tokenNumber (t.Meter a b) = pair 12 (a * 256 + b)
+tokenNumber (t.Key f m) = pair 13 (f * 256 + flag m)
+tokenNumber t.Field = pair 14 0
+tokenNumber (t.Chord place count l tied slurred) = pair 15 (soundNumber l tied slurred)
+tokenNumber (t.Rest kind l) = pair 16 (asValue l .value * 16777216 + asValue l .dots * 65536 + kind)
+tokenNumber (t.Note p l tied slurred) = pair 17 (soundNumber l tied slurred)
+tokenNumber t.Nothing = pair 18 0
+tokenNumber t.Skipped = pair 19 0
+tokenNumber (t.Refused n) = pair 20 n

@@ -18,6 +18,8 @@ ghost use Rattle.reader.specs.PassLists.{isPassByte};
 ghost use Rattle.reader.specs.Keys.{keyOf};
 ghost use Rattle.reader.specs.Fields.{meterOf, unitOf, unitInline, middleWord};
 ghost use Rattle.reader.specs.Inline.{fieldToken};
+ghost use Rattle.reader.specs.Tokens.{tokenOf};
+ghost use Rattle.tokens.specs.Tokens.{tokenisedFor};
 ghost use Rattle.fields.specs.Values.{unitAs, Identifier, tokenAs};
 ghost use Rattle.text.specs.Lines.{LineEnd, CleanEnd, classOf};
 ghost use Rattle.marks.specs.Bars.{barFor};
@@ -29,7 +31,7 @@ ghost use Rattle.reader.specs.Sounds.{behind};
 ghost use Rattle.runs.specs.Behind.{behindFor};
 ghost use Rattle.pitches.specs.Pitches.{noteChar, beforeFor, octaveFor};
 ghost use Rattle.pitches.specs.Chords.{pitchMet, metFor, closedAt, chordFor};
-ghost use Rattle.leaves.specs.Packed.{pair, bytes, flag, fraction, valueBytes, lengthWith, letterBytes, markNumber, octaveNumber, octaveEnd, pitchNumber, metNumber, metEnd, chordNumber, chordEnd, chordIn, behindBytes, classNumber, barlineCode, barNumber, barEnd, tupletBytes, tupletCount, tupletEnd, passesPair, passesEnd, keyBytes, meterBytes, unitPair, partWith, fieldPair};
+ghost use Rattle.leaves.specs.Packed.{pair, bytes, flag, fraction, valueBytes, lengthWith, letterBytes, markNumber, octaveNumber, octaveEnd, pitchNumber, metNumber, metEnd, chordNumber, chordEnd, chordIn, behindBytes, classNumber, barlineCode, barNumber, barEnd, tupletBytes, tupletCount, tupletEnd, passesPair, passesEnd, keyBytes, meterBytes, unitPair, partWith, fieldPair, soundNumber, tokenNumber};
 
 fn packed_pair(a: u32, b: u32) -> u64
     ensures { λ r. ⌜ r ≡ pair a b ⌝ }
@@ -616,4 +618,118 @@ pub extern "C" fn leaves_inline_field(line: &[u8], at: usize) -> u64
 {
     let a = start_in(line, at);
     packed_field(fields::parse_inline_field(line, a, line.len()))
+}
+
+// TOKENS
+
+fn packed_sound(length: lengths::Length, tie: bool, slur: bool) -> u32
+    ensures { λ r. ⌜ r ≡ soundNumber length tie slur ⌝ }
+{
+    let value = lengths::value_of(length) as u32;
+    let dots = lengths::dots_of(length) as u32;
+    value * 16777216 + dots * 65536 + (packed_flag(tie) as u32) * 256 + (packed_flag(slur) as u32)
+}
+
+fn packed_rest(length: lengths::Length, kind: u8) -> u32
+    ensures { λ r. ⌜ r ≡ asValue length .value * 16777216 + asValue length .dots * 65536 + kind ⌝ }
+{
+    let value = lengths::value_of(length) as u32;
+    let dots = lengths::dots_of(length) as u32;
+    value * 16777216 + dots * 65536 + (kind as u32)
+}
+
+fn packed_barlines(right: marks::Barline, left: marks::Barline, opens: bool) -> u32
+    ensures { λ r. ⌜ r ≡ barlineCode right * 65536 + barlineCode left * 256 + flag opens ⌝ }
+{
+    (packed_barline(right) as u32) * 65536
+        + (packed_barline(left) as u32) * 256
+        + (packed_flag(opens) as u32)
+}
+
+fn packed_flag_byte(a: bool, b: u8) -> u32
+    ensures { λ r. ⌜ r ≡ flag a * 256 + b ⌝ }
+{
+    (packed_flag(a) as u32) * 256 + (b as u32)
+}
+
+fn packed_byte_flag(a: u8, b: bool) -> u32
+    ensures { λ r. ⌜ r ≡ a * 256 + flag b ⌝ }
+{
+    (a as u32) * 256 + (packed_flag(b) as u32)
+}
+
+fn packed_token(t: tokens::Token) -> u64
+    ensures { λ r. ⌜ r ≡ tokenNumber t ⌝ }
+{
+    match t {
+        tokens::Token::Space => 0,
+        tokens::Token::Overlay => 4294967296,
+        tokens::Token::Quoted => 8589934592,
+        tokens::Token::Broken { up, count } => packed_pair(3, packed_flag_byte(up, count)),
+        tokens::Token::Tuplet {
+            actual,
+            normal,
+            count: _,
+        } => packed_pair(4, (actual as u32) * 256 + (normal as u32)),
+        tokens::Token::Slur => 21474836480,
+        tokens::Token::GraceOpen => 25769803776,
+        tokens::Token::GraceClose => 30064771072,
+        tokens::Token::Decoration => 34359738368,
+        tokens::Token::Barline { right, left, opens } => packed_pair(
+            9,
+            packed_barlines(right, left, opens),
+        ),
+        tokens::Token::Volta { first: _, passes } => packed_pair(10, passes),
+        tokens::Token::Unit(u) => packed_pair(11, u),
+        tokens::Token::Meter { top, bottom } => packed_pair(
+            12,
+            (top as u32) * 256 + (bottom as u32),
+        ),
+        tokens::Token::Key { fifths, minor } => packed_pair(13, packed_byte_flag(fifths, minor)),
+        tokens::Token::Field => 60129542144,
+        tokens::Token::Chord {
+            place: _,
+            count: _,
+            length,
+            tie,
+            slur,
+        } => packed_pair(15, packed_sound(length, tie, slur)),
+        tokens::Token::Rest { kind, length } => packed_pair(16, packed_rest(length, kind)),
+        tokens::Token::Note {
+            pitch: _,
+            length,
+            tie,
+            slur,
+        } => packed_pair(17, packed_sound(length, tie, slur)),
+        tokens::Token::Nothing => 77309411328,
+        tokens::Token::Skipped => 81604378624,
+        tokens::Token::Refused(number) => packed_pair(20, number as u32),
+    }
+}
+
+// The token at a position of a music line, under a unit; 2^64 - 1 past the line's end.
+#[no_mangle]
+pub extern "C" fn leaves_token(line: &[u8], at: usize, unit: u32) -> u64
+    ensures { λ r. ⌜ (at < length (now (line .entry)) → r ≡ tokenNumber (tokenisedFor at «unit» (tokenOf (drop at (now (line .entry)))) .token)) ⌝ }
+{
+    if line.len() <= at {
+        return 18446744073709551615;
+    }
+    let classes = marks::letter_classes();
+    let taken = tokens::token_at(line, at, unit, &classes);
+    let token = taken.token;
+    packed_token(token)
+}
+
+// The position after it.
+#[no_mangle]
+pub extern "C" fn leaves_token_end(line: &[u8], at: usize, unit: u32) -> usize
+    ensures { λ r. ⌜ (at < length (now (line .entry)) → r ≡ tokenisedFor at «unit» (tokenOf (drop at (now (line .entry)))) .next) ⌝ }
+{
+    if line.len() <= at {
+        return 0;
+    }
+    let classes = marks::letter_classes();
+    let taken = tokens::token_at(line, at, unit, &classes);
+    taken.next
 }

@@ -100,7 +100,14 @@ fn agrees(row: &[u8]) -> bool
     let high = number(row, 14);
     let low = number(row, 18);
     let want = (high as u64) * 4294967296 + (low as u64);
-    ask::answer(row[0], &row[22..], number(row, 2), number(row, 6), number(row, 10)) == want
+    ask::answer(
+        row[0],
+        &row[22..],
+        number(row, 2),
+        number(row, 6),
+        number(row, 10),
+    )
+        == want
 }
 
 fn one_more(n: u32) -> u32 {

@@ -30,6 +30,8 @@ unsafe extern "C" {
     fn leaves_voice_start(text: *const u8, len: usize, at: usize) -> u64;
     fn leaves_voice_end(text: *const u8, len: usize, at: usize) -> u64;
     fn leaves_inline_field(text: *const u8, len: usize, at: usize) -> u64;
+    fn leaves_token(text: *const u8, len: usize, at: usize, unit: u32) -> u64;
+    fn leaves_token_end(text: *const u8, len: usize, at: usize, unit: u32) -> u64;
     fn leaves_is_utf8(text: *const u8, len: usize) -> u64;
     fn leaves_is_blank(text: *const u8, len: usize) -> u64;
     fn leaves_white_at(text: *const u8, len: usize, at: usize) -> u64;
@@ -45,6 +47,7 @@ enum Call {
     At(unsafe extern "C" fn(*const u8, usize, usize) -> u64),
     FromTo(unsafe extern "C" fn(*const u8, usize, usize, usize) -> u64),
     AtByte(unsafe extern "C" fn(*const u8, usize, usize, u8) -> u64),
+    AtNumber(unsafe extern "C" fn(*const u8, usize, usize, u32) -> u64),
     Byte(unsafe extern "C" fn(u8) -> u64),
     Numbers(unsafe extern "C" fn(u32, u32, u32) -> u64),
     /// a value, b dots, c the count and 256 to lengthen.
@@ -94,6 +97,8 @@ exports! {
     VoiceStart At leaves_voice_start;
     VoiceEnd At leaves_voice_end;
     InlineField At leaves_inline_field;
+    Token AtNumber leaves_token;
+    TokenEnd AtNumber leaves_token_end;
     IsUtf8 Text leaves_is_utf8;
     IsBlank Text leaves_is_blank;
     WhiteAt At leaves_white_at;
@@ -119,6 +124,7 @@ impl Export {
                 Call::At(f) => f(text, len, at),
                 Call::FromTo(f) => f(text, len, at, b as usize),
                 Call::AtByte(f) => f(text, len, at, b as u8),
+                Call::AtNumber(f) => f(text, len, at, b),
                 Call::Byte(f) => f(a as u8),
                 Call::Numbers(f) => f(a, b, c),
                 Call::Broken(f) => f(a as u8, b as u8, c >= 256, c as u8),

@@ -268,17 +268,22 @@ fn inline_field(input: &Input) -> Verdict {
         assert!(number == 10);
         return Verdict::Refused(MIDDLE, vec![ask(Export::InlineField, at, pair(1, 0))]);
     }
+    Verdict::Same(vec![ask(Export::InlineField, at, inline_effect(inside))])
+}
+
+/// What an inline field without `middle=` sets.
+pub fn inline_effect(inside: &str) -> u64 {
+    let line = format!("[{inside}]");
     let unit = unit_set(|unit| rust::music_line(&line, unit, (4, 4)).2);
     let (_, staff, _, one) = rust::music_line(&line, 8, (201, 203));
     let other = rust::music_line(&line, 8, (7, 9)).3;
-    let want = match (unit, one == other, &staff.measures[0].key_sig) {
+    match (unit, one == other, &staff.measures[0].key_sig) {
         (0, false, None) => 0,
         (unit, false, None) => pair(2, unit as u32),
         (0, true, None) => pair(3, bytes(one.0, one.1) as u32),
         (0, false, Some(key)) => pair(4, bytes(raised(key.fifths), u8::from(key.mode == "minor")) as u32),
         all => panic!("more than one: {all:?}"),
-    };
-    Verdict::Same(vec![ask(Export::InlineField, at, want)])
+    }
 }
 
 fn inlines() -> Vec<Input> {

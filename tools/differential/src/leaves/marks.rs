@@ -13,7 +13,7 @@ pub fn leaves() -> [Leaf; 3] {
     ]
 }
 
-fn code(barline: &Barline) -> u8 {
+pub fn bar_code(barline: &Barline) -> u8 {
     match barline {
         Barline::Normal => 0,
         Barline::RepeatStart => 1,
@@ -29,7 +29,7 @@ fn barline(input: &Input) -> Verdict {
     let Some(line) = input.chars() else { return super::HIGH };
     let at = input.position();
     let (bar, end) = match rust::barline(&line, at) {
-        Some((right, left, end)) => (65536 + bytes(code(&right), code(&left)), end as u64),
+        Some((right, left, end)) => (65536 + bytes(bar_code(&right), bar_code(&left)), end as u64),
         None => (0, 0),
     };
     Verdict::Same(vec![ask(Export::Barline, at, bar), ask(Export::BarlineEnd, at, end)])
@@ -111,14 +111,16 @@ fn tuplet_text(r: &mut Rng) -> Input {
 fn passes(input: &Input) -> Verdict {
     let Some(line) = input.chars() else { return super::HIGH };
     let at = input.position();
+    let (first, bits, end) = pass_bits(&line, at);
+    Verdict::Same(vec![ask(Export::Passes, at, pair(u32::from(first), bits)), ask(Export::PassesEnd, at, end as u64)])
+}
+
+/// The first pass, all of them as bits, and the position after the list; zeros where it is none.
+pub fn pass_bits(line: &[char], at: usize) -> (u8, u32, usize) {
     let run: String = line[at..].iter().take_while(|c| c.is_ascii_digit() || matches!(c, ',' | '-')).collect();
     let passes = VoltaBracket::parse_passes(&run);
     let bits = passes.iter().fold(0, |bits, pass| bits | 1u32 << (pass - 1));
-    let (answer, end) = match passes.first() {
-        Some(&first) => (pair(u32::from(first), bits), at + run.len()),
-        None => (0, 0),
-    };
-    Verdict::Same(vec![ask(Export::Passes, at, answer), ask(Export::PassesEnd, at, end as u64)])
+    passes.first().map_or((0, 0, 0), |&first| (first, bits, at + run.len()))
 }
 
 /// Every text of up to five characters of `0 1 2 , -`, and lists around 32.

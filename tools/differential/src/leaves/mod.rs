@@ -10,6 +10,7 @@ mod lengths;
 mod marks;
 mod notes;
 mod texts;
+mod tokens;
 
 /// A text, and numbers whose meaning is the leaf's.
 #[derive(Debug, Clone, PartialEq)]
@@ -90,6 +91,7 @@ pub fn all() -> Vec<Leaf> {
     leaves.extend(notes::leaves());
     leaves.extend(marks::leaves());
     leaves.extend(fields::leaves());
+    leaves.extend(tokens::leaves());
     leaves.extend(texts::leaves());
     leaves
 }

@@ -12,6 +12,7 @@
 //!   P5  `crate::probe::refuse(10)` where a word starts with `middle=`,
 //!   P6  `parse_passes` through `crate::probe` (refusal 14),
 //!   P7  `crate::probe::length(length_den)` in `abc_note_value` (domain of equality).
+//!   P8  `crate::probe::step(..)` at the head of `parse_body_line`'s loop (where its walk through a line stops).
 //! To both a module `leaves` is added at the end:
 //!   L1  src/leaves.rs, doors to 000's private functions; each function and type that it names must be there,
 //!   L2  `cut_and_trimmed`, a function made of the lines of `parse_abc` that cut a line at `%` and trim it.
@@ -184,6 +185,13 @@ fn main() {
         1,
         "    let mut best: Option<(Duration, u8, u64, u64)> = None;\n",
         "    crate::probe::length(length_den);\n    let mut best: Option<(Duration, u8, u64, u64)> = None;\n",
+    );
+    let text = replace(
+        &text,
+        "P8",
+        1,
+        "    loop {\n        let position = abc_last_note_position(staff);\n",
+        "    loop {\n        crate::probe::step(i, staff, *unit_den);\n        let position = abc_last_note_position(staff);\n",
     );
     std::fs::write(out.join("abc_probe.rs"), format!("{text}{}", leaves(&text, &doors))).unwrap();
 }
