@@ -94,7 +94,8 @@ returns-5 c =
     let q = c .before .before in
     let e = q .before .before .before in
     let p = of-to q in
-    low-second (text p) (place p) (bound p) _ (first p .1) _ (first p .0) (e .before .before .if1 .left) (hyphen e) _ (second q .1) _ (second q .0) _ (c .if3 .taken)
+    let l : q .to .given .0 .0 ≤ p .from .given .0 .0 = omega (arith, c .if3 .taken) in
+    low-second (text p) (place p) (bound p) _ (first p .1) _ (first p .0) (e .before .before .if1 .left) (hyphen e) _ (second q .1) _ (second q .0) _ l
 
 byte-at-requires-2 : tie.Need-byte-at-requires-2
 byte-at-requires-2 c κs = search needs
