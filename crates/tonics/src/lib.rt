@@ -2,8 +2,6 @@
 // Fifths have 128 added: 128 is none, one sharp more is one more.
 ghost use mathlib.Core.Path.{_≡_};
 ghost use mathlib.Core.Bool.{_&&_};
-ghost use Prim.Native.Nat.{ℕ};
-ghost use lib.Dec.{eqb};
 ghost use Rattle.reader.specs.Keys.{fifthsOf};
 ghost use Rattle.tonics.specs.Names.{withByte, tonicIn, firstOf, isName, majors, minors, lookupIn, lookedUp};
 

@@ -1,9 +1,8 @@
 // Words, trimming and marks in a part of a line. A part is given by two positions: the bytes from the first up to the second.
 ghost use mathlib.Core.Path.{_≡_};
-ghost use mathlib.Core.Bool.{Bool, not, _&&_};
-ghost use Prim.Native.Nat.{ℕ, _≤_, _-_};
-ghost use lib.Dec.{ltb, eqb};
-ghost use lib.ListN.{length, getD};
+ghost use mathlib.Core.Bool.{_&&_};
+ghost use Prim.Native.Nat.{_≤_, _-_};
+ghost use lib.ListN.{length};
 ghost use Rattle.laws.specs.Spans.{endIn};
 ghost use Rattle.reader.specs.Text.{isSpace};
 ghost use Rattle.words.specs.Words.{notSpace, notByte, standsAt, standsBefore, trimmedEnd, Trimmed};

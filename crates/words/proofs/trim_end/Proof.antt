@@ -1,6 +1,6 @@
 -- `words::trim_end` meets its contract. The loop's invariant: the text up to e has the end of the whole.
 use Prim.Native.Nat.{_-_, _<_}
-use mathlib.Core.Path.{_≡_, refl, sym, _∙_}
+use mathlib.Core.Path.{refl, sym, _∙_}
 use native.Mathlib.Omega.{arith}
 use Rattle.words.proofs.Trims.{trims-lt, Trimming, trimming-on, trimming-off}
 use Rattle.words.proofs.trim_end.Statement.{statement}
