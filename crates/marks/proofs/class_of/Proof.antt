@@ -1,12 +1,11 @@
+-- `marks::class_of` meets its contract.
 use Prim.Native.Nat.{_<_, _≤_}
-use mathlib.Core.Path.{_∙_, ap, sym}
+use mathlib.Core.Path.{sym}
 use native.Mathlib.Omega.{arith}
 use Rattle.marks.proofs.Table.{table-at, high-skipped}
 use borrow.Author.Needs.{needs}
 use Rattle.marks.proofs.class_of.Statement.{statement}
 use Rattle.marks.proofs.class_of.Tie as tie
-use Rattle.marks.proofs.class_of.Reads as reads
-use Rattle.marks.proofs.class_of.Lts as lts
 
 element-copy-out-result : tie.Need-element-copy-out-result
 element-copy-out-result c = search needs
