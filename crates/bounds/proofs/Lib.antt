@@ -12,3 +12,6 @@ pub mod LyricRanges
 pub mod ScanRanges
 pub mod RecordBytes
 pub mod Reading
+pub mod FourBytes
+pub mod Tables
+pub mod Sharp

@@ -1,0 +1,5 @@
+pub mod Closed
+pub mod Ratio
+mod Bar
+mod Ending
+mod Sounding
