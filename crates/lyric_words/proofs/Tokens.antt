@@ -13,7 +13,7 @@ use Rattle.laws.specs.Bytes.{between}
 use Rattle.laws.proofs.Lists.{eqText-length}
 use Rattle.laws.proofs.Parts.{length-between, getD-between, between-none, between-first, endIn-ge, endIn-le, endIn-more, endIn-stops}
 use Rattle.standard.specs.Bytes.{ascii, first, last}
-use Rattle.standard.specs.Lyrics.{Syllabic, syllabicOf, Word, skip, hold, syllable, syllables, syllableText}
+use Rattle.standard.specs.Lyrics.{Syllabic, single, begins, ends, middle, syllabicOf, Word, skip, hold, syllable, syllables, syllableText}
 use Rattle.reader.specs.Pieces.{words, mark, whiteAt}
 use Rattle.reader.specs.Lyrics.{orSkip, wordOf, wordsOf, lyricWords}
 use Rattle.reader.specs.Codes.{syllabicCode}
@@ -21,7 +21,7 @@ use Rattle.lyric_words.specs.declared.Token.{Token}
 use Rattle.lyric_words.specs.declared.Token.the-variants as T
 use Rattle.lyric_words.specs.declared.Cursor.{Cursor}
 use Rattle.lyric_words.specs.declared.Read.{Read}
-use Rattle.lyric_words.specs.Words.{isHyphen, asSyllabic, said, inWord, plainOf, ahead, WordStart, Closed, WordEnd, InWord, GoneOn, SyllableRead, PlainRead, WordRead, Ready, Settled, TokenRead, First}
+use Rattle.lyric_words.specs.Words.{isHyphen, asSyllabic, Small, said, inWord, plainOf, ahead, WordStart, Closed, WordEnd, InWord, GoneOn, SyllableRead, PlainRead, WordRead, Ready, Settled, TokenRead, First}
 use Rattle.lyric_words.proofs.Hyphens.{noHyphen, syllabic-back, words-none, hyphens-past, piece-first, last-syllable, next-syllable, or-skip-some}
 
 not-false : (b : Bool) → not b ≡ false → b ≡ true
@@ -33,6 +33,21 @@ cursor at word led trailed = record { at = at; word = word; led = led; trailed =
 
 abbrev pub read : Token → Cursor → Read
 read t c = record { token = t; cursor = c }
+
+-- a syllabic's number is small
+code-small : (c : Syllabic) → syllabicCode c < 4
+unfolding syllabicCode
+code-small single = omega arith
+code-small begins = omega arith
+code-small ends = omega arith
+code-small middle = omega arith
+
+-- a bound that is higher
+pub small-more : (a b : ℕ) (t : Token) → a ≤ b → Small a t → Small b t
+small-more a b T.Bar h s = tt
+small-more a b T.Skip h s = tt
+small-more a b T.Hold h s = tt
+small-more a b (T.Syllable at end code) h s = (omega (arith, s .0), omega (arith, s .1), s .2)
 
 -- behind the word no syllable is left
 pub word-done : (text : List ℕ) (c : Cursor) → c .word ≤ c .at → inWord text c ≡ []
@@ -88,6 +103,7 @@ module _ (text : List ℕ) (at word : ℕ) (led trailed : Bool) (e q code : ℕ)
             ap (syllables led trailed) (pieces-at ∙ ap (λ (ys : List (List ℕ)). p ∷ ys) more)
             ∙ next-syllable led trailed p x ps
             ∙ (λ i. syllable (sym s i) (syllableText p) ∷ syllables true trailed (sym more i));
+        small = (omega arith, omega (arith, e-in), rw ce (code-small _));
         gone = gone;
       }
 
@@ -103,13 +119,14 @@ module _ (text : List ℕ) (at word : ℕ) (led trailed : Bool) (e q code : ℕ)
             ap (syllables led trailed) (pieces-at ∙ ap (λ (ys : List (List ℕ)). p ∷ ys) none)
             ∙ last-syllable led trailed p
             ∙ (λ i. syllable (sym s i) (syllableText p) ∷ sym (word-done text (cursor q word true trailed) (omega arith)) i);
+        small = (omega arith, omega (arith, e-in), rw ce (code-small _));
         gone = gone;
       }
 
 -- A WORD
 module _ (text : List ℕ) (at word : ℕ) (h : at < word) (l : word ≤ length text) where
-  ends : GoneOn text at word (cursor word word false false)
-  ends = record { stands = record { low = omega arith; piece = λ r. absurd (omega arith) }; same = refl; on = h; far = λ r. absurd (omega arith) }
+  at-end : GoneOn text at word (cursor word word false false)
+  at-end = record { stands = record { low = omega arith; piece = λ r. absurd (omega arith) }; same = refl; on = h; far = λ r. absurd (omega arith) }
 
   -- nothing but hyphens
   pub plain-skip : (next : ℕ) → next ≡ endIn isHyphen text at word → next ≡ word → PlainRead text at word (read T.Skip (cursor word word false false))
@@ -121,7 +138,8 @@ module _ (text : List ℕ) (at word : ℕ) (h : at < word) (l : word ≤ length 
         says =
             ap (λ (ps : List (List ℕ)). orSkip (syllables (isHyphen (first w)) (isHyphen (last w)) ps)) none
             ∙ ap (λ (ws : List Word). skip ∷ ws) (sym (word-done text (cursor word word false false) (omega arith)));
-        gone = ends;
+        small = tt;
+        gone = at-end;
       }
 
   -- a syllable first
@@ -147,6 +165,7 @@ module _ (text : List ℕ) (at word : ℕ) (h : at < word) (l : word ≤ length 
       ∙ ap (syllables b a) (sym some) in
       record {
         says = here ∙ s .says;
+        small = s .small;
         gone = record {
           stands = s .gone .stands;
           same = s .gone .same;
@@ -161,17 +180,17 @@ module _ (text : List ℕ) (at word : ℕ) (h : at < word) (l : word ≤ length 
 
   pub word-bar : word - at ≡ 1 → getD text at 0 ≡ 124 → WordRead text at word (read T.Bar (cursor word word false false))
   unfolding said wordOf
-  word-bar e b = record { says = ap wordOf (one e) ∙ ap (λ (c : ℕ). wordOf (c ∷ [])) b ∙ sym (word-done text (cursor word word false false) (omega arith)); gone = ends }
+  word-bar e b = record { says = ap wordOf (one e) ∙ ap (λ (c : ℕ). wordOf (c ∷ [])) b ∙ sym (word-done text (cursor word word false false) (omega arith)); small = tt; gone = at-end }
 
   pub word-skip : word - at ≡ 1 → getD text at 0 ≡ 42 → WordRead text at word (read T.Skip (cursor word word false false))
   unfolding said wordOf
   word-skip e b =
-      record { says = ap wordOf (one e) ∙ ap (λ (c : ℕ). wordOf (c ∷ [])) b ∙ ap (λ (ws : List Word). skip ∷ ws) (sym (word-done text (cursor word word false false) (omega arith))); gone = ends }
+      record { says = ap wordOf (one e) ∙ ap (λ (c : ℕ). wordOf (c ∷ [])) b ∙ ap (λ (ws : List Word). skip ∷ ws) (sym (word-done text (cursor word word false false) (omega arith))); small = tt; gone = at-end }
 
   pub word-hold : word - at ≡ 1 → getD text at 0 ≡ 95 → WordRead text at word (read T.Hold (cursor word word false false))
   unfolding said wordOf
   word-hold e b =
-      record { says = ap wordOf (one e) ∙ ap (λ (c : ℕ). wordOf (c ∷ [])) b ∙ ap (λ (ws : List Word). hold ∷ ws) (sym (word-done text (cursor word word false false) (omega arith))); gone = ends }
+      record { says = ap wordOf (one e) ∙ ap (λ (c : ℕ). wordOf (c ∷ [])) b ∙ ap (λ (ws : List Word). hold ∷ ws) (sym (word-done text (cursor word word false false) (omega arith))); small = tt; gone = at-end }
 
   plain-by : (w : List ℕ) → eqText w (ascii "|") ≡ false → eqText w (ascii "*") ≡ false → eqText w (ascii "_") ≡ false → wordOf w ≡ plainOf w
   unfolding wordOf plainOf
@@ -180,7 +199,7 @@ module _ (text : List ℕ) (at word : ℕ) (h : at < word) (l : word ≤ length 
   -- any other
   pub word-plain : (eqText (between text at word) (ascii "|") ≡ false) → (eqText (between text at word) (ascii "*") ≡ false) → (eqText (between text at word) (ascii "_") ≡ false)
       → (r : Read) → PlainRead text at word r → WordRead text at word r
-  word-plain a b c r p = record { says = plain-by (between text at word) a b c ∙ p .says; gone = p .gone }
+  word-plain a b c r p = record { says = plain-by (between text at word) a b c ∙ p .says; small = p .small; gone = p .gone }
 
   -- a longer one
   pub word-long : (word - at ≡ 1 → ⊥) → (r : Read) → PlainRead text at word r → WordRead text at word r
@@ -276,6 +295,7 @@ module _ (text : List ℕ) (end : ℕ) where
   token-in c i r s on t =
       record {
         says = says-by (c .word) (r .cursor) on (inWord text c) (said text (r .token)) (s .gone .same) t (s .says);
+        small = s .small;
         ready = t .ready;
         on = omega (arith, s .gone .on, t .low);
         far = far-by (c .at) (c .word) (r .cursor) on (s .gone) (i .within) t;
@@ -296,6 +316,7 @@ module _ (text : List ℕ) (end : ℕ) where
             ahead-done c (omega arith) ∙ ap (λ (k : ℕ). lyricWords (between text k end)) e
             ∙ line-word (c .at) word w
             ∙ says-by word (r .cursor) on (wordOf (between text (c .at) word)) (said text (r .token)) (s .gone .same) t (s .says);
+        small = s .small;
         ready = t .ready;
         on = omega (arith, s .gone .on, t .low);
         far = far-by (c .at) word (r .cursor) on (s .gone) (w .closed .high) t;

@@ -29,6 +29,13 @@ said text T.Skip = skip ∷ []
 said text T.Hold = hold ∷ []
 said text (T.Syllable at end code) = syllable (asSyllabic code) (syllableText (between text at end)) ∷ []
 
+-- a syllable's place is within b bytes, and its number a syllabic's
+abbrev pub Small : ℕ → Token → Type 0
+Small b T.Bar = Unit {0}
+Small b T.Skip = Unit {0}
+Small b T.Hold = Unit {0}
+Small b (T.Syllable at end code) = (at ≤ b) × (end ≤ b) × (code < 4)
+
 -- the syllables still to come of the word at the cursor
 unfoldable pub inWord : List ℕ → Cursor → List Word
 inWord text c = syllables (c .led) (c .trailed) (words (mark isHyphen) (between text (c .at) (c .word)))
@@ -74,16 +81,19 @@ pub record GoneOn (text : List ℕ) (from word : ℕ) (c : Cursor) : Type 0 wher
 -- a syllable was read from a cursor that stands at one
 pub record SyllableRead (text : List ℕ) (c : Cursor) (r : Read) : Type 0 where
   pub says : inWord text c ≡ said text (r .token) ++ inWord text (r .cursor)
+  pub small : Small (length text) (r .token)
   pub gone : GoneOn text (c .at) (c .word) (r .cursor)
 
 -- the first token of a word was read that is no `|`, `*` or `_`
 pub record PlainRead (text : List ℕ) (from word : ℕ) (r : Read) : Type 0 where
   pub says : plainOf (between text from word) ≡ said text (r .token) ++ inWord text (r .cursor)
+  pub small : Small (length text) (r .token)
   pub gone : GoneOn text from word (r .cursor)
 
 -- the first token of a word was read
 pub record WordRead (text : List ℕ) (from word : ℕ) (r : Read) : Type 0 where
   pub says : wordOf (between text from word) ≡ said text (r .token) ++ inWord text (r .cursor)
+  pub small : Small (length text) (r .token)
   pub gone : GoneOn text from word (r .cursor)
 
 -- a cursor of the line that ends at `end` that stands at a syllable, at the beginning of a word, or at the end
@@ -103,6 +113,7 @@ pub record Settled (text : List ℕ) (end : ℕ) (c r : Cursor) : Type 0 where
 -- a token was read: two bytes at least, or the rest of the line
 pub record TokenRead (text : List ℕ) (end : ℕ) (c : Cursor) (r : Read) : Type 0 where
   pub says : ahead text end c ≡ said text (r .token) ++ ahead text end (r .cursor)
+  pub small : Small (length text) (r .token)
   pub ready : Ready text end (r .cursor)
   pub on : c .at < r .cursor .at
   pub far : min (c .at + 2) end ≤ r .cursor .at
