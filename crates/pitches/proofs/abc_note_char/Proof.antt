@@ -1,0 +1,21 @@
+use borrow.Author.Tests.{lt-ltb, le-ltb}
+use Rattle.standard.specs.Pitches.{stepOf, letterOctave}
+use borrow.Author.Needs.{needs}
+use Rattle.pitches.proofs.abc_note_char.Statement.{statement}
+use Rattle.pitches.proofs.abc_note_char.Tie as tie
+use Rattle.pitches.proofs.abc_note_char.Reads as reads
+use Rattle.pitches.proofs.abc_note_char.Lts as lts
+
+add-step : tie.Need-add-step
+add-step c = search needs
+
+returns : tie.Need-returns
+unfolding stepOf letterOctave
+returns c = rw (lt-ltb _ _ (c .if1 .taken))
+
+returns-2 : tie.Need-returns-2
+unfolding stepOf letterOctave
+returns-2 c = rw (le-ltb _ _ (c .if1 .left))
+
+pub abc-note-char-spec : {M : Type 1} → statement M
+abc-note-char-spec = tie.close (tie.spec add-step returns returns-2)

@@ -1,0 +1,21 @@
+use borrow.Author.Tests.{lt-ltb, le-ltb}
+use Rattle.pitches.specs.Chords.{closedAt}
+use borrow.Author.Needs.{needs}
+use Rattle.pitches.proofs.past.Statement.{statement}
+use Rattle.pitches.proofs.past.Tie as tie
+use Rattle.pitches.proofs.past.Reads as reads
+use Rattle.pitches.proofs.past.Lts as lts
+
+add-result : tie.Need-add-result
+add-result c = search needs
+
+returns : tie.Need-returns
+unfolding closedAt
+returns c = rw (lt-ltb _ _ (c .if1 .taken))
+
+returns-2 : tie.Need-returns-2
+unfolding closedAt
+returns-2 c = rw (le-ltb _ _ (c .if1 .left))
+
+pub past-spec : {M : Type 1} → statement M
+past-spec = tie.close (tie.spec add-result returns returns-2)

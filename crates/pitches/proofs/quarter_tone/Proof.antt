@@ -1,0 +1,14 @@
+use borrow.Author.Needs.{needs}
+use Rattle.pitches.proofs.quarter_tone.Statement.{statement}
+use Rattle.pitches.proofs.quarter_tone.Tie as tie
+use Rattle.pitches.proofs.quarter_tone.Reads as reads
+use Rattle.pitches.proofs.quarter_tone.Lts as lts
+
+returns : tie.Need-returns
+returns c = rw (c .if1 .taken)
+
+returns-2 : tie.Need-returns-2
+returns-2 c = rw (c .if1 .left)
+
+pub quarter-tone-spec : {M : Type 1} → statement M
+quarter-tone-spec = tie.close (tie.spec returns returns-2)

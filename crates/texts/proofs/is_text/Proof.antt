@@ -1,0 +1,26 @@
+-- `texts::is_text` meets its contract: a text as long as the name begins with it where it is the name.
+use mathlib.Core.Path.{sym, _∙_}
+use Rattle.laws.specs.Bytes.{between}
+use Rattle.laws.proofs.Lists.{eqText-length, eqText-sym}
+use Rattle.laws.proofs.Parts.{length-between}
+use Rattle.texts.proofs.Texts.{starts-whole}
+use borrow.Author.Needs.{needs}
+use Rattle.texts.proofs.is_text.Statement.{statement}
+use Rattle.texts.proofs.is_text.Tie as tie
+
+sub-if1 : tie.Need-sub-if1
+sub-if1 c = search needs
+
+returns : tie.Need-returns
+returns c =
+    sym (eqText-length (between (c .before .before .before .args .line .now) (c .before .before .before .args .a) (c .before .before .before .args .b)) (c .before .before .before .args .name .now) (λ e. c .if1 .taken (sym (length-between (c .before .before .before .args .line .now) (c .before .before .before .args .a) (c .before .before .before .args .b) (c .before .before .before .pre .1)) ∙ e)))
+
+starts-with-requires : tie.Need-starts-with-requires
+starts-with-requires c κs = search needs
+
+returns-2 : tie.Need-returns-2
+returns-2 c =
+    c .starts-with .ensures ∙ starts-whole (c .before .before .before .before .args .name .now) (between (c .before .before .before .before .args .line .now) (c .before .before .before .before .args .a) (c .before .before .before .before .args .b)) (length-between (c .before .before .before .before .args .line .now) (c .before .before .before .before .args .a) (c .before .before .before .before .args .b) (c .before .before .before .before .pre .1) ∙ c .before .if1 .left) ∙ eqText-sym (c .before .before .before .before .args .name .now) (between (c .before .before .before .before .args .line .now) (c .before .before .before .before .args .a) (c .before .before .before .before .args .b))
+
+pub is-text-spec : {M : Type 1} → statement M
+is-text-spec = tie.close (tie.spec sub-if1 returns starts-with-requires returns-2)
