@@ -66,11 +66,11 @@ module _ (p : Prices) where
   lyric-counts q = texts-cost (lyrics q)
 
   -- A PART BY ITS LINES' BYTES: its music, and its lyrics
-  pub music-bound : Covered p → (header : Key) (is : List Item) 
+  pub music-bound : Covered p → (header : Key) (is : List Item)
       → p .measure * length (build header is .measures) + p .note * length (notesOf (build header is)) + p .pitch * length (pitchesOf (build header is)) ≤ p .measure + p .byte * sum musicBytes is
   music-bound paid header is = omega (arith, part-cost p paid header is, counts-cost (build header is))
 
-  pub lyric-bound : Covered p → (header : Key) (is : List Item) 
+  pub lyric-bound : Covered p → (header : Key) (is : List Item)
       → p .syllable * length (lyrics (build header is)) + p .text * length (lyricText (build header is)) ≤ p .byte * sum lyricBytes is
   unfolding lyrics
   lyric-bound paid header is =

@@ -85,27 +85,27 @@ silent-mine : (q : ℕ) (a : Items) → Silent a → any isMusic (mine q a) ≡ 
 silent-mine q [] s = refl
 silent-mine q (x ∷ a) s = by-test (eqb (x .0) q) (λ e. rw e (rw (s .0) (silent-mine q a (s .1)))) (λ e. rw e (silent-mine q a (s .1)))
 
-silent-parts : (e : Env) (a : Items) (n q : ℕ) → Silent a → sum measureCount (parts e (λ p. mine p a) n q) ≡ 0
+pub silent-parts : (e : Env) (a : Items) (n q : ℕ) → Silent a → sum measureCount (parts e (λ p. mine p a) n q) ≡ 0
 unfolding parts built measureCount emptyPart
 silent-parts e a zero q s = refl
 silent-parts e a (suc n) q s = rw (silent-mine q a s) (omega (arith, silent-parts e a n (suc q) s))
 
 -- THE SCAN OF A TEXT: nothing is played, or its bytes pay for all
-total-is : (a : Items) → total 0 23 23 48 a ≡ 23 * sum (λ (x : ℕ × Item). itemBytes (x .1)) a
+total-is : (a : Items) → total 0 23 23 0 48 a ≡ 23 * sum (λ (x : ℕ × Item). itemBytes (x .1)) a
 total-is [] = refl
 total-is (x ∷ a) = omega (arith, total-is a)
 
-section-paid : Paid 0 23 23 48
-section-paid = record { bytes = lit≤ tt; items = lit≤ tt; voices = lit≤ tt }
+section-paid : Paid 0 23 23 0 48
+section-paid = record { bytes = lit≤ tt; lines = lit≤ tt; feed = lit≤ tt; voices = lit≤ tt }
 
 pub scan-bound : (text : List ℕ)
     → Holds (λ t a. Silent a ⊎ (4 + 48 * voiceCount t + 23 * sum (λ (x : ℕ × Item). itemBytes (x .1)) a ≤ 23 * length text)) (scan (rows text))
 unfolding scan begin
 scan-bound text =
-    holds-map (Headed 0 23 23 48 section-paid 52 (lit≤ tt) begin (sum length (rows text))) _ (λ t a h. text-pays t a h) (scan (rows text))
-    (head-bill 0 23 23 48 section-paid 52 (lit≤ tt) (rows text) (rows-fed text) begin refl)
+    holds-map (Headed 0 23 23 0 48 section-paid 52 (lit≤ tt) begin (sum length (rows text))) _ (λ t a h. text-pays t a h) (scan (rows text))
+    (head-bill 0 23 23 0 48 section-paid 52 (lit≤ tt) (rows text) (rows-fed text) begin refl)
   where
-    text-pays : (t : ScanState) (a : Items) → Headed 0 23 23 48 section-paid 52 (lit≤ tt) begin (sum length (rows text)) t a
+    text-pays : (t : ScanState) (a : Items) → Headed 0 23 23 0 48 section-paid 52 (lit≤ tt) begin (sum length (rows text)) t a
         → Silent a ⊎ (4 + 48 * voiceCount t + 23 * sum (λ (x : ℕ × Item). itemBytes (x .1)) a ≤ 23 * length text)
     text-pays t a (inl h) = inl h
     text-pays t a (inr h) = inr (omega (arith, h, rows-length text, total-is a))

@@ -10,3 +10,7 @@ pub mod TokenRanges
 pub mod PartRanges
 pub mod LyricRanges
 pub mod ScanRanges
+pub mod RecordBytes
+pub mod Reading
+pub mod FourBytes
+pub mod Tables

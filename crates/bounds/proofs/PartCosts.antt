@@ -273,7 +273,7 @@ module _ (p : Prices) where
     opened-cost t [] = omega arith
     opened-cost t (m ∷ ms) = omega arith
 
-    begins-step : (u : ℕ) (t : Meter) (s : PartState) → stateCost p (lineBegins u t s) ≤ stateCost p s + firstCost (s .measures)
+    pub begins-step : (u : ℕ) (t : Meter) (s : PartState) → stateCost p (lineBegins u t s) ≤ stateCost p s + firstCost (s .measures)
     unfolding lineBegins stateCost
     begins-step u t s = omega (arith, opened-cost t (s .measures))
 
@@ -307,10 +307,14 @@ module _ (p : Prices) where
     items-step header (i ∷ is) s k =
         omega (arith, item-step header s i k, items-step header is (onItem header s i) (kept-item header s i k), mul-add (p .byte) (musicBytes i) (sum musicBytes is))
 
+    -- a part while it is read, with its first measure
+    pub items-paid : (header : Key) (is : List Item) → paidFor (foldl (onItem header) newPart is) ≤ p .measure + p .byte * sum musicBytes is
+    unfolding newPart stateCost keptBack scopesCost firstCost
+    items-paid header is = omega (arith, items-step header is newPart (record { scopes-kept = refl; voices-kept = tt }))
+
     -- a part while it is read, after any of its items
     pub reading-cost : (header : Key) (is : List Item) → stateCost p (foldl (onItem header) newPart is) ≤ p .measure + p .byte * sum musicBytes is
-    unfolding newPart stateCost keptBack scopesCost firstCost
-    reading-cost header is = omega (arith, items-step header is newPart (record { scopes-kept = refl; voices-kept = tt }))
+    reading-cost header is = omega (arith, items-paid header is)
 
   -- THE END OF A PART costs nothing
   dropped-cost : (ms : List Measure) → measuresCost p (dropped ms) ≤ measuresCost p ms

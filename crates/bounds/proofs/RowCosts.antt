@@ -87,19 +87,23 @@ rows-fed (c ∷ t) = by-test (eqb c 10) (λ e. rw e (fed-cons (c ∷ []) (rows t
 unfoldable pub KindFits : ℕ → Kind → Type 0
 KindFits n blank = Unit {0}
 KindFits n (refused k) = Unit {0}
-KindFits n (lyric t) = length t ≤ n
+KindFits n (lyric t) = 2 + length t ≤ n
 KindFits n (voice v mid) = 3 ≤ n
 KindFits n (key k) = 2 ≤ n
 KindFits n (meter m) = 2 ≤ n
 KindFits n (unit u) = 2 ≤ n
 KindFits n tune = Unit {0}
 KindFits n other = Unit {0}
-KindFits n (music hi es l) = length l ≤ n
+KindFits n (music hi es l) = (1 ≤ length l) × (length l ≤ n)
 
 begins-two : (a b : ℕ) (l : List ℕ) → begins a b l ≡ true → 2 ≤ length l
 begins-two a b [] e = absurd (false≢true e)
 begins-two a b (x ∷ []) e = absurd (false≢true e)
 begins-two a b (x ∷ y ∷ r) e = omega arith
+
+some-bytes : (l : List ℕ) → isNil l ≡ false → 1 ≤ length l
+some-bytes [] e = absurd (false≢true (sym e))
+some-bytes (c ∷ l) e = omega arith
 
 -- an identifier needs a byte
 no-word : identifier [] ≡ []
@@ -140,5 +144,5 @@ kind-fits l =
     (λ e. rw e
     (by-test (ltb 1048576 (length l)) (λ f. rw f tt)
     (λ f. rw f
-    (by-test (isLyric l) (λ g. rw g (omega (arith, length-drop 2 l)))
-    (λ g. rw g (by-test (isField l) (λ k. rw k (field-fits l)) (λ k. rw k (omega arith))))))))
+    (by-test (isLyric l) (λ g. rw g (omega (arith, length-drop 2 l, begins-two 119 58 l g)))
+    (λ g. rw g (by-test (isField l) (λ k. rw k (field-fits l)) (λ k. rw k (some-bytes l e, omega arith))))))))

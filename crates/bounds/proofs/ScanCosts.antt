@@ -70,12 +70,15 @@ pub before-count : (s : ScanState) → max 1 (length (voicesBefore s)) ≡ voice
 unfolding voicesBefore
 before-count s = unnamed-count (s .opened) (s .env .voices)
 
--- THE BILL OF A ROW: an item's price and what a byte of its line costs, what a byte of the text pays, what a voice costs
-module _ (item byte pays voiceCost : ℕ) where
+-- THE BILL OF A ROW: an item's price and what a byte of its line costs, what a byte of the text pays, what is left to the line feed, what a voice costs
+module _ (item byte pays rest voiceCost : ℕ) where
   pub record Paid : Type 0 where
+    -- a line of one byte, and its feed
     pub bytes : byte ≤ pays
-    pub items : item ≤ pays
-    pub voices : 2 * item + voiceCost ≤ 3 * pays
+    pub lines : item + byte ≤ pays + rest
+    pub feed : rest ≤ pays
+    -- a V line has three bytes, two items and a voice
+    pub voices : 2 * item + voiceCost ≤ 3 * pays + rest
 
   abbrev pub price : Item → ℕ
   price i = item + byte * itemBytes i
@@ -83,13 +86,18 @@ module _ (item byte pays voiceCost : ℕ) where
   abbrev pub total : Items → ℕ
   total a = sum (λ (x : ℕ × Item). price (x .1)) a
 
-  -- n bytes pay for the items and for the voices that are new, but for one item
+  -- n bytes pay for the items and for the voices that are new, but for what is left to the line feed
   abbrev pub Bill : ScanState → ℕ → ScanState → Items → Type 0
-  Bill s n t a = total a + voiceCost * voiceCount t ≤ voiceCost * voiceCount s + pays * n + item
+  Bill s n t a = total a + voiceCost * voiceCount t ≤ voiceCost * voiceCount s + pays * n + rest
 
   module _ (paid : Paid) where
-    line-price : (m n : ℕ) → m ≤ n → byte * m ≤ pays * n
-    line-price m n h = omega (arith, times-dearer byte pays m (paid .bytes), times-more pays m n h)
+    -- a line of n bytes, of which m + 1 cost
+    line-price : (m n : ℕ) → suc m ≤ n → item + byte * suc m ≤ pays * n + rest
+    line-price m n h = omega (arith, times-dearer byte pays m (paid .bytes), mul-suc byte m, mul-suc pays m, times-more pays (suc m) n h, paid .lines)
+
+    -- a line of two bytes
+    item-price : (n : ℕ) → 2 ≤ n → item ≤ pays * n + rest
+    item-price n h = omega (arith, times-more pays 2 n h, paid .lines, paid .bytes)
 
     three : (n : ℕ) → 3 ≤ n → 3 * pays ≤ pays * n
     three n h = omega (arith, times-more pays 3 n h)
@@ -104,16 +112,20 @@ module _ (item byte pays voiceCost : ℕ) where
     voice-bill : (s : ScanState) (v : List ℕ) (vs : List (List ℕ)) (n : ℕ) → max 1 (length vs) ≡ voiceCount s → 3 ≤ n → (known full mid : Bool) → Holds (Bill s n) (voiceOn s v vs known full mid)
     unfolding voiceOn Holds itemBytes musicBytes lyricBytes
     voice-bill s v vs n e h true full true = tt
-    voice-bill s v vs n e h true full false = omega (arith, same-voices (max 1 (length vs)) (voiceCount s) e)
+    voice-bill s v vs n e h true full false = omega (arith, same-voices (max 1 (length vs)) (voiceCount s) e, item-price n (omega arith))
     voice-bill s v vs n e h false true mid = tt
     voice-bill s v vs n e h false false true = tt
     voice-bill s v vs n e h false false false =
         omega (arith, same-voices (max 1 (length vs)) (voiceCount s) e, one-more (length vs), same-voices (max 1 (length (vs ++ (v ∷ [])))) (max 1 (length vs + 1)) (ap (max 1) (length-append vs (v ∷ []))), three n h, paid .voices)
 
-    play-bill : (s : ScanState) (es : List Effect) (l : List ℕ) (n : ℕ) → length l ≤ n → (o : Option ℕ) → Holds (Bill s n) (playOn s es l o)
+    play-bill : (s : ScanState) (es : List Effect) (l : List ℕ) (n : ℕ) → 1 ≤ length l → length l ≤ n → (o : Option ℕ) → Holds (Bill s n) (playOn s es l o)
     unfolding playOn Holds itemBytes musicBytes lyricBytes
-    play-bill s es l n h (some k) = tt
-    play-bill s es l n h none = omega (arith, line-price (length l + 0) n (omega arith))
+    play-bill s es l n g h (some k) = tt
+    play-bill s es [] n g h none = absurd (omega (arith, g))
+    play-bill s es (c ∷ l) n g h none = omega (arith, line-price (length l) n h, more-bytes)
+      where
+        more-bytes : byte * (suc (length l) + 0) ≤ byte * suc (length l)
+        more-bytes = times-more byte (suc (length l) + 0) (suc (length l)) (omega arith)
 
     unit-bill : (s : ScanState) (n : ℕ) (u : Option ℕ) → Holds (Bill s n) (unitOn s u)
     unfolding unitOn Holds
@@ -125,19 +137,19 @@ module _ (item byte pays voiceCost : ℕ) where
     act-bill s blank h n f = omega arith
     act-bill s (refused k) h n f = tt
     act-bill s (lyric t) true n f = omega arith
-    act-bill s (lyric t) false n f = omega (arith, line-price (0 + length t) n (omega arith))
+    act-bill s (lyric t) false n f = omega (arith, line-price (length t) n (omega arith), times-more byte (0 + length t) (suc (length t)) (omega arith))
     act-bill s (voice v mid) h n f = voice-bill s v (voicesBefore s) n (before-count s) f (has v (voicesBefore s)) (leb mostVoices (length (voicesBefore s))) mid
-    act-bill s (key k) true n f = omega arith
-    act-bill s (key k) false n f = omega arith
+    act-bill s (key k) true n f = omega (arith, item-price n f)
+    act-bill s (key k) false n f = omega (arith, item-price n f)
     act-bill s (meter m) true n f = omega arith
-    act-bill s (meter m) false n f = omega arith
+    act-bill s (meter m) false n f = omega (arith, item-price n f)
     act-bill s (unit u) h n f = unit-bill s n u
     act-bill s tune true n f = omega arith
     act-bill s tune false n f = tt
     act-bill s other h n f = omega arith
     act-bill s (music hi es l) true n f = omega arith
     act-bill s (music true es l) false n f = tt
-    act-bill s (music false es l) false n f = play-bill s es l n f (firstRefusal (s .notes) es)
+    act-bill s (music false es l) false n f = play-bill s es l n (f .0) (f .1) (firstRefusal (s .notes) es)
 
     -- a row, by its line
     pub row-bill : (s : ScanState) (r : Row) → Holds (Bill s (length (clean r))) (step s r)
@@ -145,9 +157,9 @@ module _ (item byte pays voiceCost : ℕ) where
     row-bill s r =
         by-test (ltb (s .lines) mostLines) (λ e. rw e (act-bill s (lineKind (clean r)) (s .env .inHeader) (length (clean r)) (kind-fits (clean r)))) (λ e. rw e tt)
 
-    -- a line feed pays for an item
-    fed-row : (m n : ℕ) → m < n → pays * m + item ≤ pays * n
-    fed-row m n h = omega (arith, times-more pays (suc m) n h, mul-suc pays m, paid .items)
+    -- a line feed pays what is left to it
+    fed-row : (m n : ℕ) → m < n → pays * m + rest ≤ pays * n
+    fed-row m n h = omega (arith, times-more pays (suc m) n h, mul-suc pays m, paid .feed)
 
     -- THE ROWS OF A TEXT
     pub rows-bill : (rs : List Row) → Fed rs → (s : ScanState) → Holds (Bill s (sum length rs)) (run step s rs)
@@ -202,7 +214,7 @@ module _ (item byte pays voiceCost : ℕ) where
     -- THE ROWS FROM THE HEADER ON: nothing is played, or the K line and its feed pay for `extra` too
     module _ (extra : ℕ) (room : item + extra ≤ 3 * pays) where
       abbrev pub Headed : ScanState → ℕ → ScanState → Items → Type 0
-      Headed s n t a = Silent a ⊎ (total a + voiceCost * voiceCount t + extra ≤ voiceCost * voiceCount s + pays * n + item)
+      Headed s n t a = Silent a ⊎ (total a + voiceCost * voiceCount t + extra ≤ voiceCost * voiceCount s + pays * n + rest)
 
       three-bytes : (m n : ℕ) → 2 ≤ m → m < n → item + extra ≤ pays * n
       three-bytes m n h l = omega (arith, room, times-more pays 3 n (omega arith))

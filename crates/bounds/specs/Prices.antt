@@ -39,6 +39,20 @@ abbrev pub sectionPrices : Prices
 sectionPrices =
     record { measure = measureWidth; note = noteWidth; pitch = pitchWidth; accidental = 0; syllable = lyricWidth; text = 1; byte = 23; kept = 5 }
 
+-- the tables of a scratch store, by their rows: 28 bytes for each byte of a line
+abbrev pub tablePrices : Prices
+tablePrices = record { measure = 32; note = 16; pitch = 8; accidental = 8; syllable = 20; text = 0; byte = 28; kept = 4 }
+
+-- a row of the line table; what each byte of the text pays for both; what is left to a row's line feed
+abbrev pub rowPrice : ℕ
+rowPrice = 24
+
+abbrev pub textPays : ℕ
+textPays = 32
+
+abbrev pub feedPays : ℕ
+feedPays = 20
+
 -- one of each, to count it: so many of them for each byte
 abbrev pub notePrices : Prices
 notePrices = record { measure = 0; note = 1; pitch = 0; accidental = 0; syllable = 0; text = 0; byte = 1; kept = 0 }

@@ -1,7 +1,8 @@
 -- WHAT FITS IN A RECORD: the range of each number that a record holds in a byte, from a token to a part.
-use Prim.Native.Nat.{ℕ, _≤_, _<_}
+use Prim.Native.Nat.{ℕ, _^_, _≤_, _<_}
 use mathlib.Core.Option.{Option, none, some}
 use mathlib.Core.List.{List, [], _∷_}
+use lib.ListN.{length}
 use Rattle.laws.specs.Lists.{All}
 use Rattle.standard.specs.Pitches.{Accidental, Written, Pitch}
 use Rattle.standard.specs.Fields.{Meter}
@@ -10,6 +11,7 @@ use Rattle.reader.specs.Scan.{Item, born, reset, headed, keyed, metered, sung, 
 use Rattle.reader.specs.State.{Note, Measure, Running, Sung, PartState}
 use Rattle.reader.specs.Lyrics.{Syllable}
 use Rattle.reader.specs.Part.{Part}
+use Rattle.reader.specs.Records.{passBits, notesOf, pitchesOf, lyrics, lyricText}
 
 -- every byte is one
 abbrev pub Bytes : List ℕ → Type 0
@@ -119,3 +121,22 @@ ItemFits (played u m l) = MeterFits m
 pub record PartFits (p : Part) : Type 0 where
   pub measures-fit : All MeasureFits (p .measures)
   pub words-fit : All (All SyllableFits) (p .words)
+
+-- WHAT FITS IN FOUR BYTES: the counts of a part's sections and the numbers of its records that have four
+abbrev pub FourBytes : ℕ → Type 0
+FourBytes n = n < 2 ^ 32
+
+pub record CountsFit (p : Part) : Type 0 where
+  pub measures-count : FourBytes (length (p .measures))
+  pub notes-count : FourBytes (length (notesOf p))
+  pub pitches-count : FourBytes (length (pitchesOf p))
+  pub lyrics-count : FourBytes (length (lyrics p))
+  pub text-count : FourBytes (length (lyricText p))
+  -- a measure: the notes of each voice, and its passes
+  pub voice-counts : All (λ (m : Measure). All (λ (v : List Note). FourBytes (length v)) (m .voices)) (p .measures)
+  pub pass-bits : All (λ (m : Measure). FourBytes (passBits (m .passes))) (p .measures)
+  -- a note: its pitches
+  pub pitch-counts : All (λ (x : ℕ × Note). FourBytes (length (x .1 .pitches))) (notesOf p)
+  -- a lyric: its note's index, which is one of the part's notes, and its text
+  pub indexes : All (λ (x : ℕ × Syllable). x .0 < length (notesOf p)) (lyrics p)
+  pub text-counts : All (λ (x : ℕ × Syllable). FourBytes (length (x .1 .text))) (lyrics p)

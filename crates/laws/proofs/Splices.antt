@@ -1,8 +1,8 @@
 -- Laws of a write into a store of bytes. Few have a condition: `splice` loses what does not fit, so the length stays.
-use Prim.Native.Nat.{ℕ, zero, suc, _+_, _-_, _≤_, _<_}
+use Prim.Native.Nat.{ℕ, zero, suc, _+_, _-_, _≤_, _<_, zero-le}
 use mathlib.Core.Path.{_≡_, refl, sym, ap, _∙_}
 use mathlib.Core.List.{List, [], _∷_, _++_, append-nil}
-use native.Mathlib.Nat.{zero-add, suc-add, add-zero, le-of-suc-le-suc, not-suc-le-zero, sub-self}
+use native.Mathlib.Nat.{zero-add, suc-add, add-zero, le-of-suc-le-suc, not-suc-le-zero, sub-self, sub-zero}
 use native.Mathlib.Omega.{arith}
 use lib.ListN.{length, take, drop, getD, set, length-take, length-replicate, replicate-append-replicate, drop-of-length-le, take-append-drop}
 use lib.Seq.{drop-at, drop-drop, take-append-seam, sets}
@@ -237,6 +237,10 @@ splice-zeros s at h =
     splice-eq s at (zeros n) (rw length-zeros (omega arith))
     ∙ ap (λ (l : List ℕ). take at s ++ (zeros n ++ l)) (drop-of-length-le s {i = at + length (zeros n)} (rw length-zeros (omega arith)))
     ∙ ap (λ (l : List ℕ). take at s ++ l) (append-nil (zeros n))
+
+-- zeros all over
+pub zeros-whole : (s : List ℕ) → splice s 0 (zeros (length s - 0)) ≡ zeros (length s)
+zeros-whole s = splice-zeros s 0 zero-le ∙ ap zeros (sub-zero (length s))
 
 -- A COPY
 -- a loop that copies: nothing yet

@@ -1,7 +1,7 @@
 -- The numbers and the slash of a length suffix, by position.
-use Prim.Native.Nat.{ℕ, zero, suc, _+_, _-_, _^_, _≤_, _<_}
-use mathlib.Core.Path.{_≡_, refl, sym, ap, _∙_}
-use mathlib.Core.Bool.{Bool, true, false, cond}
+use Prim.Native.Nat.{ℕ, suc, _+_, _-_, _^_, _≤_, _<_}
+use mathlib.Core.Path.{_≡_, refl}
+use mathlib.Core.Bool.{true, false, cond}
 use mathlib.Core.List.{List, [], _∷_}
 use native.Mathlib.Nat.{add-zero}
 use native.Mathlib.Omega.{arith}
@@ -10,7 +10,7 @@ use lib.ListN.{length, getD, take, drop}
 use lib.Seq.{drop-drop, getD-drop}
 use borrow.Author.Tests.{leb-true, leb-false, lt-ltb, le-ltb, eq-eqb, ne-eqb}
 use Rattle.laws.specs.Lists.{span}
-use Rattle.laws.specs.Spans.{run, endOf}
+use Rattle.laws.specs.Spans.{run}
 use Rattle.laws.proofs.Bools.{by-test}
 use Rattle.laws.proofs.Spans.{span-yes, span-no, run-within}
 use Rattle.standard.specs.Bytes.{isDigit, is, first, decimal}
@@ -20,8 +20,6 @@ use Rattle.numbers.specs.declared.Digits.the-variants.{Nothing, Value, Past}
 use Rattle.numbers.specs.declared.Read.{Read}
 use Rattle.numbers.specs.Digits.{upTo, written, numberAt}
 use Rattle.numbers.proofs.Numbers.{value-le}
-use Rattle.lengths.specs.declared.Number.{Number}
-use Rattle.lengths.specs.declared.Suffix.{Suffix}
 use Rattle.lengths.specs.Values.{numberOr, suffixAt}
 
 -- a number, or another where there is none

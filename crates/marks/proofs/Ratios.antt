@@ -1,25 +1,25 @@
 -- Tuplets, by position.
 use Prim.Native.Nat.{ℕ, _+_, _-_, _^_, _≤_, _<_}
 use mathlib.Core.Path.{_≡_, refl, sym, ap, _∙_}
-use mathlib.Core.Bool.{Bool, true, false, cond, not, _&&_}
+use mathlib.Core.Bool.{Bool, true, false, cond}
 use mathlib.Core.Option.{Option, none, some}
 use mathlib.Core.List.{List, [], _∷_}
 use native.Mathlib.Omega.{arith}
-use lib.Dec.{leb, ltb, eqb}
+use lib.Dec.{ltb, eqb}
 use lib.ListN.{length, getD, drop}
 use lib.Seq.{drop-drop}
-use borrow.Author.Tests.{lt-ltb, le-ltb, eq-eqb, ne-eqb, leb-true, eqb-false}
-use Rattle.laws.specs.Lists.{span, all, isNil}
+use borrow.Author.Tests.{lt-ltb, le-ltb, eq-eqb, ne-eqb}
+use Rattle.laws.specs.Lists.{span}
 use Rattle.laws.specs.Spans.{run, endOf}
-use Rattle.laws.proofs.Bools.{by-test, and-right}
-use Rattle.standard.specs.Bytes.{isDigit, first, decimal, digits}
+use Rattle.laws.proofs.Bools.{by-test}
+use Rattle.standard.specs.Bytes.{isDigit, first, digits}
 use Rattle.reader.specs.Token.{Taken}
 use Rattle.reader.specs.Tuplets.{notZero, positive, normalFor, tupletToken, counted, withCount, withNormal, withActual, tupletOf}
 use Rattle.numbers.specs.declared.Digits.{Digits}
 use Rattle.numbers.specs.declared.Digits.the-variants as digit
 use Rattle.numbers.specs.Digits.{written, option}
 use Rattle.numbers.proofs.Numbers.{option-run}
-use Rattle.runs.proofs.Places.{first-at}
+use Rattle.runs.proofs.Places.{first-at, digits-le}
 use Rattle.marks.specs.Tuplets.{numberFor, tupletIn, tupletFor}
 use Rattle.marks.specs.declared.Number.the-variants as number
 use Rattle.marks.specs.declared.Tuplet.{Tuplet}
@@ -48,21 +48,13 @@ module _ (top : ℕ) (s : List ℕ) (d : Digits) (e : written top (run isDigit s
   unfolding notZero
   is-value v k z = positive-by ∙ ap (λ x. notZero (option x)) k ∙ rw (ne-eqb v 0 z)
 
--- a number is at most the bound
-digits-le : (top : ℕ) (s : List ℕ) (v : ℕ) → digits top s ≡ some v → v ≤ top
-unfolding digits
-digits-le top s v e =
-    by-test (not (isNil s) && all isDigit s && leb (decimal 0 s) top)
-    (λ t. let k : some (decimal 0 s) ≡ some v = rw (t, digits) at e in
-    let q : decimal 0 s ≡ v = cc in
-    omega (arith, leb-true (decimal 0 s) top (and-right (not (isNil s) && all isDigit s) (leb (decimal 0 s) top) t)))
-    (λ t. let k : none ≡ some v = rw (t, digits) at e in let z : _≡_ {A = ℕ} 0 1 = cc in absurd (omega arith))
-
+-- a number that is not 0 is a number
 not-zero : (o : Option ℕ) (v : ℕ) → notZero o ≡ some v → o ≡ some v
 unfolding notZero
 not-zero none v e = e
 not-zero (some x) v e = by-test (eqb x 0) (λ t. let k : none ≡ some v = rw t at e in let z : _≡_ {A = ℕ} 0 1 = cc in absurd (omega arith)) (λ t. rw t at e)
 
+-- a number is at most the bound
 pub positive-le : (top : ℕ) (s : List ℕ) (v : ℕ) → positive top s ≡ some v → v ≤ top
 unfolding positive
 positive-le top s v e = digits-le top (run isDigit s) v (not-zero (digits top (run isDigit s)) v e)

@@ -5,7 +5,7 @@ use Rattle.standard.specs.Notes as Notes
 use Rattle.reader.specs.Tokens.{Class, white, ampersand, quote, more, less, paren, braceOpen, braceClose, bang, plus, bars, bracket, pitched, none-of-these, resting, classOf}
 
 abbrev pub restCode : Notes.NoteKind → ℕ
-restCode Notes.sounded = 0
+restCode Notes.sounded = 18
 restCode Notes.rest = 13
 restCode Notes.invisibleRest = 14
 restCode Notes.barRest = 15

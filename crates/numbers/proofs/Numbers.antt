@@ -1,15 +1,15 @@
 -- The digits of a run, taken one after the other, write what `written` says of the whole run; and that is the standard's `digits`.
-use Prim.Native.Nat.{ℕ, zero, suc, _+_, _-_, _*_, _^_, _≤_, _<_}
-use mathlib.Core.Path.{_≡_, refl, sym, ap, _∙_}
-use mathlib.Core.Bool.{Bool, true, false, cond, not, _&&_}
-use mathlib.Core.Option.{Option, none, some}
+use Prim.Native.Nat.{ℕ, _+_, _-_, _*_, _≤_, _<_}
+use mathlib.Core.Path.{_≡_, refl, sym, _∙_}
+use mathlib.Core.Bool.{Bool, true, false, cond}
+use mathlib.Core.Option.{none}
 use mathlib.Core.List.{List, [], _∷_}
 use native.Mathlib.Omega.{arith}
 use lib.Dec.{leb, eqb}
 use lib.ListN.{length, getD, take, drop, length-drop}
 use lib.Seq.{take-all}
-use borrow.Author.Tests.{le-leb, lt-leb, leb-true, leb-false, eq-eqb, ne-eqb}
-use Rattle.laws.specs.Lists.{all, span, isNil}
+use borrow.Author.Tests.{lt-leb, leb-true, leb-false, eq-eqb, ne-eqb}
+use Rattle.laws.specs.Lists.{all, span}
 use Rattle.laws.specs.Spans.{run, endOf}
 use Rattle.laws.proofs.Bools.{by-test, and-left, and-right}
 use Rattle.laws.proofs.Spans.{run-within, run-on, run-off, end-on, end-off, run-passes, span-all, span-whole, span-le}
@@ -131,6 +131,20 @@ pub digits-other : (top : ℕ) (s : List ℕ) → all isDigit s ≡ false → di
 unfolding digits
 digits-other top [] h = refl
 digits-other top (c ∷ s) h = rw (h, digits)
+
+-- what `read_number` answers: the standard's number of the digits at a position, and where they end
+module _ (top : ℕ) (line : List ℕ) (at : ℕ) (r : Read) (e : r ≡ numberAt top line at) where
+  pub read-option : option (r .digits) ≡ digits top (run isDigit (drop at line))
+  unfolding numberAt
+  read-option = rw e (option-run top (drop at line))
+
+  pub read-next : r .next ≡ at + span isDigit (drop at line)
+  unfolding numberAt
+  read-next = rw e
+
+  pub read-le : (v : ℕ) → r .digits ≡ Value v → v ≤ top
+  unfolding numberAt
+  read-le v x = value-le top (run isDigit (drop at line)) v (rw e at x)
 
 -- A WHOLE TEXT
 module _ (top : ℕ) (s : List ℕ) (r : Read) (e : r ≡ numberAt top s 0) where

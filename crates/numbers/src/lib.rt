@@ -1,7 +1,7 @@
 // Decimal numbers in a line: one digit loop for every width.
 ghost use mathlib.Core.Path.{_≡_};
 ghost use mathlib.Core.Bool.{true};
-ghost use Prim.Native.Nat.{_+_, _-_, _*_, _^_, _≤_};
+ghost use Prim.Native.Nat.{_+_, _-_, _*_};
 ghost use lib.ListN.{getD};
 ghost use Rattle.standard.specs.Bytes.{isDigit, digits};
 ghost use Rattle.reader.specs.Pieces.{numeral};

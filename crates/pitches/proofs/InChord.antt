@@ -43,7 +43,7 @@ module _ (line : List ℕ) (at : ℕ) (up : Bool) (waits : Mark) where
   sign-next alter cents w m e = rw (w, e) (rw (sign-plain up (some (record { alter = alter; cents = cents })) (drop (at + 1) line) refl))
 
 -- LETTERS
-mark-forth : (m : Mark) → markFor (markOf m) ≡ m
+pub mark-forth : (m : Mark) → markFor (markOf m) ≡ m
 mark-forth mark.Nothing = refl
 mark-forth (mark.Written a c) = refl
 

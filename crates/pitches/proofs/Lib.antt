@@ -1,5 +1,5 @@
 mod Letters
 mod Accidentals
-mod Octaves
-mod InChord
+pub mod Octaves
+pub mod InChord
 pub mod Walk

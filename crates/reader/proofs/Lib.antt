@@ -5,3 +5,6 @@ pub mod SharedLaws
 pub mod Sizes
 pub mod LineLaws
 pub mod ValueLaws
+pub mod Digits
+pub mod Standard
+pub mod Traps

@@ -3,14 +3,14 @@ use Prim.Native.Nat.{ℕ, _+_, _-_, _<_, _≤_, zero-le}
 use mathlib.Core.Path.{_≡_, refl, sym, ap, _∙_, subst}
 use mathlib.Core.Bool.{true, false}
 use mathlib.Core.List.{List, [], _++_}
-use native.Mathlib.Nat.{zero-add, add-zero, sub-zero}
+use native.Mathlib.Nat.{zero-add, add-zero}
 use native.Mathlib.Omega.{arith}
 use borrow.Author.Tests.{le-leb, lt-leb}
 use lib.Dec.{leb}
 use lib.Seq.{take-at}
 use lib.ListN.{length, take, drop, length-append, length-take, length-drop}
 use Rattle.laws.specs.Bytes.{splice, zeros, le32}
-use Rattle.laws.proofs.Splices.{length-spliced, spliced-next, splice-next, splice-before, splice-nil, splice-zeros, lent-back, over-eq}
+use Rattle.laws.proofs.Splices.{length-spliced, spliced-next, splice-next, splice-before, splice-nil, splice-zeros, zeros-whole, lent-back, over-eq}
 use Rattle.laws.proofs.Numbers.{length-little}
 use Rattle.sections.specs.declared.Wrote.{Wrote}
 use Rattle.sections.specs.declared.Wrote.the-variants.{To, NoRoom}
@@ -112,7 +112,15 @@ filled-to {d} {bs} {e} {n} h {f} g =
 pub filled-none : {d bs e : List ℕ} → WroteIs d bs e NoRoom → {f : List ℕ} (g : List ℕ) → length g ≡ length d → f ≡ splice g 0 (zeros (length g - 0)) → Filled bs (length d) NoRoom f
 filled-none {d} {bs} h {f} g l e =
     let fits : leb (length bs) (length d) ≡ false = lt-leb (length bs) (length d) (h .says) in
-    record { answer = rw fits; store = rw fits (e ∙ splice-zeros g 0 zero-le ∙ rw (l, sub-zero (length d))) }
+    record { answer = rw fits; store = rw fits (e ∙ zeros-whole g ∙ ap zeros l) }
+
+-- where a writer got to is within the store
+pub reached-in : {d bs e : List ℕ} {r : Wrote} → WroteIs d bs e r → length e ≡ length d → reached r ≤ length e
+reached-in {d} {bs} {e} {r} h l = go r h
+  where
+    go : (r : Wrote) → WroteIs d bs e r → reached r ≤ length e
+    go (To n) h = omega (arith, h .says)
+    go NoRoom h = zero-le
 
 -- both at once: the store is lent to a writer and then sealed
 pub filled : {d bs e : List ℕ} {r : Wrote} → WroteIs d bs e r → {f : List ℕ} → length e ≡ length d → f ≡ splice e (reached r) (zeros (length e - reached r)) → Filled bs (length d) r f

@@ -1,18 +1,16 @@
 -- A line's class by its first two bytes, and its kind by its class.
-use Prim.Native.Nat.{ℕ, _<_, _≤_, _-_}
+use Prim.Native.Nat.{ℕ, _<_, _≤_}
 use mathlib.Core.Path.{_≡_, refl, sym, ap, _∙_}
 use mathlib.Core.Bool.{Bool, true, false, cond, _&&_}
 use mathlib.Core.List.{List, [], _∷_}
 use native.Mathlib.Omega.{arith}
 use borrow.Author.Tests.{lt-ltb, le-ltb}
-use lib.Dec.{eqb, ltb}
-use lib.ListN.{length, getD, drop}
+use lib.Dec.{eqb}
+use lib.ListN.{length, getD}
 use Rattle.laws.specs.Lists.{isNil}
 use Rattle.laws.specs.Bytes.{between}
-use Rattle.laws.proofs.Bools.{by-test}
-use Rattle.reader.specs.Text.{hasHigh}
 use Rattle.reader.specs.Lines.{isV, isK, isL, isM, isX, isLyric, isField, Kind, refused, fieldKind, lineKind, kindOf}
-use Rattle.text.specs.Lines.{CleanEnd, isLetter, colonClass, fieldClass, classOf, kindAs}
+use Rattle.text.specs.Lines.{CleanEnd, isLetter, colonClass, classOf, kindAs}
 use Rattle.text.specs.declared.Class.{Class}
 use Rattle.text.specs.declared.Class.the-variants as C
 

@@ -67,21 +67,20 @@ name-tonic (c ∷ s) =
 
 -- the first byte stays known
 first-long : (c : ℕ) (s : List ℕ) → firstOf (foldl withByte (Long c) s) ≡ c
-unfolding firstOf
 first-long c s = rw (long c s)
 
 first-two : (c d : ℕ) (s : List ℕ) → firstOf (foldl withByte (Two c d) s) ≡ c
-unfolding withByte firstOf
+unfolding withByte
 first-two c d [] = refl
 first-two c d (e ∷ s) = by-test (isSpace e) (λ q. rw q (first-two c d s)) (λ q. rw q (first-long c s))
 
 first-gap : (c : ℕ) (s : List ℕ) → firstOf (foldl withByte (Gap c) s) ≡ c
-unfolding withByte firstOf
+unfolding withByte
 first-gap c [] = refl
 first-gap c (e ∷ s) = by-test (isSpace e) (λ q. rw q (first-gap c s)) (λ q. rw q (first-long c s))
 
 first-one : (c : ℕ) (s : List ℕ) → firstOf (foldl withByte (One c) s) ≡ c
-unfolding withByte firstOf
+unfolding withByte
 first-one c [] = refl
 first-one c (e ∷ s) = by-test (isSpace e) (λ q. rw q (first-gap c s)) (λ q. rw q (first-two c e s))
 

@@ -32,7 +32,7 @@ tonicIn (Two f s) = tonic (f ∷ s ∷ [])
 tonicIn (Long f) = none
 
 -- its first byte, 0 if there is none
-unfoldable pub firstOf : Name → ℕ
+abbrev pub firstOf : Name → ℕ
 firstOf Empty = 0
 firstOf (One f) = f
 firstOf (Gap f) = f

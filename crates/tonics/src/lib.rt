@@ -5,7 +5,7 @@ ghost use mathlib.Core.Bool.{_&&_};
 ghost use Prim.Native.Nat.{ℕ};
 ghost use lib.Dec.{eqb};
 ghost use Rattle.reader.specs.Keys.{fifthsOf};
-ghost use Rattle.tonics.specs.Names.{withByte, tonicIn, isName, majors, minors, lookupIn, lookedUp};
+ghost use Rattle.tonics.specs.Names.{withByte, tonicIn, firstOf, isName, majors, minors, lookupIn, lookedUp};
 
 // A name as far as it was read, without white space around it: nothing yet; one byte; one byte with white space behind it; two
 // bytes; more than any name has. The first byte stays known.
@@ -211,6 +211,19 @@ pub fn with_byte(n: Name, c: u8) -> Name
             Name::Long(f)
         }
         Name::Long(f) => Name::Long(f),
+    }
+}
+
+// Its first byte, 0 if there is none.
+pub fn first_of(n: Name) -> u8
+    ensures { λ r. ⌜ r ≡ firstOf n ⌝ }
+{
+    match n {
+        Name::Empty => 0,
+        Name::One(f) => f,
+        Name::Gap(f) => f,
+        Name::Two(f, _) => f,
+        Name::Long(f) => f,
     }
 }
 

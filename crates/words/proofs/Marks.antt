@@ -8,7 +8,7 @@ use native.Mathlib.Nat.{not-suc-le-zero, le-of-suc-le-suc}
 use native.Mathlib.Numerals.{add-one}
 use native.Mathlib.Omega.{arith}
 use lib.ListN.{length, getD, take, drop}
-use Rattle.laws.specs.Lists.{span}
+use Rattle.laws.specs.Lists.{span, any}
 use Rattle.laws.specs.Bytes.{between}
 use Rattle.laws.specs.Spans.{run, endIn}
 use Rattle.laws.proofs.Bools.{by-test}
@@ -39,6 +39,15 @@ module _ (p : ℕ → Bool) where
   after-none (c ∷ t) h =
       by-test (p c) (λ e. absurd (not-suc-le-zero (rw (e, span) at h))) (λ e. rw (e, after) (after-none t (le-of-suc-le-suc (rw (e, span) at h))))
 
+  -- some byte passes, or none does
+  pub any-some : (t : List ℕ) → span no t < length t → any p t ≡ true
+  any-some [] h = absurd (not-suc-le-zero h)
+  any-some (c ∷ t) h = by-test (p c) (λ e. rw e) (λ e. rw e (any-some t (le-of-suc-le-suc (rw (e, span) at h))))
+
+  pub any-no : (t : List ℕ) → length t ≤ span no t → any p t ≡ false
+  any-no [] h = refl
+  any-no (c ∷ t) h = by-test (p c) (λ e. absurd (not-suc-le-zero (rw (e, span) at h))) (λ e. rw e (any-no t (le-of-suc-le-suc (rw (e, span) at h))))
+
   -- BY POSITION
   module _ (s : List ℕ) (a b : ℕ) where
     pub before-at : a ≤ b → before p (between s a b) ≡ between s a (endIn no s a b)
@@ -52,3 +61,9 @@ module _ (p : ℕ → Bool) where
 
     pub after-over : b ≤ length s → b ≤ endIn no s a b → after p (between s a b) ≡ none
     after-over l h = after-none (between s a b) (omega (arith, length-between s a b l))
+
+    pub any-in : b ≤ length s → endIn no s a b < b → any p (between s a b) ≡ true
+    any-in l h = any-some (between s a b) (omega (arith, length-between s a b l))
+
+    pub any-over : b ≤ length s → b ≤ endIn no s a b → any p (between s a b) ≡ false
+    any-over l h = any-no (between s a b) (omega (arith, length-between s a b l))

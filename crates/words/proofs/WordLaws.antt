@@ -10,7 +10,7 @@ use Rattle.laws.specs.Bytes.{between}
 use Rattle.laws.specs.Spans.{run, endIn}
 use Rattle.laws.proofs.Bools.{by-test}
 use Rattle.laws.proofs.Spans.{run-yes, span-behind}
-use Rattle.laws.proofs.Parts.{run-between, behind-between, between-first, between-none}
+use Rattle.laws.proofs.Parts.{run-between, behind-between, between-first, between-none, endIn-ge, endIn-le, endIn-more, endIn-stops}
 use Rattle.reader.specs.Text.{isSpace, push}
 use Rattle.reader.specs.Pieces.{pieces, words, mark, fieldWords}
 use Rattle.words.specs.Words.{notSpace}
@@ -75,3 +75,32 @@ module _ (s : List ℕ) (i b : ℕ) where
       ap fieldWords (between-first s i b h l) ∙ words-word (getD s i 0) (between s (i + 1) b) e
       ∙ ap (λ (t : List ℕ). run notSpace t ∷ fieldWords (drop (span notSpace t) t)) (sym (between-first s i b h l))
       ∙ ap₂ (λ (w r : List ℕ). w ∷ fieldWords r) (run-between notSpace s i b (omega arith)) (behind-between notSpace s i b)
+
+-- A LOOP OVER THE WORDS, at i: a word stands there, or no word is left
+pub record AtWord (s : List ℕ) (b i : ℕ) : Type 0 where
+  pub within : i ≤ b
+  pub word : i < b → isSpace (getD s i 0) ≡ false
+
+-- where white space ends
+pub at-word : (s : List ℕ) (a b : ℕ) → a ≤ b → b ≤ length s → AtWord s b (endIn isSpace s a b)
+at-word s a b h l = record { within = endIn-le isSpace s a b h; word = endIn-stops isSpace s a b l }
+
+module _ (s : List ℕ) (b i : ℕ) (l : b ≤ length s) (w : AtWord s b i) (h : i < b) where
+  -- the word has a byte
+  pub word-past : i < endIn notSpace s i b
+  word-past = omega (arith, endIn-more notSpace s i b h l (ap not (w .word h)), endIn-ge notSpace s (i + 1) b)
+
+  -- and ends within the part
+  pub word-within : endIn notSpace s i b ≤ b
+  word-within = endIn-le notSpace s i b (omega arith)
+
+  -- the words from here on: this one, and those from the next on
+  pub words-next : fieldWords (between s i b) ≡ between s i (endIn notSpace s i b) ∷ fieldWords (between s (endIn isSpace s (endIn notSpace s i b) b) b)
+  words-next = words-at s i b h l (w .word h) ∙ ap (λ (r : List (List ℕ)). between s i (endIn notSpace s i b) ∷ r) (words-from s (endIn notSpace s i b) b)
+
+  -- the next one stands further on
+  pub next-word : AtWord s b (endIn isSpace s (endIn notSpace s i b) b)
+  next-word = at-word s (endIn notSpace s i b) b word-within l
+
+  pub next-past : i < endIn isSpace s (endIn notSpace s i b) b
+  next-past = omega (arith, word-past, endIn-ge isSpace s (endIn notSpace s i b) b)

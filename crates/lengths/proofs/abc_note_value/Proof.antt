@@ -1,8 +1,8 @@
 -- `lengths::abc_note_value` meets its contract. Both loops have the invariant `Searching`, at 4 × value and at 4 × value + dots.
 use borrow.Author.Needs.{needs}
-use mathlib.Core.Path.{_≡_, refl, sym, ap, _∙_}
+use mathlib.Core.Path.{_≡_, sym, ap}
 use mathlib.Core.Logic.{⊎-elim}
-use Prim.Native.Nat.{ℕ, _+_, _-_, _*_, _≤_, _<_, _^_, min, max}
+use Prim.Native.Nat.{_+_, _-_, _*_, _≤_, _<_, _^_, min, max}
 use native.Mathlib.Nat.{add-zero, mul-le-mul}
 use native.Mathlib.Omega.{arith}
 use Rattle.standard.specs.Lengths.{lengthFraction}
@@ -77,7 +77,9 @@ loop-again c =
     let hd = dots-lt (z .before) in
     let b = l .before .before .before in (
       omega arith,
-      ⊎-elim (λ w. rw (w .2, w .1 .ensures, z .size .ensures) (take-at _ _ _ _ _ (l .loop .inv .1) hv hd (rw (z .size .ensures) at (w .0 .taken))))
+      ⊎-elim
+          (λ w. let p : z .size .result * b .bounded .result < b .before .before .before .args .num * 1024 = omega arith in
+          rw (w .2, w .1 .ensures, z .size .ensures) (take-at _ _ _ _ _ (l .loop .inv .1) hv hd (rw (z .size .ensures) at p)))
           (λ w. let p : b .before .before .before .args .num * 1024 < z .size .result * b .bounded .result = omega arith in
           rw (w .1) (skip-at _ _ _ _ _ (l .loop .inv .1) hv hd (rw (z .size .ensures) at p)))
           (c .if2 .came),

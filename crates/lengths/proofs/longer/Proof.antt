@@ -1,5 +1,4 @@
 -- `lengths::longer` meets its contract.
-use Prim.Native.Nat.{_≤_, _<_}
 use borrow.Author.Tests.{lt-ltb, le-ltb}
 use Rattle.lengths.specs.Values.{longerOf}
 use borrow.Author.Needs.{needs}

@@ -1,5 +1,5 @@
 -- `lengths::number_or` meets its contract.
-use mathlib.Core.Path.{_≡_, sym, ap, _∙_}
+use mathlib.Core.Path.{sym, ap, _∙_}
 use Prim.Native.Nat.{_≤_, _-_, _^_}
 use native.Mathlib.Omega.{arith}
 use Rattle.lengths.proofs.Suffixes.{number-at, number-small}

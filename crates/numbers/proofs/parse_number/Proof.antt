@@ -1,7 +1,6 @@
 -- `numbers::parse_number` meets its contract.
 use mathlib.Core.Path.{_≡_, sym, ap, _∙_}
 use Prim.Native.Nat.{_≤_}
-use native.Mathlib.Omega.{arith}
 use lib.ListN.{length, getD}
 use Rattle.standard.specs.Bytes.{digits}
 use Rattle.numbers.proofs.Numbers.{numeral-plus, numeral-plain, plus-within, plus-rest}

@@ -2,7 +2,7 @@
 use mathlib.Core.Path.{_≡_, sym, ap, _∙_}
 use mathlib.Core.Bool.{true}
 use Prim.Native.Nat.{_+_}
-use Rattle.reader.specs.Text.{White, white, whiteStep}
+use Rattle.reader.specs.Text.{White, whiteStep}
 use Rattle.white.specs.States.{asWhite, isOther}
 use Rattle.text.specs.Lines.{trimFrom}
 use Rattle.text.proofs.Cleaning.{trim-kept, trim-new, trim-past}

@@ -1,13 +1,13 @@
 -- `white::white_at` meets its contract.
-use mathlib.Core.Path.{_≡_, refl, sym, ap, _∙_}
-use mathlib.Core.Bool.{true, false}
+use mathlib.Core.Path.{_≡_, sym, ap, _∙_}
+use mathlib.Core.Bool.{false}
 use mathlib.Core.List.{List}
-use Prim.Native.Nat.{ℕ, _-_, _<_, _≤_}
+use Prim.Native.Nat.{ℕ, _-_, _<_}
 use native.Mathlib.Omega.{arith}
-use lib.ListN.{length, take, drop, getD}
+use lib.ListN.{length, take, drop}
 use Rattle.laws.specs.Bytes.{part}
 use Rattle.laws.proofs.Parts.{length-part}
-use Rattle.reader.specs.Text.{White, white, whiteStep, isAllWhite}
+use Rattle.reader.specs.Text.{white, whiteStep, isAllWhite}
 use Rattle.white.specs.States.{asWhite}
 use Rattle.white.proofs.Whites.{after1, after2, after3, width-one, width-two, width-three, width-none}
 use borrow.Author.Needs.{needs}

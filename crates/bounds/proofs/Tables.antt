@@ -1,0 +1,130 @@
+-- WHAT A SCRATCH STORE MUST HOLD: each count of a part by its lines' bytes, and the tables of the line table and any one part by the text's bytes.
+-- The prices stand in specs/Prices.
+use Prim.Native.Nat.{ℕ, zero, suc, _+_, _-_, _*_, _≤_, _<_, zero-le}
+use mathlib.Core.Path.{_≡_, refl, sym, ap, subst, _∙_}
+use mathlib.Core.Bool.{Bool, true, false, cond}
+use mathlib.Core.List.{List, [], _∷_, _++_}
+use native.Mathlib.Nat.{mul-add}
+use native.Mathlib.Omega.{arith}
+use lib.Dec.{eqb, lit≤}
+use lib.ListN.{length}
+use Rattle.laws.specs.Lists.{foldl, sum, cat}
+use Rattle.laws.proofs.Bools.{by-test}
+use Rattle.laws.proofs.Lists.{sum-append, foldl-append}
+use Rattle.standard.specs.Keys.{Key}
+use Rattle.standard.specs.Fields.{Meter}
+use Rattle.reader.specs.Text.{rows}
+use Rattle.reader.specs.Token.{Token}
+use Rattle.reader.specs.Tokens.{tokens}
+use Rattle.reader.specs.Steps.{on, mine}
+use Rattle.reader.specs.Scan.{Item, played, ScanState, begin, scan, Items}
+use Rattle.reader.specs.State.{PartState, newPart}
+use Rattle.reader.specs.Part.{Part, onToken, lineBegins, onItem, build}
+use Rattle.reader.specs.Records.{notesOf, pitchesOf, lyrics, lyricText}
+use Rattle.reader.proofs.LineLaws.{kept-after}
+use Rattle.bounds.specs.Prices.{Prices, Covered, sectionPrices, tablePrices, rowPrice, textPays, feedPays, notePrices, pitchPrices, accidentalPrices, measurePrices, syllablePrices, textPrices, stateCost, scopesCost, measuresCost, tokenCost, musicBytes, lyricBytes, itemBytes}
+use Rattle.bounds.proofs.Generic.{sum-both, sum-mul, sum-times, times-more}
+use Rattle.bounds.proofs.TokenCosts.{line-paid}
+use Rattle.bounds.proofs.PartCosts.{tokens-step, begins-step, reading-cost, items-paid}
+use Rattle.bounds.proofs.Counts.{music-bound, lyric-bound}
+use Rattle.bounds.proofs.RowCosts.{rows-length, rows-fed}
+use Rattle.bounds.proofs.ScanCosts.{Holds, voiceCount, Paid, price, total, Bill, rows-bill}
+
+-- EACH COUNT OF A PART
+-- notes: one for each byte of its music lines
+pub notes-most : (header : Key) (is : List Item) → length (notesOf (build header is)) ≤ sum musicBytes is
+notes-most header is = omega (arith, music-bound notePrices (record { notes = lit≤ tt; measures = lit≤ tt; accidentals = lit≤ tt; syllables = lit≤ tt }) header is)
+
+-- pitches: one for each byte
+pub pitches-most : (header : Key) (is : List Item) → length (pitchesOf (build header is)) ≤ sum musicBytes is
+pitches-most header is = omega (arith, music-bound pitchPrices (record { notes = lit≤ tt; measures = lit≤ tt; accidentals = lit≤ tt; syllables = lit≤ tt }) header is)
+
+-- measures: one for each two bytes, and the first
+pub measures-most : (header : Key) (is : List Item) → 2 * length (build header is .measures) ≤ 2 + sum musicBytes is
+measures-most header is = omega (arith, music-bound measurePrices (record { notes = lit≤ tt; measures = lit≤ tt; accidentals = lit≤ tt; syllables = lit≤ tt }) header is)
+
+-- syllables: one for each byte of its lyric lines
+pub syllables-most : (header : Key) (is : List Item) → length (lyrics (build header is)) ≤ sum lyricBytes is
+syllables-most header is = omega (arith, lyric-bound syllablePrices (record { notes = lit≤ tt; measures = lit≤ tt; accidentals = lit≤ tt; syllables = lit≤ tt }) header is)
+
+-- lyric text: a byte for each
+pub text-most : (header : Key) (is : List Item) → length (lyricText (build header is)) ≤ sum lyricBytes is
+text-most header is = omega (arith, lyric-bound textPrices (record { notes = lit≤ tt; measures = lit≤ tt; accidentals = lit≤ tt; syllables = lit≤ tt }) header is)
+
+-- accidentals in force, after any items: one for each byte
+pub accidentals-most : (header : Key) (is : List Item) → sum length (foldl (onItem header) newPart is .scopes) ≤ sum musicBytes is
+unfolding stateCost scopesCost
+accidentals-most header is =
+    let s = foldl (onItem header) newPart is in
+    omega (arith, reading-cost accidentalPrices (record { notes = lit≤ tt; measures = lit≤ tt; accidentals = lit≤ tt; syllables = lit≤ tt }) header is, sum-mul 1 length (s .scopes))
+
+-- WHILE A PART IS READ
+module _ (p : Prices) (paid : Covered p) where
+  -- in a line, after any of its tokens: what came before, and the line's bytes
+  pub within-line : (header : Key) (is : List Item) (u : ℕ) (m : Meter) (l : List ℕ) (ts us : List Token) → tokens 0 l ≡ ts ++ us
+      → stateCost p (foldl onToken (lineBegins u m (foldl (onItem header) newPart is)) ts) ≤ p .measure + p .byte * (sum musicBytes is + length l)
+  within-line header is u m l ts us e =
+      let s = foldl (onItem header) newPart is in
+      omega (arith, tokens-step p paid ts (lineBegins u m s), begins-step p paid u m s, items-paid p paid header is, line-paid p paid l, ap (sum (tokenCost p)) e, sum-append (tokenCost p) ts us, mul-add (p .byte) (sum musicBytes is) (length l))
+
+-- ALL ITEMS
+item-paid : Paid 2 0 1 1 0
+item-paid = record { bytes = lit≤ tt; lines = lit≤ tt; feed = lit≤ tt; voices = lit≤ tt }
+
+count-total : (a : Items) → total 2 0 1 1 0 a ≡ 2 * length a
+count-total [] = refl
+count-total (x ∷ a) = omega (arith, count-total a)
+
+-- items: one for each two bytes of the text, and one that has no line feed
+pub items-most : (text : List ℕ) (t : ScanState) (a : Items) → scan (rows text) ≡ on t a → 2 * length a ≤ length text + 1
+unfolding scan Holds
+items-most text t a e =
+    let h : Bill 2 0 1 1 0 begin (sum length (rows text)) t a = subst (Holds (Bill 2 0 1 1 0 begin (sum length (rows text)))) e (rows-bill 2 0 1 1 0 item-paid (rows text) (rows-fed text) begin) in
+    omega (arith, h, count-total a, rows-length text)
+
+-- the lines of one part, among all
+mine-bytes : (q : ℕ) (a : Items) → sum itemBytes (mine q a) ≤ sum (λ (x : ℕ × Item). itemBytes (x .1)) a
+mine-bytes q [] = zero-le
+mine-bytes q (x ∷ a) = by-test (eqb (x .0) q) (λ e. rw e (omega (arith, mine-bytes q a))) (λ e. rw e (omega (arith, mine-bytes q a)))
+
+-- THE LINE TABLE AND THE TABLES OF ANY ONE PART: 32 bytes for each byte of the text, the part's first measure, and one line feed
+table-paid : Paid rowPrice (tablePrices .byte) textPays feedPays 0
+table-paid = record { bytes = lit≤ tt; lines = lit≤ tt; feed = lit≤ tt; voices = lit≤ tt }
+
+table-covered : Covered tablePrices
+table-covered = record { notes = lit≤ tt; measures = lit≤ tt; accidentals = lit≤ tt; syllables = lit≤ tt }
+
+table-total : (a : Items) → total rowPrice (tablePrices .byte) textPays feedPays 0 a ≡ rowPrice * length a + tablePrices .byte * sum (λ (x : ℕ × Item). itemBytes (x .1)) a
+table-total [] = refl
+table-total (x ∷ a) = omega (arith, table-total a)
+
+-- the rows of the line table and all lines' bytes at the tables' price
+pub lines-most : (text : List ℕ) (t : ScanState) (a : Items) → scan (rows text) ≡ on t a
+    → rowPrice * length a + tablePrices .byte * sum (λ (x : ℕ × Item). itemBytes (x .1)) a ≤ textPays * length text + feedPays
+unfolding scan Holds
+lines-most text t a e =
+    let n = sum length (rows text) in
+    let h : Bill rowPrice (tablePrices .byte) textPays feedPays 0 begin n t a = subst (Holds (Bill rowPrice (tablePrices .byte) textPays feedPays 0 begin n)) e (rows-bill rowPrice (tablePrices .byte) textPays feedPays 0 table-paid (rows text) (rows-fed text) begin) in
+    omega (arith, h, table-total a, rows-length text)
+
+bytes-both : (is : List Item) → sum itemBytes is ≡ sum musicBytes is + sum lyricBytes is
+unfolding itemBytes
+bytes-both is = sum-both musicBytes lyricBytes is
+
+-- with a part's tables when it is finished
+pub tables-most : (text : List ℕ) (t : ScanState) (a : Items) (q : ℕ) (header : Key) → scan (rows text) ≡ on t a
+    → rowPrice * length a + tablePrices .measure * length (build header (mine q a) .measures) + tablePrices .note * length (notesOf (build header (mine q a))) + tablePrices .pitch * length (pitchesOf (build header (mine q a))) + tablePrices .syllable * length (lyrics (build header (mine q a)))
+    ≤ textPays * length text + feedPays + tablePrices .measure
+tables-most text t a q header e =
+    let is = mine q a in
+    omega (arith, lines-most text t a e, mine-bytes q a, bytes-both is, music-bound tablePrices table-covered header is, lyric-bound tablePrices table-covered header is)
+
+-- and at any token of any line of it: its measures, notes, pitches and accidentals in force, and a row for each syllable to come
+pub tables-within : (text : List ℕ) (t : ScanState) (a : Items) (q : ℕ) (header : Key) → scan (rows text) ≡ on t a
+    → (is js : List Item) (u : ℕ) (m : Meter) (l : List ℕ) (ts us : List Token) → mine q a ≡ is ++ (played u m l ∷ js) → tokens 0 l ≡ ts ++ us
+    → rowPrice * length a + stateCost tablePrices (foldl onToken (lineBegins u m (foldl (onItem header) newPart is)) ts) + tablePrices .syllable * length (lyrics (build header (mine q a)))
+    ≤ textPays * length text + feedPays + tablePrices .measure
+unfolding musicBytes
+tables-within text t a q header e is js u m l ts us f g =
+    let b = sum-append musicBytes is (played u m l ∷ js) in
+    omega (arith, lines-most text t a e, mine-bytes q a, bytes-both (mine q a), ap (sum musicBytes) f, b, within-line tablePrices table-covered header is u m l ts us g, lyric-bound tablePrices table-covered header (mine q a))

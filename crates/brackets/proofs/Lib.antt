@@ -1,0 +1,2 @@
+mod Inlines
+mod Chorded

@@ -1,0 +1,3 @@
+pub mod PassLaws
+pub mod KeyTexts
+pub mod Walks

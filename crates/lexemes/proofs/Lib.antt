@@ -1,0 +1,5 @@
+mod Closed
+mod Ratio
+mod Bar
+mod Ending
+mod Sounding

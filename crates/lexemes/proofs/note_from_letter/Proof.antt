@@ -1,0 +1,64 @@
+use mathlib.Core.Path.{_≡_, refl, sym, ap, _∙_}
+use Rattle.lexemes.proofs.Sounding.{letter-out, letter-in}
+use borrow.Author.Needs.{needs}
+use Rattle.lexemes.proofs.note_from_letter.Statement.{statement}
+use Rattle.lexemes.proofs.note_from_letter.Tie as tie
+use Rattle.lexemes.proofs.note_from_letter.Reads as reads
+use Rattle.lexemes.proofs.note_from_letter.Lts as lts
+use Rattle.lengths.proofs.parse_duration_suffix.Reads as parse-duration-suffix-reads
+use Rattle.pitches.proofs.abc_note_char.Reads as abc-note-char-reads
+use Rattle.pitches.proofs.octave_marks.Reads as octave-marks-reads
+use Rattle.runs.proofs.note_annotations.Reads as note-annotations-reads
+
+shared-slice-read-abc-note-char : tie.Need-shared-slice-read-abc-note-char
+shared-slice-read-abc-note-char c = search needs
+
+abc-note-char-requires : tie.Need-abc-note-char-requires
+abc-note-char-requires c κs = search needs
+
+add-octave-marks : tie.Need-add-octave-marks
+add-octave-marks c = search needs
+
+octave-marks-requires : tie.Need-octave-marks-requires
+octave-marks-requires c κs = search needs
+
+enum-known-octave : tie.Need-enum-known-octave
+enum-known-octave c = search needs
+
+enum-told : tie.Need-enum-told
+enum-told c = search needs
+
+returns : tie.Need-returns
+returns c =
+    let o = c .before .before in
+    let s = o .before .before .before .before in
+    letter-out (s .args .line .now) (s .args .at) (s .pre) (s .args .mark) (o .before .abc-note-char .result) (o .before .abc-note-char .ensures) (sym (o .octave-marks .ensures) ∙ c .enum-told .given .1)
+
+parse-duration-suffix-requires : tie.Need-parse-duration-suffix-requires
+parse-duration-suffix-requires c κs = search needs
+
+note-annotations-requires : tie.Need-note-annotations-requires
+note-annotations-requires c κs = search needs
+
+returns-2 : tie.Need-returns-2
+returns-2 c =
+    let o = c .before .before .before .before .before in
+    let s = o .before .before .before .before in
+    let g = c .before .before .before .octave .given in
+    letter-in (s .args .line .now) (s .args .at) (s .pre) (s .args .mark) (o .before .abc-note-char .result) (o .before .abc-note-char .ensures) (g .0 .0) (g .0 .1 .0) (sym (o .octave-marks .ensures) ∙ g .1)
+    (c .before .parse-duration-suffix .result) (c .before .parse-duration-suffix .ensures) (c .note-annotations .result) (c .note-annotations .ensures)
+
+pub note-from-letter-spec : {M : Type 1} → statement M
+note-from-letter-spec =
+    tie.close
+    (tie.spec
+    shared-slice-read-abc-note-char
+    abc-note-char-requires
+    add-octave-marks
+    octave-marks-requires
+    enum-known-octave
+    enum-told
+    returns
+    parse-duration-suffix-requires
+    note-annotations-requires
+    returns-2)

@@ -1,0 +1,28 @@
+use Prim.Native.Nat.{suc, _+_}
+use mathlib.Core.Path.{_≡_, refl, sym, ap, _∙_}
+use native.Mathlib.Omega.{arith}
+use lib.ListN.{drop}
+use Rattle.reader.specs.Lengths.{lengthOf}
+use Rattle.lengths.specs.Values.{suffixAt}
+use borrow.Author.Needs.{needs}
+use Rattle.lexemes.proofs.rest.Statement.{statement}
+use Rattle.lexemes.proofs.rest.Tie as tie
+use Rattle.lexemes.proofs.rest.Reads as reads
+use Rattle.lexemes.proofs.rest.Lts as lts
+use Rattle.lengths.proofs.parse_duration_suffix.Reads as parse-duration-suffix-reads
+
+add-parse-duration-suffix : tie.Need-add-parse-duration-suffix
+add-parse-duration-suffix c = search needs
+
+parse-duration-suffix-requires : tie.Need-parse-duration-suffix-requires
+parse-duration-suffix-requires c κs = search needs
+
+returns : tie.Need-returns
+unfolding suffixAt
+returns c =
+    let a = c .before .before .args in
+    let n : a .at + 1 + lengthOf (drop (a .at + 1) (a .line .now)) .used ≡ a .at + suc (lengthOf (drop (a .at + 1) (a .line .now)) .used) = omega arith in
+    rw (c .parse-duration-suffix .ensures, n)
+
+pub rest-spec : {M : Type 1} → statement M
+rest-spec = tie.close (tie.spec add-parse-duration-suffix parse-duration-suffix-requires returns)

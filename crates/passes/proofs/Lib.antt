@@ -1,0 +1,4 @@
+mod Cuts
+mod Items
+mod Bits
+mod Reading

@@ -1,0 +1,100 @@
+-- Texts of digits: how far they reach, what they write, and that nothing in them is white space or a mark.
+use Prim.Native.Nat.{ℕ, zero, suc, _+_, _≤_, _<_}
+use mathlib.Core.Path.{_≡_, refl, sym, ap, _∙_}
+use mathlib.Core.Bool.{Bool, true, false, cond, not, _&&_, false≢true}
+use mathlib.Core.Option.{Option, none, some}
+use mathlib.Core.List.{List, [], _∷_, _++_}
+use native.Mathlib.Nat.{not-suc-le-zero}
+use native.Mathlib.Omega.{arith}
+use lib.Dec.{eqb, leb}
+use lib.ListN.{length, take, drop}
+use lib.Seq.{take-append-seam, drop-at}
+use borrow.Author.Tests.{eqb-true, le-leb, lt-leb, leb-true}
+use Rattle.laws.specs.Lists.{all, span, isNil}
+use Rattle.laws.proofs.Bools.{by-test, both-true, and-left, and-right, and-both, or-none, and-no-right, eqb-same}
+use Rattle.laws.proofs.Spans.{span-yes, span-no}
+use Rattle.standard.specs.Bytes.{is, isDigit, first, decimal, digits}
+use Rattle.reader.specs.Text.{isSpace, within}
+use Rattle.reader.specs.Pieces.{numeral, before, after, pieces, mark, trimStart, consTrim, trimEnd, trimmed}
+
+-- a digit is no byte that is no digit
+pub digit-not : (c x : ℕ) → isDigit c ≡ true → isDigit x ≡ false → eqb c x ≡ false
+digit-not c x d n = by-test (eqb c x) (λ e. absurd (both-true (isDigit x) (rw (eqb-true c x e) at d) n)) (λ e. e)
+
+-- nor white space
+pub digit-solid : (c : ℕ) → isDigit c ≡ true → isSpace c ≡ false
+digit-solid c d =
+    let low = leb-true 48 c (and-left (leb 48 c) (leb c 57) d) in
+    or-none (within 9 13 c) (eqb c 32) (and-no-right (leb 9 c) (leb c 13) (lt-leb c 13 (omega arith))) (digit-not c 32 d refl)
+
+-- a run of one kind before what is not
+pub span-front : (p : ℕ → Bool) (d t : List ℕ) → all p d ≡ true → span p t ≡ 0 → span p (d ++ t) ≡ length d
+span-front p [] t a h = h
+span-front p (c ∷ d) t a h = span-yes p c (d ++ t) (and-left (p c) (all p d) a) ∙ ap suc (span-front p d t (and-right (p c) (all p d) a) h)
+
+-- what digits write, if it is at most top
+pub digits-some : (top : ℕ) (d : List ℕ) → 0 < length d → all isDigit d ≡ true → decimal 0 d ≤ top → digits top d ≡ some (decimal 0 d)
+unfolding digits
+digits-some top [] h a l = absurd (not-suc-le-zero h)
+digits-some top (c ∷ d) h a l = rw (and-both (all isDigit (c ∷ d)) (leb (decimal 0 (c ∷ d)) top) a (le-leb (decimal 0 (c ∷ d)) top l), digits)
+
+-- the same with a plus sign allowed
+pub numeral-some : (top : ℕ) (d : List ℕ) → 0 < length d → all isDigit d ≡ true → decimal 0 d ≤ top → numeral top d ≡ some (decimal 0 d)
+unfolding numeral
+numeral-some top [] h a l = absurd (not-suc-le-zero h)
+numeral-some top (c ∷ d) h a l = rw (digit-not c 43 (and-left (isDigit c) (all isDigit d) a) refl, numeral) (digits-some top (c ∷ d) h a l)
+
+-- A TEXT WITHOUT WHITE SPACE is trimmed
+solid-end : (s : List ℕ) → all (λ c. not (isSpace c)) s ≡ true → trimEnd s ≡ s
+unfolding trimEnd consTrim
+solid-end [] a = refl
+solid-end (c ∷ []) a = by-test (isSpace c) (λ e. absurd (false≢true (rw e at a))) (λ e. rw e)
+solid-end (c ∷ d ∷ s) a =
+    ap (consTrim c) (solid-end (d ∷ s) (and-right (not (isSpace c)) (all (λ c. not (isSpace c)) (d ∷ s)) a))
+
+pub solid-trimmed : (s : List ℕ) → all (λ c. not (isSpace c)) s ≡ true → trimmed s ≡ s
+unfolding trimmed trimStart
+solid-trimmed [] a = solid-end [] a
+solid-trimmed (c ∷ s) a = by-test (isSpace c) (λ e. absurd (false≢true (rw e at a))) (λ e. rw (e, trimStart) (solid-end (c ∷ s) a))
+
+-- digits have none
+pub digits-solid : (d : List ℕ) → all isDigit d ≡ true → all (λ c. not (isSpace c)) d ≡ true
+digits-solid [] a = refl
+digits-solid (c ∷ d) a = rw (digit-solid c (and-left (isDigit c) (all isDigit d) a)) (digits-solid d (and-right (isDigit c) (all isDigit d) a))
+
+-- BEFORE AND AFTER A MARK that is no digit
+module _ (x : ℕ) (n : isDigit x ≡ false) where
+  abbrev at : ℕ → Bool
+  at c = eqb c x
+
+  -- what stands before it: the digits
+  pub before-digits : (d t : List ℕ) → all isDigit d ≡ true → before at (d ++ (x ∷ t)) ≡ d
+  unfolding before
+  before-digits [] t a = rw (eqb-same x, before)
+  before-digits (c ∷ d) t a =
+      rw (digit-not c x (and-left (isDigit c) (all isDigit d) a) n, before) (ap (λ (r : List ℕ). c ∷ r) (before-digits d t (and-right (isDigit c) (all isDigit d) a)))
+
+  -- all of them, where there is no mark
+  pub before-all : (d : List ℕ) → all isDigit d ≡ true → before at d ≡ d
+  unfolding before
+  before-all [] a = refl
+  before-all (c ∷ d) a =
+      rw (digit-not c x (and-left (isDigit c) (all isDigit d) a) n, before) (ap (λ (r : List ℕ). c ∷ r) (before-all d (and-right (isDigit c) (all isDigit d) a)))
+
+  -- what stands after it
+  pub after-digits : (d t : List ℕ) → all isDigit d ≡ true → after at (d ++ (x ∷ t)) ≡ some t
+  unfolding after
+  after-digits [] t a = rw (eqb-same x, after)
+  after-digits (c ∷ d) t a = rw (digit-not c x (and-left (isDigit c) (all isDigit d) a) n, after) (after-digits d t (and-right (isDigit c) (all isDigit d) a))
+
+  -- PIECES between such marks: digits alone are one
+  pub pieces-digits : (d : List ℕ) → all isDigit d ≡ true → pieces (mark at) 0 d ≡ d ∷ []
+  unfolding pieces
+  pieces-digits [] a = refl
+  pieces-digits (c ∷ d) a = rw (digit-not c x (and-left (isDigit c) (all isDigit d) a) n, pieces) (rw (pieces-digits d (and-right (isDigit c) (all isDigit d) a)))
+
+  -- and the first of two or more
+  pub pieces-two : (d t : List ℕ) → all isDigit d ≡ true → pieces (mark at) 0 (d ++ (x ∷ t)) ≡ d ∷ pieces (mark at) 0 t
+  unfolding pieces
+  pieces-two [] t a = rw (eqb-same x, pieces)
+  pieces-two (c ∷ d) t a = rw (digit-not c x (and-left (isDigit c) (all isDigit d) a) n, pieces) (rw (pieces-two d t (and-right (isDigit c) (all isDigit d) a)))
