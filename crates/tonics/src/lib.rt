@@ -234,7 +234,7 @@ fn is_name(k: KeyName, first: u8, second: u8) -> bool
 }
 
 // The fifths of the major key of a name, none for a name that is none of the fifteen.
-pub fn major_fifths(first: u8, second: u8) -> u8
+fn major_fifths(first: u8, second: u8) -> u8
     ensures { λ r. ⌜ r ≡ lookupIn majors first second ⌝ }
 {
     for i in 0..15 {
@@ -247,7 +247,7 @@ pub fn major_fifths(first: u8, second: u8) -> u8
 }
 
 // The same of the minor key.
-pub fn minor_fifths(first: u8, second: u8) -> u8
+fn minor_fifths(first: u8, second: u8) -> u8
     ensures { λ r. ⌜ r ≡ lookupIn minors first second ⌝ }
 {
     for i in 0..15 {

@@ -73,11 +73,11 @@ pub fn word_end(line: &[u8], a: usize, b: usize) -> usize
     requires { ⌜ b ≤ length (now line) ⌝ }
     ensures { λ r. ⌜ r ≡ endIn notSpace (now (line .entry)) a b ⌝ }
 {
-    let mut i = a;
-    while word_at(line, i, b) {
-        i += 1;
+    let mut j = a;
+    while word_at(line, j, b) {
+        j += 1;
     }
-    i
+    j
 }
 
 // Where the byte `c` stands first, from `a` on; `b` if it does not.
@@ -85,11 +85,11 @@ pub fn find_byte(line: &[u8], a: usize, b: usize, c: u8) -> usize
     requires { ⌜ b ≤ length (now line) ⌝ }
     ensures { λ r. ⌜ r ≡ endIn (notByte c) (now (line .entry)) a b ⌝ }
 {
-    let mut i = a;
-    while other_at(line, i, b, c) {
-        i += 1;
+    let mut k = a;
+    while other_at(line, k, b, c) {
+        k += 1;
     }
-    i
+    k
 }
 
 // Where the part ends without white space at its end.

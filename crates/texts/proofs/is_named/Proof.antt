@@ -14,14 +14,14 @@ sub-if1 c = search needs
 
 returns : tie.Need-returns
 returns c =
-    sym (eqText-length (c .before .before .before .args .name .now) (map lower (between (c .before .before .before .args .line .now) (c .before .before .before .args .a) (c .before .before .before .args .b))) (λ e. c .if1 .taken (sym (length-lower (c .before .before .before .args .line .now) (c .before .before .before .args .a) (c .before .before .before .args .b) (c .before .before .before .pre .1)) ∙ sym e)))
+    sym (eqText-length (c .before .before .before .args .name .now) (map lower (between (c .before .before .before .args .line .now) (c .before .before .before .args .i) (c .before .before .before .args .e))) (λ e. c .if1 .taken (sym (length-lower (c .before .before .before .args .line .now) (c .before .before .before .args .i) (c .before .before .before .args .e) (c .before .before .before .pre .1)) ∙ sym e)))
 
 says-requires : tie.Need-says-requires
 says-requires c κs = search needs
 
 returns-2 : tie.Need-returns-2
 returns-2 c =
-    c .says .ensures ∙ starts-whole (c .before .before .before .before .args .name .now) (map lower (between (c .before .before .before .before .args .line .now) (c .before .before .before .before .args .a) (c .before .before .before .before .args .b))) (length-lower (c .before .before .before .before .args .line .now) (c .before .before .before .before .args .a) (c .before .before .before .before .args .b) (c .before .before .before .before .pre .1) ∙ c .before .if1 .left)
+    c .says .ensures ∙ starts-whole (c .before .before .before .before .args .name .now) (map lower (between (c .before .before .before .before .args .line .now) (c .before .before .before .before .args .i) (c .before .before .before .before .args .e))) (length-lower (c .before .before .before .before .args .line .now) (c .before .before .before .before .args .i) (c .before .before .before .before .args .e) (c .before .before .before .before .pre .1) ∙ c .before .if1 .left)
 
 pub is-named-spec : {M : Type 1} → statement M
 is-named-spec = tie.close (tie.spec sub-if1 returns says-requires returns-2)
