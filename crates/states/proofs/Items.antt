@@ -1,19 +1,22 @@
 -- One line more, with or without an item, and how far the scan has then come.
 use Prim.Native.Nat.{ℕ, suc, _+_, _*_, _^_, _≤_, _<_}
-use mathlib.Core.Path.{_≡_, refl, sym, ap, _∙_}
+use mathlib.Core.Path.{_≡_, refl, sym, ap, subst, _∙_}
+use mathlib.Core.Bool.{Bool}
 use mathlib.Core.List.{List, [], _∷_, _++_, append-nil}
 use native.Mathlib.Omega.{arith}
 use lib.ListN.{length, drop}
 use Rattle.laws.specs.Bytes.{between, splice}
 use Rattle.laws.proofs.Parts.{drop-between}
+use Rattle.reader.specs.Lines.{Kind, refused}
 use Rattle.reader.specs.Steps.{on, first}
-use Rattle.reader.specs.Scan.{Item, Items, ScanState}
+use Rattle.reader.specs.Scan.{Item, Items, ScanState, act}
 use Rattle.table.specs.declared.Row.{Row}
 use Rattle.table.specs.Rows.{voicesIn, itemIn, itemsIn, encItem}
 use Rattle.table.proofs.Rows.{voices-below, items-push}
 use Rattle.states.specs.declared.State.{State}
-use Rattle.states.specs.declared.Step.the-variants.{On}
-use Rattle.states.specs.States.{heldIn, held, reached, nextOf, addedTo}
+use Rattle.states.specs.declared.Step.{Step}
+use Rattle.states.specs.declared.Step.the-variants.{On, Refused}
+use Rattle.states.specs.States.{heldIn, held, reached, nextOf, addedTo, Stepped}
 
 -- no item: what came before stays
 pub stays : (a : Items) (t : ScanState) → on t a ≡ first a (on t [])
@@ -37,3 +40,11 @@ words text from end = sym (drop-between text from end 2)
 -- which item that is
 pub one-item : (a : Items) (t : ScanState) (x y : ℕ × Item) → x ≡ y → on t (a ++ (x ∷ [])) ≡ first a (on t (y ∷ []))
 one-item a t x y e = ap (λ (z : ℕ × Item). on t (a ++ (z ∷ []))) e
+
+-- ONE LINE by its kind
+pub by-kind : {text s s′ : List ℕ} {st : State} {r : Step} (k k′ : Kind) (h : Bool) → k ≡ k′ → Stepped text s st (act (held text s st) k′ h) s′ r → Stepped text s st (act (held text s st) k h) s′ r
+by-kind {text} {s} {s′} {st} {r} k k′ h e x = subst (λ (j : Kind). Stepped text s st (act (held text s st) j h) s′ r) (sym e) x
+
+pub refused-kind : {text s s′ : List ℕ} {st : State} (k : Kind) (n : ℕ) (h : Bool) → k ≡ refused n → Stepped text s st (act (held text s st) k h) s′ (Refused n (suc (st .lines)))
+unfolding act
+refused-kind k n h e = by-kind k (refused n) h e (record { is = refl; follows = tt })

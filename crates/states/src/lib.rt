@@ -11,7 +11,6 @@ ghost use Rattle.reader.specs.Scan.{begin, act};
 ghost use Rattle.reader.specs.Steps.{on};
 ghost use Rattle.table.specs.Rows.{voicesIn, itemIn, itemsIn};
 ghost use Rattle.states.specs.States.{heldIn, held, reached, nextOf, addedTo, Ready, Stepped};
-
 use table::Row;
 
 // L is `unit`, M `top` and `bottom`; `part` is the part being read; so many notes, lines, parts with a place for verses, voices and items;

@@ -9,7 +9,9 @@ ghost use Rattle.table.specs.Rows.{decVoice, voicesIn, decItem, encItem,
 
 // Where the items begin, behind the rows of 32 voices; the bytes of an item's row and of a voice's.
 pub const ITEMS: usize = 256;
+
 pub const ITEM: usize = 16;
+
 pub const VOICE: usize = 8;
 
 // A part of the text, from `at` up to `end`.

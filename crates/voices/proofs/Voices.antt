@@ -63,16 +63,16 @@ pub new-voice : (text s s₂ s₃ : List ℕ) (n m a b : ℕ) (row : Row) (h : B
     → n < 32 → a < 2 ^ 32 → b < 2 ^ 32 → row .at < 2 ^ 32 → row .end < 2 ^ 32 → row .unit < 2 ^ 32 → itemIn text row ≡ (n, born h) → 256 + 16 * m + 16 ≤ length s → (t : State) (x : ℕ × Item)
     → x ≡ (n, reset)
     → on (heldIn (voicesIn text s₃ (n + 1)) t) (itemsIn text s₃ (m + 1) ++ (x ∷ []))
-      ≡ on (heldIn (voicesIn text s n ++ (between text a b ∷ [])) t) (itemsIn text s m ++ ((n, born h) ∷ ((n, reset) ∷ [])))
+    ≡ on (heldIn (voicesIn text s n ++ (between text a b ∷ [])) t) (itemsIn text s m ++ ((n, born h) ∷ ((n, reset) ∷ [])))
 new-voice text s s₂ s₃ n m a b row h e₂ e₃ nh ah bh rh re ru ri room t x ex =
     let l : length s₂ ≡ length s = ap length e₂ ∙ length-splice s (8 * n) (le32 a ++ le32 b) in
     let vs : voicesIn text s₃ (n + 1) ≡ voicesIn text s n ++ (between text a b ∷ []) =
-          ap (λ (z : List ℕ). voicesIn text z (n + 1)) e₃ ∙ voices-below text s₂ (n + 1) (256 + 16 * m) (encItem row) (omega arith)
-          ∙ ap (λ (z : List ℕ). voicesIn text z (n + 1)) e₂ ∙ voices-push text s n a b ah bh (omega arith) in
+    ap (λ (z : List ℕ). voicesIn text z (n + 1)) e₃ ∙ voices-below text s₂ (n + 1) (256 + 16 * m) (encItem row) (omega arith)
+    ∙ ap (λ (z : List ℕ). voicesIn text z (n + 1)) e₂ ∙ voices-push text s n a b ah bh (omega arith) in
     let was : itemsIn text s₂ m ≡ itemsIn text s m =
-          ap (λ (z : List ℕ). itemsIn text z m) e₂ ∙ items-above text s m (8 * n) (le32 a ++ le32 b) (rw length-voice (omega arith)) in
+    ap (λ (z : List ℕ). itemsIn text z m) e₂ ∙ items-above text s m (8 * n) (le32 a ++ le32 b) (rw length-voice (omega arith)) in
     let is : itemsIn text s₃ (m + 1) ≡ itemsIn text s m ++ ((n, born h) ∷ []) =
-          ap (λ (z : List ℕ). itemsIn text z (m + 1)) e₃ ∙ items-push text s₂ m row rh re ru (omega arith) ∙ (λ i. was i ++ (ri i ∷ [])) in
+    ap (λ (z : List ℕ). itemsIn text z (m + 1)) e₃ ∙ items-push text s₂ m row rh re ru (omega arith) ∙ (λ i. was i ++ (ri i ∷ [])) in
     (λ i. on (heldIn (vs i) t) (is i ++ (ex i ∷ []))) ∙ ap (λ (z : Items). on (heldIn (voicesIn text s n ++ (between text a b ∷ [])) t) z) (append-assoc (itemsIn text s m) ((n, born h) ∷ []) ((n, reset) ∷ []))
 
 -- WHICH CASE OF A V LINE it is

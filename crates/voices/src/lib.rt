@@ -10,7 +10,6 @@ ghost use Rattle.reader.specs.Steps.{on};
 ghost use Rattle.table.specs.Rows.{voicesIn, itemsIn};
 ghost use Rattle.states.specs.States.{heldIn, held, reached, Ready, Stepped};
 ghost use Rattle.voices.specs.Voices.{movedTo, Unnamed, Moved};
-
 use states::State;
 use states::Step;
 use table::Row;
@@ -90,7 +89,14 @@ fn new_voice(scratch: &mut [u8], st: State, n: usize, a: usize, b: usize) -> Sta
 }
 
 // A V line that names the text's bytes from `a` up to `b`; mid: it has a `middle=` word.
-pub fn named_voice(text: &[u8], scratch: &mut [u8], st: State, a: usize, b: usize, mid: bool) -> Step
+pub fn named_voice(
+    text: &[u8],
+    scratch: &mut [u8],
+    st: State,
+    a: usize,
+    b: usize,
+    mid: bool,
+) -> Step
     requires { ⌜ Ready (length (now scratch)) st ⌝ }
     requires { ⌜ (a ≤ b) × (b ≤ length (now text)) × (length (now text) < 2 ^ 32) ⌝ }
     ensures { λ r. ⌜ Stepped (now (text .entry)) (now (scratch .entry)) st (act (held (now (text .entry)) (now (scratch .entry)) st) (voice (between (now (text .entry)) a b) mid) (st .in_header)) (now (scratch .exit)) r ⌝ }

@@ -30,10 +30,11 @@ returns c =
 loop-again : tie.Need-loop-again Inv-loop μ-loop
 loop-again c =
     let a = c .before .before .before .before .before .before .before .before .args in
-    let l = c .before .before .before .before .before .loop in
-    (search needs,
-    search-on (a .text .now) (a .scratch .now) (a .n) (between (a .text .now) (a .a) (a .b)) (l .i) (l .inv .1) (c .before .before .before .before .loop-test .taken)
-    (same-voice (a .text .now) _ _ (a .a) (a .b) _ false (c .before .before .before .get-voice .ensures) (c .before .is-text .ensures) (c .if1 .left)))
+    let l = c .before .before .before .before .before .loop in (
+      search needs,
+      search-on (a .text .now) (a .scratch .now) (a .n) (between (a .text .now) (a .a) (a .b)) (l .i) (l .inv .1) (c .before .before .before .before .loop-test .taken)
+          (same-voice (a .text .now) _ _ (a .a) (a .b) _ false (c .before .before .before .get-voice .ensures) (c .before .is-text .ensures) (c .if1 .left)),
+    )
 
 returns-2 : tie.Need-returns-2 Inv-loop μ-loop
 returns-2 c =
