@@ -1,4 +1,4 @@
-mod Closed
+pub mod Closed
 mod Ratio
 mod Bar
 mod Ending
