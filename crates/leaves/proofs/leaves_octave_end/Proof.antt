@@ -1,0 +1,25 @@
+-- `leaves::leaves_octave_end` meets its contract.
+use mathlib.Core.Path.{sym, ap, _∙_}
+use Rattle.leaves.specs.Packed.{octaveEnd}
+use borrow.Author.Needs.{needs}
+use Rattle.leaves.proofs.leaves_octave_end.Statement.{statement}
+use Rattle.leaves.proofs.leaves_octave_end.Tie as tie
+
+octave-marks-requires : tie.Need-octave-marks-requires
+octave-marks-requires c κs = search needs
+
+enum-known-o : tie.Need-enum-known-o
+enum-known-o c = search needs
+
+enum-told : tie.Need-enum-told
+enum-told c = search needs
+
+returns : tie.Need-returns
+returns c = ap octaveEnd (sym (c .before .o .given .1) ∙ c .before .before .before .octave-marks .ensures)
+
+returns-2 : tie.Need-returns-2
+returns-2 c = ap octaveEnd (sym (c .enum-told .given .1) ∙ c .before .before .octave-marks .ensures)
+
+pub leaves-octave-end-spec : {M : Type 1} → statement M
+leaves-octave-end-spec =
+    tie.close (tie.spec octave-marks-requires enum-known-o enum-told returns returns-2)
