@@ -1,17 +1,17 @@
 -- Whether a bracket is a field, by position.
 use Prim.Native.Nat.{ℕ, suc, _+_, _-_, _≤_, _<_}
 use mathlib.Core.Path.{_≡_, refl, sym, ap, _∙_}
-use mathlib.Core.Bool.{Bool, true, false, not, _&&_, _||_}
+use mathlib.Core.Bool.{Bool, true, false, not}
 use mathlib.Core.List.{List, [], _∷_}
 use native.Mathlib.Omega.{arith}
 use lib.Dec.{ltb, eqb}
-use lib.ListN.{length, getD, take, drop, length-drop}
-use borrow.Author.Tests.{lt-ltb, le-ltb, ltb-true, ltb-false, eq-eqb, ne-eqb}
+use lib.ListN.{length, getD, drop, length-drop}
+use borrow.Author.Tests.{lt-ltb, le-ltb, ltb-true, ltb-false, ne-eqb}
 use Rattle.laws.specs.Lists.{span, any}
 use Rattle.laws.specs.Bytes.{between, part}
 use Rattle.laws.specs.Spans.{endOf, endIn}
-use Rattle.laws.proofs.Bools.{by-test, same-test, and-no-left, and-no-right}
-use Rattle.laws.proofs.Spans.{span-yes, span-no, span-le}
+use Rattle.laws.proofs.Bools.{by-test}
+use Rattle.laws.proofs.Spans.{span-yes, span-no}
 use Rattle.laws.proofs.Parts.{length-between}
 use Rattle.standard.specs.Bytes.{is, first}
 use Rattle.reader.specs.Inline.{isInline}

@@ -1,19 +1,19 @@
 -- The tests of a `[` in turn, by position.
-use Prim.Native.Nat.{ℕ, suc, _+_, _-_, _≤_, _<_}
-use mathlib.Core.Path.{_≡_, refl, sym, ap, _∙_}
-use mathlib.Core.Bool.{Bool, true, false, not, _&&_}
-use mathlib.Core.List.{List, [], _∷_}
+use Prim.Native.Nat.{ℕ, _+_, _-_, _<_}
+use mathlib.Core.Path.{_≡_, ap, _∙_}
+use mathlib.Core.Bool.{true, false, not}
+use mathlib.Core.List.{List}
 use native.Mathlib.Omega.{arith}
-use lib.Dec.{ltb, eqb}
-use lib.ListN.{length, getD, take, drop, length-drop}
+use lib.Dec.{eqb}
+use lib.ListN.{length, getD, drop, length-drop}
 use lib.Seq.{drop-drop}
 use borrow.Author.Tests.{ltb-true}
-use Rattle.laws.specs.Lists.{span, any}
+use Rattle.laws.specs.Lists.{span}
 use Rattle.laws.specs.Bytes.{between, part}
-use Rattle.laws.specs.Spans.{endOf, endIn}
+use Rattle.laws.specs.Spans.{endOf}
 use Rattle.laws.proofs.Bools.{and-left}
-use Rattle.standard.specs.Bytes.{is, isDigit, first}
-use Rattle.reader.specs.Token.{Token, Taken, taken}
+use Rattle.standard.specs.Bytes.{isDigit}
+use Rattle.reader.specs.Token.{Token, taken}
 use Rattle.reader.specs.PassLists.{voltaOf}
 use Rattle.reader.specs.Inline.{fieldToken, isInline, inlineAt}
 use Rattle.reader.specs.Sounds.{chordAt}

@@ -6,7 +6,6 @@ use mathlib.Core.Option.{Option, none, some}
 use mathlib.Core.List.{List, [], _∷_}
 use native.Mathlib.Nat.{add-assoc, add-zero, zero-add}
 use native.Mathlib.Omega.{arith}
-use lib.Dec.{eqb}
 use lib.ListN.{length, getD, drop, drop-of-length-le}
 use lib.Seq.{drop-drop}
 use borrow.Author.Tests.{ne-eqb}
@@ -18,7 +17,6 @@ use Rattle.runs.proofs.Places.{drop-here}
 use Rattle.pitches.specs.Pitches.{markFor, markOf, pitchFor}
 use Rattle.pitches.specs.Chords.{Met, over, out, met, further, signIn, letterMet, pitchMet, metFor, chordFor}
 use Rattle.pitches.specs.declared.Pitch.{Pitch}
-use Rattle.pitches.specs.declared.Met as code
 use Rattle.pitches.specs.declared.Met.the-variants as met-as
 use Rattle.pitches.specs.declared.Chord.{Chord}
 use Rattle.pitches.specs.declared.Chord.the-variants.{Read, Refused}

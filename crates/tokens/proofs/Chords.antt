@@ -1,7 +1,7 @@
 -- The pitches of a chord token are those that `next_chord_pitch` reads behind its `[`, one by one (`next-pitch` of crate pitches).
 use Prim.Native.Nat.{ℕ, suc, _+_}
 use mathlib.Core.Path.{_≡_, refl, sym, ap, _∙_}
-use mathlib.Core.Bool.{Bool, true, false, cond, not}
+use mathlib.Core.Bool.{Bool, true, false, not}
 use mathlib.Core.Option.{Option, none, some}
 use mathlib.Core.List.{List, [], _∷_}
 use native.Mathlib.Omega.{arith}
@@ -10,7 +10,6 @@ use lib.ListN.{length, take, drop}
 use lib.Seq.{drop-drop}
 use Rattle.laws.specs.Lists.{span}
 use Rattle.laws.proofs.Bools.{by-test}
-use Rattle.standard.specs.Notes as Notes
 use Rattle.standard.specs.Bytes.{is, isDigit, first}
 use Rattle.standard.specs.Bars.{Symbol, barSymbols, symbolAt}
 use Rattle.standard.specs.Pitches.{Written, isLetter}
@@ -25,7 +24,7 @@ use Rattle.reader.specs.PassLists.{isPassByte, passList, voltaAs, voltaOf}
 use Rattle.reader.specs.Inline.{unitToken, keyToken, fieldToken, isInline, inlineAt}
 use Rattle.reader.specs.Sounds.{chordTaken, chordAt, restAs, noteAs, noteAfter, noteOf}
 use Rattle.reader.specs.Tokens.{closedBy, brokenOf, bracketOf, Class, white, ampersand, quote, more, less, paren, braceOpen, braceClose, bang, plus, bars, bracket, pitched, none-of-these, resting, classOf, tokenAs, tokenOf}
-use Rattle.lexemes.proofs.Ratio.{IsTuplet, Form, form}
+use Rattle.lexemes.proofs.Ratio.{Form, form}
 use Rattle.standard.specs.Notes.{Behind}
 
 -- a chord's pitches

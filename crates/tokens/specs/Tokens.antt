@@ -1,6 +1,6 @@
 -- The definitions' tokens, with their written values, and effects, as the code has them.
 use Prim.Native.Nat.{ℕ, _+_}
-use mathlib.Core.Bool.{Bool, true, false, cond}
+use mathlib.Core.Bool.{cond}
 use lib.Dec.{ltb}
 use lib.ListN.{length, getD}
 use Rattle.standard.specs.Lengths.{lengthFraction}

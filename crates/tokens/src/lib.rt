@@ -5,7 +5,7 @@ ghost use lib.ListN.{length, drop};
 ghost use Rattle.reader.specs.Tokens.{tokenOf};
 ghost use Rattle.marks.specs.Classes.{classTable};
 ghost use Rattle.lexemes.specs.Lexemes.{cutFor};
-ghost use Rattle.tokens.specs.Tokens.{tokenFor, tokenisedFor, valuedFor, effectIn, effectedFor};
+ghost use Rattle.tokens.specs.Tokens.{tokenisedFor, valuedFor, effectIn, effectedFor};
 use lengths::Length;
 use lexemes::Cut;
 use lexemes::Lexeme;

@@ -1,27 +1,18 @@
-use Prim.Native.Nat.{ℕ, _+_, _<_, _≤_}
-use mathlib.Core.Path.{_≡_, refl, sym, ap, _∙_}
-use mathlib.Core.Bool.{true, false, not}
+-- `brackets::bracket` meets its contract.
+use Prim.Native.Nat.{_+_, _≤_}
+use mathlib.Core.Path.{_≡_, sym, ap, _∙_}
+use mathlib.Core.Bool.{not}
 use native.Mathlib.Omega.{arith}
 use lib.Dec.{eqb}
-use lib.ListN.{length, getD, drop}
+use lib.ListN.{length, getD}
 use Rattle.laws.specs.Spans.{endOf}
 use Rattle.standard.specs.Bytes.{isDigit}
-use Rattle.reader.specs.Inline.{isInline}
 use Rattle.lexemes.specs.Lexemes.{cutFor}
 use Rattle.lexemes.proofs.Closed.{to-the-end}
 use Rattle.brackets.proofs.Opened.{is-ending, field-closes, is-field, is-chord}
 use borrow.Author.Needs.{needs}
 use Rattle.brackets.proofs.bracket.Statement.{statement}
 use Rattle.brackets.proofs.bracket.Tie as tie
-use Rattle.brackets.proofs.bracket.Reads as reads
-use Rattle.brackets.proofs.bracket.Lts as lts
-use Rattle.brackets.proofs.chord.Reads as chord-reads
-use Rattle.brackets.proofs.inline_field.Reads as inline-field-reads
-use Rattle.brackets.proofs.is_inline.Reads as is-inline-reads
-use Rattle.lexemes.proofs.volta.Reads as volta-reads
-use Rattle.numbers.proofs.byte_at.Reads as byte-at-reads
-use Rattle.numbers.proofs.is_digit.Reads as is-digit-reads
-use Rattle.runs.proofs.find.Reads as find-reads
 
 add-from : tie.Need-add-from
 add-from c = search needs

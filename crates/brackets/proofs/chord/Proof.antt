@@ -1,4 +1,5 @@
-use mathlib.Core.Path.{_≡_, refl, sym, ap, _∙_}
+-- `brackets::chord` meets its contract.
+use mathlib.Core.Path.{sym, _∙_}
 use mathlib.Core.Bool.{not}
 use native.Mathlib.Omega.{arith}
 use Prim.Native.Nat.{_+_}
@@ -8,11 +9,6 @@ use Rattle.brackets.proofs.Chorded.{chord-refused, chord-empty, chord-f
 use borrow.Author.Needs.{needs}
 use Rattle.brackets.proofs.chord.Statement.{statement}
 use Rattle.brackets.proofs.chord.Tie as tie
-use Rattle.brackets.proofs.chord.Reads as reads
-use Rattle.brackets.proofs.chord.Lts as lts
-use Rattle.lengths.proofs.parse_duration_suffix.Reads as parse-duration-suffix-reads
-use Rattle.pitches.proofs.parse_abc_chord.Reads as parse-abc-chord-reads
-use Rattle.runs.proofs.note_annotations.Reads as note-annotations-reads
 
 add-parse-abc-chord : tie.Need-add-parse-abc-chord
 add-parse-abc-chord c = search needs

@@ -1,12 +1,9 @@
-use mathlib.Core.Path.{_≡_, refl, sym, ap, _∙_}
+-- `brackets::inline_field` meets its contract.
 use Rattle.lexemes.specs.Lexemes.{lexemeFor}
 use Rattle.brackets.proofs.Opened.{field-cut}
 use borrow.Author.Needs.{needs}
 use Rattle.brackets.proofs.inline_field.Statement.{statement}
 use Rattle.brackets.proofs.inline_field.Tie as tie
-use Rattle.brackets.proofs.inline_field.Reads as reads
-use Rattle.brackets.proofs.inline_field.Lts as lts
-use Rattle.fields.proofs.parse_inline_field.Reads as parse-inline-field-reads
 
 add-parse-inline-field : tie.Need-add-parse-inline-field
 add-parse-inline-field c = search needs

@@ -1,12 +1,9 @@
-use mathlib.Core.Path.{_≡_, refl, sym, ap, _∙_}
+-- `brackets::is_inline` meets its contract.
+use mathlib.Core.Path.{sym, _∙_}
 use Rattle.brackets.proofs.Inlines.{no-close, quote-first, colon-inside}
 use borrow.Author.Needs.{needs}
 use Rattle.brackets.proofs.is_inline.Statement.{statement}
 use Rattle.brackets.proofs.is_inline.Tie as tie
-use Rattle.brackets.proofs.is_inline.Reads as reads
-use Rattle.brackets.proofs.is_inline.Lts as lts
-use Rattle.numbers.proofs.byte_at.Reads as byte-at-reads
-use Rattle.runs.proofs.find.Reads as find-reads
 
 returns : tie.Need-returns
 returns c =

@@ -1,17 +1,14 @@
-use Prim.Native.Nat.{_≤_, _+_, _-_}
+-- `runs::find` meets its contract. The loop's invariant: the search from k on ends where that from `from` on ends; the measure is what is left of the part.
+use Prim.Native.Nat.{_-_}
 use mathlib.Core.Path.{_≡_, refl, sym, ap, _∙_}
 use mathlib.Core.Bool.{not}
-use native.Mathlib.Omega.{arith}
 use lib.Dec.{eqb}
-use lib.ListN.{length}
 use borrow.Author.Tests.{eq-eqb, ne-eqb}
 use Rattle.laws.specs.Spans.{endIn}
 use Rattle.laws.proofs.Parts.{endIn-more, endIn-stop, endIn-over}
 use borrow.Author.Needs.{needs}
 use Rattle.runs.proofs.find.Statement.{statement}
 use Rattle.runs.proofs.find.Tie as tie
-use Rattle.runs.proofs.find.Reads as reads
-use Rattle.runs.proofs.find.Lts as lts
 
 abbrev Inv-loop : tie.InvT-loop
 Inv-loop line from to b k₀ k = endIn (λ c. not (eqb c b)) line k to ≡ endIn (λ c. not (eqb c b)) line from to

@@ -1,13 +1,10 @@
-use Prim.Native.Nat.{_≤_, _+_, _-_}
-use mathlib.Core.Path.{_≡_, refl, sym, ap, _∙_}
-use native.Mathlib.Omega.{arith}
+-- `runs::note_annotations` meets its contract. The loop's invariant is `Marking`; the measure is what is left of the line.
+use Prim.Native.Nat.{_-_}
 use lib.ListN.{length}
 use Rattle.runs.proofs.Behinds.{Marking, marking-start, marking-tie, marking-slur, marking-other, marking-end}
 use borrow.Author.Needs.{needs}
 use Rattle.runs.proofs.note_annotations.Statement.{statement}
 use Rattle.runs.proofs.note_annotations.Tie as tie
-use Rattle.runs.proofs.note_annotations.Reads as reads
-use Rattle.runs.proofs.note_annotations.Lts as lts
 
 abbrev Inv-loop : tie.InvT-loop
 Inv-loop line at tie₀ slur₀ cursor₀ tie slur cursor = Marking line at tie slur cursor

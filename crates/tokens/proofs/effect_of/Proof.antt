@@ -1,9 +1,8 @@
+-- `tokens::effect_of` meets its contract.
 use Rattle.tokens.specs.Tokens.{effectIn}
 use borrow.Author.Needs.{needs}
 use Rattle.tokens.proofs.effect_of.Statement.{statement}
 use Rattle.tokens.proofs.effect_of.Tie as tie
-use Rattle.tokens.proofs.effect_of.Reads as reads
-use Rattle.tokens.proofs.effect_of.Lts as lts
 
 enum-told : tie.Need-enum-told
 enum-told c = search needs

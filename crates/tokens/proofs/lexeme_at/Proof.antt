@@ -1,5 +1,6 @@
-use Prim.Native.Nat.{ℕ, _+_, _<_}
-use mathlib.Core.Path.{_≡_, refl, sym, ap, _∙_}
+-- `tokens::lexeme_at` meets its contract.
+use Prim.Native.Nat.{ℕ, _<_}
+use mathlib.Core.Path.{_≡_, sym, ap, _∙_}
 use native.Mathlib.Omega.{arith}
 use lib.ListN.{getD, drop}
 use Rattle.standard.specs.Notes as Notes
@@ -10,17 +11,6 @@ use Rattle.tokens.proofs.Dispatch.{byCode, classed, unclassed, rest-cut
 use borrow.Author.Needs.{needs}
 use Rattle.tokens.proofs.lexeme_at.Statement.{statement}
 use Rattle.tokens.proofs.lexeme_at.Tie as tie
-use Rattle.tokens.proofs.lexeme_at.Reads as reads
-use Rattle.tokens.proofs.lexeme_at.Lts as lts
-use Rattle.brackets.proofs.bracket.Reads as bracket-reads
-use Rattle.lexemes.proofs.bar_line.Reads as bar-line-reads
-use Rattle.lexemes.proofs.broken.Reads as broken-reads
-use Rattle.lexemes.proofs.decoration.Reads as decoration-reads
-use Rattle.lexemes.proofs.note.Reads as note-reads
-use Rattle.lexemes.proofs.quoted_text.Reads as quoted-text-reads
-use Rattle.lexemes.proofs.rest.Reads as rest-reads
-use Rattle.lexemes.proofs.tuplet_or_slur.Reads as tuplet-or-slur-reads
-use Rattle.marks.proofs.class_of.Reads as class-of-reads
 
 shared-slice-read-class-of : tie.Need-shared-slice-read-class-of
 shared-slice-read-class-of c = search needs

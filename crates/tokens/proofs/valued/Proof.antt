@@ -1,11 +1,9 @@
+-- `tokens::valued` meets its contract.
 use borrow.Author.Tests.{lt-ltb, le-ltb}
 use Rattle.tokens.specs.Tokens.{valuedFor}
 use borrow.Author.Needs.{needs}
 use Rattle.tokens.proofs.valued.Statement.{statement}
 use Rattle.tokens.proofs.valued.Tie as tie
-use Rattle.tokens.proofs.valued.Reads as reads
-use Rattle.tokens.proofs.valued.Lts as lts
-use Rattle.lengths.proofs.abc_note_value.Reads as abc-note-value-reads
 
 enum-told : tie.Need-enum-told
 enum-told c = search needs

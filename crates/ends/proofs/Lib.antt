@@ -1,0 +1,2 @@
+pub mod Zipped
+pub mod Closing

@@ -1,0 +1,23 @@
+-- `ends::end_part` meets its contract.
+use mathlib.Core.Path.{sym, _∙_}
+use mathlib.Core.Option.{none}
+use native.Mathlib.Omega.{arith}
+use Rattle.layout.specs.Ends.{dropped}
+use Rattle.ends.proofs.Closing.{kept-on, kept-wider, length-close}
+use borrow.Author.Needs.{needs}
+use Rattle.ends.proofs.end_part.Statement.{statement}
+use Rattle.ends.proofs.end_part.Tie as tie
+
+returns : tie.Need-returns
+returns c =
+    let d = c .before .before .before .before .before .before .before .before .drop-empty .ensures in
+    let k = c .before .before .before .before .before .before .close-abc-volta-spans .ensures in
+    let f = c .before .before .mark-first .ensures in (
+      (d .0, kept-on (kept-wider (k .0) _ (omega (arith, d .0))) (kept-wider (f .0) _ (omega (arith, d .0)))),
+      λ heads t h small.
+          let (n, u) = d .1 heads t h small in
+          (n, f .1 _ (k .1 (dropped heads) u (sym n)) (length-close none (dropped heads) ∙ sym n)),
+    )
+
+pub end-part-spec : {M : Type 1} → statement M
+end-part-spec = tie.close (tie.spec (λ c κs. search needs) (λ c κs. search needs) (λ c κs. search needs) (λ c. search needs) returns)
