@@ -15,7 +15,6 @@ ghost use Rattle.text.specs.Lines.{kindAs};
 ghost use Rattle.table.specs.Rows.{itemsIn};
 ghost use Rattle.states.specs.States.{held, reached, Ready, Stepped};
 ghost use Rattle.plays.specs.Plays.{effectAs, playedFor, playedOn, playedTo};
-
 use states::State;
 use states::Step;
 use table::Row;

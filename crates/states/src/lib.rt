@@ -93,10 +93,10 @@ pub fn add_item(scratch: &mut [u8], st: State, row: Row) -> State
 {
     let n = st.items;
     table::put_item(scratch, n, row);
-    let lines = st.lines + 1;
+    let next = st.lines + 1;
     let mut r = st;
     r.items = n + 1;
-    r.lines = lines;
+    r.lines = next;
     r
 }
 

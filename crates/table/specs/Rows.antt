@@ -1,5 +1,5 @@
 -- The voices and the line table as functions of scratch's bytes and the text's.
-use Prim.Native.Nat.{ℕ, zero, suc, _+_, _≤_}
+use Prim.Native.Nat.{ℕ, zero, suc, _+_, _*_, _≤_}
 use mathlib.Core.Path.{_≡_}
 use mathlib.Core.List.{List, [], _∷_, _++_, map}
 use lib.Dec.{eqb}
@@ -18,6 +18,10 @@ itemsFrom = 256
 
 abbrev pub itemBytes : ℕ
 itemBytes = 16
+
+-- where the line table of n items ends
+abbrev pub tableEnd : ℕ → ℕ
+tableEnd n = itemsFrom + itemBytes * n
 
 -- VOICES
 unfoldable pub decVoice : List ℕ → Place

@@ -7,9 +7,10 @@ use Rattle.plays.proofs.add_played.Tie as tie
 
 returns : tie.Need-returns
 unfolding itemIn itemAs
-returns c =
-    (rw (c .before .before .add-item .ensures .0, c .before .before .before .before .with-opened .ensures, c .before .before .before .before .before .with-place .ensures) refl,
-    λ text. rw (← c .before .before .before .before .with-opened .ensures, ← c .before .before .before .before .before .with-place .ensures) (c .before .before .add-item .ensures .1 text))
+returns c = (
+  rw (c .before .before .add-item .ensures .0, c .before .before .before .before .with-opened .ensures, c .before .before .before .before .before .with-place .ensures) refl,
+  λ text. rw (← c .before .before .before .before .with-opened .ensures, ← c .before .before .before .before .before .with-place .ensures) (c .before .before .add-item .ensures .1 text),
+)
 
 pub add-played-spec : {M : Type 1} → statement M
 add-played-spec =

@@ -38,10 +38,11 @@ loop-less c =
 loop-again : tie.Need-loop-again Inv-loop μ-loop
 loop-again c =
     let line = c .before .before .before .before .before .before .before .before .before .before .args .line .now in
-    let l = c .before .before .before .before .before .before .before .loop in
-    (within line (l .at) (c .before .before .before .before .before .before .loop-test .taken) (c .before .before .before .before .effect-at .result) (c .before .before .before .before .effect-at .ensures),
-    going _ _ _ _ (c .before .s .given .1)
-    (turned line (l .at) (c .before .before .before .before .before .before .loop-test .taken) _ (c .before .before .before .before .effect-at .ensures) (l .q) _ _ (c .before .before .before .after-effect .ensures) (l .inv .1)))
+    let l = c .before .before .before .before .before .before .before .loop in (
+      within line (l .at) (c .before .before .before .before .before .before .loop-test .taken) (c .before .before .before .before .effect-at .result) (c .before .before .before .before .effect-at .ensures),
+      going _ _ _ _ (c .before .s .given .1)
+          (turned line (l .at) (c .before .before .before .before .before .before .loop-test .taken) _ (c .before .before .before .before .effect-at .ensures) (l .q) _ _ (c .before .before .before .after-effect .ensures) (l .inv .1)),
+    )
 
 returns-2 : tie.Need-returns-2 Inv-loop μ-loop
 returns-2 c =
