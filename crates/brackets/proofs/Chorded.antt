@@ -52,11 +52,11 @@ module _ (line : List ℕ) (at close : ℕ) (h : at < length line) (k : close �
   after =
       by-test (ltb inner (length (drop (at + 1) line)))
       (λ e. let l : close < length line = omega (arith, ltb-true inner (length (drop (at + 1) line)) e, place, left) in
-        let n : close + 1 ≡ at + (2 + inner) = omega (arith, place) in
-        rw (e, lt-ltb close (length line) l, n))
+      let n : close + 1 ≡ at + (2 + inner) = omega (arith, place) in
+      rw (e, lt-ltb close (length line) l, n))
       (λ e. let l : length line ≤ close = omega (arith, ltb-false inner (length (drop (at + 1) line)) e, place, left) in
-        let n : close ≡ at + (1 + inner) = omega (arith, place) in
-        rw (e, le-ltb close (length line) l) n)
+      let n : close ≡ at + (1 + inner) = omega (arith, place) in
+      rw (e, le-ltb close (length line) l) n)
 
   -- and what stands there
   rest : drop (suc inner) (drop (at + 1) line) ≡ drop (closedAt line close) line
@@ -64,10 +64,10 @@ module _ (line : List ℕ) (at close : ℕ) (h : at < length line) (k : close �
   rest =
       by-test (ltb close (length line))
       (λ e. let n : at + 1 + suc inner ≡ close + 1 = omega (arith, place) in
-        rw e (drop-drop (suc inner) (at + 1) line ∙ ap (λ i. drop i line) n))
+      rw e (drop-drop (suc inner) (at + 1) line ∙ ap (λ i. drop i line) n))
       (λ e. let l : length line ≤ close = omega (arith, ltb-false close (length line) e) in
-        let m : length (drop (at + 1) line) ≤ suc inner = omega (arith, place, left) in
-        rw e (drop-of-length-le (drop (at + 1) line) m ∙ sym (drop-of-length-le line l)))
+      let m : length (drop (at + 1) line) ≤ suc inner = omega (arith, place, left) in
+      rw e (drop-of-length-le (drop (at + 1) line) m ∙ sym (drop-of-length-le line l)))
 
   chord-is : chordAt (drop (at + 1) line) ≡ chordTaken whole (drop (closedAt line close) line) (chordOf 0 none (drop (at + 1) line))
   unfolding chordAt whole inner
@@ -101,8 +101,8 @@ module _ (line : List ℕ) (at close : ℕ) (h : at < length line) (k : close �
     empty-by (some []) e =
         let m : next ≡ closedAt line close = cc in
         let n : len .next ≡ at + (whole + lengthOf (drop (closedAt line close) line) .used) =
-            ap (λ (x : Suffix). x .next) el ∙ ap (λ i. i + lengthOf (drop i line) .used) m ∙ ap (λ i. i + lengthOf (drop (closedAt line close) line) .used) after
-            ∙ add (lengthOf (drop (closedAt line close) line) .used) in
+        ap (λ (x : Suffix). x .next) el ∙ ap (λ i. i + lengthOf (drop i line) .used) m ∙ ap (λ i. i + lengthOf (drop (closedAt line close) line) .used) after
+        ∙ add (lengthOf (drop (closedAt line close) line) .used) in
         ap (λ x. record { lexeme = Nothing; next = x }) n
       where
         add : (u : ℕ) → at + whole + u ≡ at + (whole + u)

@@ -57,8 +57,8 @@ module _ (line : List ℕ) (from close : ℕ) (h : from ≤ length line) (k : cl
         let t = between line from close in
         let m : length t ≡ close - from = length-between line from close (omega arith) in
         let a : any (is ":") t ≡ ltb i close =
-            any-span (is ":") t
-            ∙ by-test (ltb (span (λ c. not (eqb c 58)) t) (length t))
-            (λ y. y ∙ sym (lt-ltb i close (omega (arith, e, m, ltb-true (span (λ c. not (eqb c 58)) t) (length t) y, inside))))
-            (λ y. y ∙ sym (le-ltb i close (omega (arith, e, m, ltb-false (span (λ c. not (eqb c 58)) t) (length t) y, inside)))) in
+        any-span (is ":") t
+        ∙ by-test (ltb (span (λ c. not (eqb c 58)) t) (length t))
+        (λ y. y ∙ sym (lt-ltb i close (omega (arith, e, m, ltb-true (span (λ c. not (eqb c 58)) t) (length t) y, inside))))
+        (λ y. y ∙ sym (le-ltb i close (omega (arith, e, m, ltb-false (span (λ c. not (eqb c 58)) t) (length t) y, inside)))) in
         rw (closes, q) (sym (rw d at a))

@@ -9,7 +9,6 @@ ghost use Rattle.reader.specs.Inline.{isInline, inlineAt};
 ghost use Rattle.reader.specs.Sounds.{chordAt};
 ghost use Rattle.reader.specs.Tokens.{bracketOf};
 ghost use Rattle.lexemes.specs.Lexemes.{cutFor};
-
 use lexemes::Cut;
 use lexemes::Lexeme;
 
