@@ -1,2 +1,3 @@
 mod Inlines
 mod Chorded
+mod Opened

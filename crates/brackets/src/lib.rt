@@ -5,10 +5,13 @@ ghost use Prim.Native.Nat.{_+_, _-_, _≤_, _<_};
 ghost use lib.Dec.{eqb};
 ghost use lib.ListN.{length, drop};
 ghost use Rattle.laws.specs.Spans.{endOf};
-ghost use Rattle.reader.specs.Inline.{isInline, inlineAt};
+ghost use Rattle.reader.specs.Inline.{isInline, fieldToken};
 ghost use Rattle.reader.specs.Sounds.{chordAt};
-ghost use Rattle.reader.specs.Tokens.{bracketOf};
+ghost use Rattle.reader.specs.Tokens.{bracket, tokenAs};
+ghost use Rattle.laws.specs.Bytes.{between};
+ghost use Rattle.reader.specs.Token.{taken};
 ghost use Rattle.lexemes.specs.Lexemes.{cutFor};
+use fields::Field;
 use lexemes::Cut;
 use lexemes::Lexeme;
 
@@ -57,4 +60,55 @@ fn chord(line: &[u8], at: usize, close: usize) -> Cut
         },
         next: behind.next,
     }
+}
+
+// The inline field whose `[` stands at `at` and whose `]` at `close`.
+fn inline_field(line: &[u8], at: usize, close: usize) -> Cut
+    requires { ⌜ (at < close) × (close < length (now line)) ⌝ }
+    ensures { λ r. ⌜ r ≡ cutFor at (taken (fieldToken (between (now (line .entry)) (at + 1) close)) (close + 1 - at)) ⌝ }
+{
+    match fields::parse_inline_field(line, at + 1, close) {
+        Field::Unit(unit) => Cut {
+            lexeme: Lexeme::Unit(unit),
+            next: close + 1,
+        },
+        Field::Meter(meter) => Cut {
+            lexeme: Lexeme::Meter {
+                top: meter.top,
+                bottom: meter.bottom,
+            },
+            next: close + 1,
+        },
+        Field::Key(key) => Cut {
+            lexeme: Lexeme::Key {
+                fifths: key.fifths,
+                minor: key.minor,
+            },
+            next: close + 1,
+        },
+        Field::Middle => Cut {
+            lexeme: Lexeme::Refused(10),
+            next: close + 1,
+        },
+        Field::Other => Cut {
+            lexeme: Lexeme::Field,
+            next: close + 1,
+        },
+    }
+}
+
+// The token whose `[` stands at `at`.
+pub fn bracket(line: &[u8], at: usize) -> Cut
+    requires { ⌜ at < length (now line) ⌝ }
+    ensures { λ r. ⌜ r ≡ cutFor at (tokenAs bracket (drop at (now (line .entry)))) ⌝ }
+{
+    let from = at + 1;
+    if numbers::is_digit(numbers::byte_at(line, from)) {
+        return lexemes::volta(line, at);
+    }
+    let close = runs::find(line, from, line.len(), b']');
+    if is_inline(line, from, close) {
+        return inline_field(line, at, close);
+    }
+    chord(line, at, close)
 }

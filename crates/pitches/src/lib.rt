@@ -289,7 +289,7 @@ pub fn parse_abc_chord(line: &[u8], at: usize, close: usize) -> Chord
 }
 
 // The position after a closing byte, or the line's end.
-pub fn past(line: &[u8], close: usize) -> usize
+fn past(line: &[u8], close: usize) -> usize
     requires { ⌜ close ≤ length (now line) ⌝ }
     ensures { λ r. ⌜ r ≡ closedAt (now (line .entry)) close ⌝ }
 {

@@ -1,3 +1,5 @@
+use mathlib.Core.Path.{_≡_, refl, sym, ap, _∙_}
+use Rattle.brackets.proofs.Inlines.{no-close, quote-first, colon-inside}
 use borrow.Author.Needs.{needs}
 use Rattle.brackets.proofs.is_inline.Statement.{statement}
 use Rattle.brackets.proofs.is_inline.Tie as tie
@@ -6,25 +8,26 @@ use Rattle.brackets.proofs.is_inline.Lts as lts
 use Rattle.numbers.proofs.byte_at.Reads as byte-at-reads
 use Rattle.runs.proofs.find.Reads as find-reads
 
--- src/lib.rt:22:9
 returns : tie.Need-returns
-returns c = ?
+returns c =
+    let s = c .before .before in
+    no-close (s .args .line .now) (s .args .from) (s .args .close) (s .pre .0) (s .pre .1) (c .if1 .taken)
 
--- src/lib.rt:24:8
 byte-at-requires : tie.Need-byte-at-requires
 byte-at-requires c κs = search needs
 
--- src/lib.rt:25:9
 returns-2 : tie.Need-returns-2
-returns-2 c = ?
+returns-2 c =
+    let s = c .before .before .before .before in
+    quote-first (s .args .line .now) (s .args .from) (s .args .close) (s .pre .0) (s .pre .1) (c .before .before .if1 .left) (sym (c .before .byte-at .ensures) ∙ c .if2 .taken)
 
--- src/lib.rt:27:5
 find-requires : tie.Need-find-requires
 find-requires c κs = search needs
 
--- src/lib.rt:17:1
 returns-3 : tie.Need-returns-3
-returns-3 c = ?
+returns-3 c =
+    let s = c .before .before .before .before .before in
+    colon-inside (s .args .line .now) (s .args .from) (s .args .close) (s .pre .0) (s .pre .1) (c .before .before .before .if1 .left) (λ k. c .before .if2 .left (c .before .before .byte-at .ensures ∙ k)) (c .find .result) (c .find .ensures)
 
 pub is-inline-spec : {M : Type 1} → statement M
 is-inline-spec = tie.close (tie.spec returns byte-at-requires returns-2 find-requires returns-3)
