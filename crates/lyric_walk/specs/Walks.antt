@@ -7,7 +7,9 @@ use lib.Dec.{eqb, leb, ltb}
 use lib.ListN.{length, getD}
 use Rattle.laws.specs.Lists.{keep}
 use Rattle.laws.specs.Bytes.{between}
+use Rattle.standard.specs.Bytes.{is}
 use Rattle.standard.specs.Lyrics.{syllableText}
+use Rattle.table.specs.Rows.{Cut}
 use Rattle.reader.specs.Lyrics.{Syllable}
 use Rattle.lyric_words.specs.Words.{asSyllabic}
 use Rattle.lyrics.specs.declared.Sheet.{Sheet}
@@ -79,3 +81,24 @@ Goes text ys from N.NoMore = fromVerse from ys ≡ []
 
 pub record NextIs (s : List ℕ) (log k from : ℕ) (r : Next) : Type 0 where
   pub goes : (text : List ℕ) → Goes text (chain text s log k) from r
+
+-- A SYLLABLE IN THE TEXT
+abbrev pub withPlace : Found → ℕ → ℕ → Found
+withPlace f at end = record { verse = f .verse; syllabic = f .syllabic; extend = f .extend; at = at; end = end }
+
+-- r is f, its place cut to a text of n bytes
+pub record InText (n : ℕ) (f r : Found) : Type 0 where
+  pub cut : Cut n (f .at) (f .end) (record { at = r .at; end = r .end })
+  pub same : r ≡ withPlace f (r .at) (r .end)
+
+-- the first syllable from verse `from` on, which stands in the text, and those behind it; or there is none
+abbrev pub Comes : List ℕ → List Syllable → ℕ → Next → Type 0
+Comes text ys from (N.Sung f) = (fromVerse from ys ≡ syllableIs text f ∷ fromVerse (f .verse + 1) ys) × (from ≤ f .verse) × (f .at ≤ f .end) × (f .end ≤ length text)
+Comes text ys from N.NoMore = fromVerse from ys ≡ []
+
+pub record NextIn (text s : List ℕ) (log k from : ℕ) (r : Next) : Type 0 where
+  pub comes : Comes text (chain text s log k) from r
+
+-- a byte of a syllable's text
+abbrev pub sungByte : ℕ → ℕ
+sungByte c = cond (is "~" c) 32 c

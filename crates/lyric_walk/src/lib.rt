@@ -4,7 +4,7 @@ ghost use mathlib.Core.Path.{_≡_};
 ghost use mathlib.Core.Bool.{cond, not, _&&_, _||_};
 ghost use lib.Dec.{eqb, ltb};
 ghost use lib.ListN.{length};
-ghost use Rattle.lyric_walk.specs.Walks.{Tables, HeadIs, LinkIs, LeastIs, better, FoundIs, NextIs};
+ghost use Rattle.lyric_walk.specs.Walks.{Tables, HeadIs, LinkIs, LeastIs, better, FoundIs, NextIs, withPlace, InText, NextIn, sungByte};
 
 // A syllable: its verse, its syllabic's number, whether a later note holds it, and its place in the text.
 pub struct Found {
@@ -143,8 +143,8 @@ fn find(scratch: &[u8], log: usize, k: usize, wanted: usize) -> Next
     Next::NoMore
 }
 
-// The first syllable from verse `from` on in the chain from row k on. All of a note's: k is its head; from 0 on, then from each one's verse and 1 on.
-pub fn next_syllable(scratch: &[u8], log: usize, k: usize, from: usize) -> Next
+// The first syllable from verse `from` on in the chain from row k on.
+fn first_from(scratch: &[u8], log: usize, k: usize, from: usize) -> Next
     requires { ⌜ log + 16 * k ≤ length (now scratch) ⌝ }
     ensures { λ r. ⌜ NextIs (now (scratch .entry)) log k from r ⌝ }
 {
@@ -153,4 +153,52 @@ pub fn next_syllable(scratch: &[u8], log: usize, k: usize, from: usize) -> Next
         return Next::NoMore;
     }
     find(scratch, log, k, verse)
+}
+
+// The same syllable at another place.
+fn placed(f: Found, at: usize, end: usize) -> Found
+    ensures { λ r. ⌜ r ≡ withPlace f at end ⌝ }
+{
+    Found {
+        verse: f.verse,
+        syllabic: f.syllabic,
+        extend: f.extend,
+        at,
+        end,
+    }
+}
+
+// The same syllable, its place cut to a text of `len` bytes.
+fn in_text(len: usize, f: Found) -> Found
+    ensures { λ r. ⌜ InText len f r ⌝ }
+{
+    if f.end <= f.at {
+        return placed(f, 0, 0);
+    }
+    if len <= f.at {
+        return placed(f, 0, 0);
+    }
+    if len < f.end {
+        return placed(f, f.at, len);
+    }
+    f
+}
+
+// The first syllable from verse `from` on in the chain from row k on. All of a note's: k is its head; from 0 on, then from each one's verse and 1 on.
+pub fn next_syllable(text: &[u8], scratch: &[u8], log: usize, k: usize, from: usize) -> Next
+    requires { ⌜ log + 16 * k ≤ length (now scratch) ⌝ }
+    ensures { λ r. ⌜ NextIn (now (text .entry)) (now (scratch .entry)) log k from r ⌝ }
+{
+    let Next::Sung(f) = first_from(scratch, log, k, from) else {
+        return Next::NoMore;
+    };
+    let g = in_text(text.len(), f);
+    Next::Sung(g)
+}
+
+// A byte of a syllable as it is written: `~` is a space.
+pub fn sung_byte(b: u8) -> u8
+    ensures { λ r. ⌜ r ≡ sungByte b ⌝ }
+{
+    if b == b'~' { b' ' } else { b }
 }
