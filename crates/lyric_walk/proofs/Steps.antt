@@ -1,16 +1,15 @@
 -- The loops along a chain.
-use Prim.Native.Nat.{ℕ, zero, suc, _+_, _≤_, _<_, min}
+use Prim.Native.Nat.{ℕ, _+_, _≤_, _<_, min}
 use mathlib.Core.Path.{_≡_, refl, sym, ap, _∙_}
 use mathlib.Core.Bool.{Bool, true, false, cond, not, _&&_, _||_}
-use mathlib.Core.List.{List, [], _∷_, map}
+use mathlib.Core.List.{List, [], _∷_}
 use native.Mathlib.Omega.{arith}
 use lib.Dec.{eqb, leb}
-use lib.ListN.{length, getD}
+use lib.ListN.{getD}
 use borrow.Author.Tests.{eq-eqb, eqb-true}
 use Rattle.laws.proofs.Bools.{and-right}
 use Rattle.reader.specs.Lyrics.{Syllable, held}
-use Rattle.lyrics.specs.declared.Row.{Row}
-use Rattle.lyrics.specs.Sheet.{syllableOf, happens}
+use Rattle.lyrics.specs.Sheet.{syllableOf}
 use Rattle.lyric_walk.specs.declared.Link.{Link}
 use Rattle.lyric_walk.specs.declared.Found.{Found}
 use Rattle.lyric_walk.specs.declared.Next.{Next}

@@ -6,9 +6,9 @@ use mathlib.Core.List.{List, [], _∷_, map, head-eq-of-cons-eq, nil≢cons}
 use native.Mathlib.Decide.{decLt}
 use native.Mathlib.Omega.{arith}
 use lib.Dec.{eqb, leb, ltb}
-use borrow.Author.Tests.{eq-eqb, ne-eqb, eqb-true, eqb-false, le-leb, lt-leb, leb-true, leb-false, lt-ltb, le-ltb, ltb-true, ltb-false}
-use Rattle.laws.specs.Lists.{All, keep}
-use Rattle.laws.proofs.Bools.{by-test, eqb-same}
+use borrow.Author.Tests.{eq-eqb, ne-eqb, eqb-true, eqb-false, le-leb, lt-leb, leb-true, leb-false, ltb-true, ltb-false}
+use Rattle.laws.specs.Lists.{All}
+use Rattle.laws.proofs.Bools.{by-test}
 use Rattle.reader.specs.Lyrics.{Syllable, put, held}
 use Rattle.lyrics.specs.declared.Row.{Row}
 use Rattle.lyrics.specs.Sheet.{syllableOf, happens, sungFrom, rowOf, rowAt, nextOf}

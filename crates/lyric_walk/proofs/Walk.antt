@@ -1,25 +1,21 @@
 -- WALKING: what a caller says of the syllables of a note that it has met so far.
-use Prim.Native.Nat.{ℕ, suc, _+_, _-_, _≤_, _<_}
+use Prim.Native.Nat.{ℕ, _+_, _-_, _≤_, _<_}
 use mathlib.Core.Path.{_≡_, refl, sym, ap, _∙_}
-use mathlib.Core.Bool.{Bool, true, cond}
 use mathlib.Core.List.{List, [], _∷_, _++_, map, append-nil, append-assoc}
 use native.Mathlib.Omega.{arith}
 use lib.Dec.{leb}
 use lib.ListN.{length, getD, length-map}
 use borrow.Author.Tests.{leb-true}
-use Rattle.laws.specs.Lists.{All}
 use Rattle.laws.specs.Bytes.{part, between}
 use Rattle.laws.proofs.Lists.{keep-passes, map-append}
 use Rattle.laws.proofs.Parts.{length-between, part-suc}
 use Rattle.standard.specs.Lyrics.{syllableText}
 use Rattle.reader.specs.Lyrics.{Syllable}
-use Rattle.table.specs.Rows.{Cut}
 use Rattle.lyrics.specs.declared.Sheet.{Sheet}
 use Rattle.lyrics.specs.Sheet.{syllablesIn}
 use Rattle.lyric_walk.specs.declared.Found.{Found}
-use Rattle.lyric_walk.specs.declared.Next.{Next}
 use Rattle.lyric_walk.specs.declared.Next.the-variants as N
-use Rattle.lyric_walk.specs.Walks.{chain, HeadIs, fromVerse, syllableIs, NextIs, withPlace, InText, NextIn, sungByte}
+use Rattle.lyric_walk.specs.Walks.{chain, HeadIs, fromVerse, syllableIs, NextIs, InText, NextIn, sungByte}
 use Rattle.lyric_walk.proofs.Verses.{walk-start}
 
 -- A SYLLABLE IN THE TEXT

@@ -1,6 +1,5 @@
 -- `lyric_walk::below` meets its contract.
-use borrow.Author.Needs.{needs}
-use borrow.Author.Tests.{eq-eqb, ne-eqb, lt-ltb, le-ltb, le-leb, lt-leb}
+use borrow.Author.Tests.{lt-ltb, le-ltb}
 use Rattle.lyric_walk.proofs.below.Statement.{statement}
 use Rattle.lyric_walk.proofs.below.Tie as tie
 

@@ -1,7 +1,6 @@
 -- `lyric_walk::find` meets its contract.
 use borrow.Author.Needs.{needs}
-use mathlib.Core.Path.{_≡_, refl, sym, ap, _∙_}
-use Prim.Native.Nat.{ℕ, _+_, _-_, _*_, _≤_, _<_, _^_}
+use mathlib.Core.Path.{sym, _∙_}
 use native.Mathlib.Omega.{arith}
 use Rattle.lyric_walk.proofs.Steps.{Seeking, seeking-start, seeking-next, seeking-found, seeking-end}
 use Rattle.lyric_walk.proofs.find.Statement.{statement}

@@ -1,7 +1,5 @@
 -- `lyric_walk::first_from` meets its contract.
 use borrow.Author.Needs.{needs}
-use mathlib.Core.Path.{_≡_, refl, sym, ap, _∙_}
-use Prim.Native.Nat.{ℕ, _+_, _-_, _*_, _≤_, _<_, _^_}
 use native.Mathlib.Omega.{arith}
 use Rattle.lyric_walk.proofs.Steps.{no-more, one-more}
 use Rattle.lyric_walk.proofs.first_from.Statement.{statement}

@@ -1,6 +1,6 @@
 -- `lyric_walk::is_held` meets its contract.
 use borrow.Author.Needs.{needs}
-use borrow.Author.Tests.{eq-eqb, ne-eqb, lt-ltb, le-ltb, le-leb, lt-leb}
+use borrow.Author.Tests.{eq-eqb, ne-eqb}
 use Rattle.lyric_walk.proofs.is_held.Statement.{statement}
 use Rattle.lyric_walk.proofs.is_held.Tie as tie
 

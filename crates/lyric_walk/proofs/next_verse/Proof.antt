@@ -1,7 +1,5 @@
 -- `lyric_walk::next_verse` meets its contract.
 use borrow.Author.Needs.{needs}
-use mathlib.Core.Path.{_≡_, refl, sym, ap, _∙_}
-use Prim.Native.Nat.{ℕ, _+_, _-_, _*_, _≤_, _<_, _^_}
 use native.Mathlib.Omega.{arith}
 use Rattle.lyric_walk.proofs.Steps.{Looking, looking-start, looking-next, looking-end}
 use Rattle.lyric_walk.proofs.next_verse.Statement.{statement}

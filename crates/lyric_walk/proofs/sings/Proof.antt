@@ -1,6 +1,5 @@
 -- `lyric_walk::sings` meets its contract.
-use borrow.Author.Needs.{needs}
-use borrow.Author.Tests.{eq-eqb, ne-eqb, lt-ltb, le-ltb, le-leb, lt-leb}
+use borrow.Author.Tests.{eq-eqb, ne-eqb}
 use Rattle.lyric_walk.proofs.sings.Statement.{statement}
 use Rattle.lyric_walk.proofs.sings.Tie as tie
 

@@ -1,5 +1,4 @@
 -- `lyric_walk::sung_byte` meets its contract.
-use borrow.Author.Needs.{needs}
 use borrow.Author.Tests.{eq-eqb, ne-eqb}
 use Rattle.lyric_walk.proofs.sung_byte.Statement.{statement}
 use Rattle.lyric_walk.proofs.sung_byte.Tie as tie
