@@ -1,18 +1,17 @@
 -- Syllables between hyphens, by position.
-use Prim.Native.Nat.{ℕ, zero, suc, _+_, _-_, _≤_, _<_}
+use Prim.Native.Nat.{ℕ, suc, _+_, _≤_, _<_}
 use mathlib.Core.Path.{_≡_, refl, sym, ap, _∙_}
-use mathlib.Core.Bool.{Bool, true, false, cond, not}
-use mathlib.Core.List.{List, [], _∷_, _++_, append-nil}
+use mathlib.Core.Bool.{Bool, true, false, not}
+use mathlib.Core.List.{List, [], _∷_}
 use native.Mathlib.Omega.{arith}
 use lib.ListN.{length, getD, take, drop}
-use Rattle.laws.specs.Lists.{span, eqText}
+use Rattle.laws.specs.Lists.{span}
 use Rattle.laws.specs.Spans.{endIn}
 use Rattle.laws.specs.Bytes.{between}
 use Rattle.laws.proofs.Bools.{by-test}
 use Rattle.laws.proofs.Spans.{span-yes, span-no}
-use Rattle.laws.proofs.Parts.{length-between, getD-between, between-none, between-first, run-between, behind-between, endIn-ge, endIn-le, endIn-more, endIn-stop, endIn-stops}
-use Rattle.standard.specs.Bytes.{is, first, last}
-use Rattle.standard.specs.Lyrics.{Syllabic, single, begins, ends, middle, syllabicOf, Word, syllable, syllables, syllableText}
+use Rattle.laws.proofs.Parts.{between-first, run-between, behind-between}
+use Rattle.standard.specs.Lyrics.{Syllabic, single, begins, ends, middle, syllabicOf, syllable, syllables, syllableText}
 use Rattle.reader.specs.Pieces.{pieces, words, mark}
 use Rattle.reader.specs.Lyrics.{orSkip}
 use Rattle.reader.specs.Codes.{syllabicCode}

@@ -1,18 +1,17 @@
 -- Words between white space, by position.
-use Prim.Native.Nat.{ℕ, zero, suc, _+_, _-_, _≤_, _<_}
+use Prim.Native.Nat.{ℕ, zero, suc, _+_, _≤_, _<_}
 use mathlib.Core.Path.{_≡_, refl, sym, ap, _∙_}
-use mathlib.Core.Bool.{Bool, true, false, cond}
+use mathlib.Core.Bool.{Bool, true, false}
 use mathlib.Core.List.{List, [], _∷_}
 use native.Mathlib.Omega.{arith}
 use lib.ListN.{length, getD, take, drop}
 use Rattle.laws.specs.Bytes.{between}
-use Rattle.laws.proofs.Bools.{by-test}
 use Rattle.laws.proofs.Parts.{length-between, between-none, between-first, take-between, drop-between}
 use Rattle.reader.specs.Text.{isBlank}
 use Rattle.reader.specs.Pieces.{words, whiteAt}
 use Rattle.reader.proofs.WordLaws.{stretch, words-mark, words-word}
 use Rattle.white.proofs.Whites.{widthBy}
-use Rattle.lyric_words.specs.Words.{WordStart, Closed, WordEnd}
+use Rattle.lyric_words.specs.Words.{WordStart, WordEnd}
 
 -- a white character is within the text
 pub white-le : (s : List ℕ) → 0 < length s → whiteAt s ≤ length s

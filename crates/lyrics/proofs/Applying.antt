@@ -1,14 +1,14 @@
 -- The lyric lines of a part, one after the other.
 use Prim.Native.Nat.{ℕ, zero, suc, _+_, _-_, _*_, _≤_, _<_, _^_}
 use mathlib.Core.Path.{_≡_, refl, sym, ap, _∙_}
-use mathlib.Core.Bool.{Bool, true, false, _&&_}
+use mathlib.Core.Bool.{true, false}
 use mathlib.Core.List.{List, [], _∷_, _++_, map}
 use native.Mathlib.Omega.{arith}
 use native.Mathlib.Nat.{add-zero}
 use lib.Dec.{eqb}
 use lib.ListN.{length, getD, take, drop, replicate, getD-replicate}
 use borrow.Author.Tests.{eq-eqb, ne-eqb}
-use Rattle.laws.specs.Lists.{All, keep, sum}
+use Rattle.laws.specs.Lists.{All, keep}
 use Rattle.laws.specs.Bytes.{part, between, splice, zeros, rows, u32At}
 use Rattle.laws.proofs.Bools.{and-no-left, and-no-right, and-both}
 use Rattle.laws.proofs.Lists.{map-append, keep-append, keep-yes, keep-no, sum-append, All-append}

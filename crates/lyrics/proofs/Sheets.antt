@@ -1,23 +1,21 @@
 -- A row added to the chain of a note.
 use Prim.Native.Nat.{ℕ, zero, suc, _+_, _-_, _*_, _≤_, _<_, _^_}
 use mathlib.Core.Path.{_≡_, refl, sym, ap, ap₂, _∙_}
-use mathlib.Core.Bool.{Bool, true, false}
-use mathlib.Core.List.{List, [], _∷_, _++_, map}
+use mathlib.Core.List.{List, [], _∷_, map}
 use native.Mathlib.Nat.{not-suc-le-zero, le-of-suc-le-suc}
 use native.Mathlib.Numerals.{add-one}
 use native.Mathlib.Omega.{arith}
 use lib.Dec.{eqb}
-use lib.ListN.{length, getD, set, take, drop, length-append}
+use lib.ListN.{length, getD, set, take, drop}
 use lib.Seq.{drop-drop}
 use borrow.Author.Tests.{eq-eqb, ne-eqb}
 use Rattle.laws.specs.Lists.{All, alterAt}
 use Rattle.laws.specs.Bytes.{part, splice, rows, le32, little, littleAt, u32At}
 use Rattle.laws.proofs.Bools.{by-test}
 use Rattle.laws.proofs.Lists.{All-map}
-use Rattle.laws.proofs.Parts.{length-part, part-front}
 use Rattle.laws.proofs.Splices.{length-splice, take-splice, drop-splice-past, part-same, part-below, part-above}
 use Rattle.laws.proofs.Numbers.{length-little, littleAt-little, littleAt-own}
-use Rattle.laws.proofs.Rows.{row-in, length-rows, rows-below, rows-put, rows-get}
+use Rattle.laws.proofs.Rows.{length-rows, rows-below, rows-put, rows-get}
 use Rattle.reader.specs.Lyrics.{Syllable}
 use Rattle.lyrics.specs.declared.Sheet.{Sheet}
 use Rattle.lyrics.specs.declared.Row.{Row}

@@ -1,9 +1,8 @@
 -- A lyric line, sung word by word.
-use Prim.Native.Nat.{ℕ, zero, suc, _+_, _-_, _*_, _/_, _≤_, _<_, _^_}
+use Prim.Native.Nat.{ℕ, zero, suc, _+_, _-_, _*_, _≤_, _<_}
 use mathlib.Core.Path.{_≡_, refl, sym, ap, _∙_}
 use mathlib.Core.Bool.{false}
 use mathlib.Core.List.{List, [], _∷_, _++_, map}
-use native.Mathlib.Nat.{not-suc-le-zero}
 use native.Mathlib.Numerals.{add-one}
 use native.Mathlib.Omega.{arith}
 use lib.Dec.{eqb}
@@ -12,14 +11,14 @@ use borrow.Author.Tests.{ne-eqb}
 use Rattle.laws.specs.Lists.{alterAt}
 use Rattle.laws.specs.Bytes.{between}
 use Rattle.laws.proofs.Parts.{between-none}
-use Rattle.standard.specs.Lyrics.{Word, skip, hold, syllable, syllableText}
+use Rattle.standard.specs.Lyrics.{Word, hold}
 use Rattle.reader.specs.Pieces.{words, whiteAt}
 use Rattle.reader.specs.Lyrics.{Syllable, put, held, sing, wordsOf, lyricWords}
 use Rattle.lyric_words.specs.declared.Token.{Token}
 use Rattle.lyric_words.specs.declared.Token.the-variants as T
 use Rattle.lyric_words.specs.declared.Cursor.{Cursor}
 use Rattle.lyric_words.specs.declared.Read.{Read}
-use Rattle.lyric_words.specs.Words.{asSyllabic, said, ahead, InWord, Ready, TokenRead, First}
+use Rattle.lyric_words.specs.Words.{said, ahead, Ready, TokenRead, First}
 use Rattle.lyric_words.proofs.Hyphens.{words-none}
 use Rattle.lyric_words.proofs.Tokens.{ahead-done}
 use Rattle.lyrics.specs.declared.Sheet.{Sheet}

@@ -1,7 +1,4 @@
 -- `lyric_words::settle` meets its contract.
-use borrow.Author.Needs.{needs}
-use mathlib.Core.Path.{_≡_, refl, sym, ap, _∙_}
-use Prim.Native.Nat.{ℕ, _+_, _-_, _≤_, _<_}
 use native.Mathlib.Omega.{arith}
 use Rattle.lyric_words.proofs.Tokens.{settle-in, settle-past}
 use Rattle.lyric_words.proofs.settle.Statement.{statement}

@@ -1,5 +1,4 @@
 -- `lyric_words::syllabic` meets its contract.
-use borrow.Author.Needs.{needs}
 use Rattle.standard.specs.Lyrics.{syllabicOf}
 use Rattle.reader.specs.Codes.{syllabicCode}
 use Rattle.lyric_words.proofs.syllabic.Statement.{statement}

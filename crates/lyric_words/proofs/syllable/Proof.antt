@@ -1,9 +1,7 @@
 -- `lyric_words::syllable` meets its contract.
 use borrow.Author.Needs.{needs}
-use mathlib.Core.Path.{_≡_, refl, sym, ap, _∙_}
-use Prim.Native.Nat.{ℕ, _+_, _-_, _≤_, _<_}
 use native.Mathlib.Omega.{arith}
-use Rattle.laws.proofs.Parts.{endIn-ge, endIn-le}
+use Rattle.laws.proofs.Parts.{endIn-le}
 use Rattle.lyric_words.proofs.Hyphens.{noHyphen}
 use Rattle.lyric_words.proofs.Tokens.{syllable-next, syllable-last}
 use Rattle.lyric_words.proofs.syllable.Statement.{statement}

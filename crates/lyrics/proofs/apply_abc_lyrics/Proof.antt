@@ -1,7 +1,5 @@
 -- `lyrics::apply_abc_lyrics` meets its contract.
 use borrow.Author.Needs.{needs}
-use mathlib.Core.Path.{_≡_, refl, sym, ap, _∙_}
-use Prim.Native.Nat.{ℕ, _+_, _-_, _*_, _≤_, _<_, _^_}
 use native.Mathlib.Omega.{arith}
 use Rattle.lyrics.proofs.Applying.{cleared-kept, cleared-fits, cleared-sung}
 use Rattle.lyrics.proofs.apply_abc_lyrics.Statement.{statement}

@@ -1,7 +1,6 @@
 -- `lyrics::mark` meets its contract.
 use borrow.Author.Needs.{needs}
-use mathlib.Core.Path.{_≡_, refl, sym, ap, _∙_}
-use Prim.Native.Nat.{ℕ, _+_, _-_, _*_, _≤_, _<_, _^_}
+use Prim.Native.Nat.{_+_, _*_, _<_, _^_}
 use native.Mathlib.Omega.{arith}
 use Rattle.laws.proofs.Numbers.{littleAt-lt}
 use Rattle.lyrics.proofs.Sheets.{marked, unmarked}

@@ -1,9 +1,7 @@
 -- `lyrics::put_row` meets its contract.
 use borrow.Author.Needs.{needs}
-use mathlib.Core.Path.{_≡_, refl, sym, ap, _∙_}
-use Prim.Native.Nat.{ℕ, _+_, _-_, _*_, _≤_, _<_, _^_}
-use native.Mathlib.Omega.{arith}
-use Rattle.laws.specs.Bytes.{splice, le32, little}
+use mathlib.Core.Path.{refl}
+use Rattle.laws.specs.Bytes.{little}
 use Rattle.laws.proofs.Splices.{spliced-next}
 use Rattle.lyrics.specs.Sheet.{rowBytes}
 use Rattle.lyrics.proofs.put_row.Statement.{statement}

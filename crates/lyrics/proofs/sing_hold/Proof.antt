@@ -1,7 +1,5 @@
 -- `lyrics::sing_hold` meets its contract.
 use borrow.Author.Needs.{needs}
-use mathlib.Core.Path.{_≡_, refl, sym, ap, _∙_}
-use Prim.Native.Nat.{ℕ, _+_, _-_, _*_, _≤_, _<_, _^_}
 use native.Mathlib.Omega.{arith}
 use Rattle.lyrics.proofs.Singing.{sung-hold-first, sung-hold}
 use Rattle.lyrics.proofs.sing_hold.Statement.{statement}

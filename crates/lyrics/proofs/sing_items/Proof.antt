@@ -1,7 +1,5 @@
 -- `lyrics::sing_items` meets its contract.
-use borrow.Author.Needs.{needs}
-use mathlib.Core.Path.{_≡_, refl, sym, ap, _∙_}
-use Prim.Native.Nat.{ℕ, _+_, _-_, _*_, _≤_, _<_, _^_}
+use Prim.Native.Nat.{_-_}
 use native.Mathlib.Omega.{arith}
 use Rattle.lyrics.specs.Sheet.{withCount, syllablesIn}
 use Rattle.lyrics.proofs.Applying.{Applying, applying-start, item-fits, applying-next, applying-end}

@@ -1,0 +1,4 @@
+pub mod Chains
+pub mod Verses
+pub mod Steps
+pub mod Walk
