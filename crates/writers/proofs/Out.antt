@@ -197,7 +197,7 @@ voice-out s v p (x ∷ xs) t =
     rw (byte-voice s p x row, note-out s p x row, ih) (kept-by v x xs (eqb (x .0) v) refl)
 
 -- byVoice, with the first voice before the others
-by-voice : (xs : List (ℕ × Note)) → byVoice xs ≡ ofVoice 0 xs ++ (ofVoice 1 xs ++ (ofVoice 2 xs ++ ofVoice 3 xs))
+pub by-voice : (xs : List (ℕ × Note)) → byVoice xs ≡ ofVoice 0 xs ++ (ofVoice 1 xs ++ (ofVoice 2 xs ++ ofVoice 3 xs))
 unfolding byVoice
 by-voice xs = append-assoc (ofVoice 0 xs ++ ofVoice 1 xs) (ofVoice 2 xs) (ofVoice 3 xs) ∙ append-assoc (ofVoice 0 xs) (ofVoice 1 xs) (ofVoice 2 xs ++ ofVoice 3 xs)
 
