@@ -1,11 +1,10 @@
 -- CLOSING ENDINGS (layout's `close`) one measure at a time, and what the code keeps meanwhile.
 use Prim.Native.Nat.{ℕ, _+_, _<_, _^_}
 use mathlib.Core.Path.{_≡_}
-use mathlib.Core.Bool.{Bool, true, false}
+use mathlib.Core.Bool.{true, false}
 use mathlib.Core.Option.{Option, none, some}
-use mathlib.Core.List.{List, [], _∷_, _++_}
+use mathlib.Core.List.{List, _∷_, _++_}
 use lib.ListN.{length, take, drop, getD}
-use Rattle.laws.specs.Lists.{All}
 use Rattle.laws.specs.Bytes.{le32}
 use Rattle.reader.specs.State.{voltaEnds, voltaAlone}
 use Rattle.reader.specs.Records.{passBits}

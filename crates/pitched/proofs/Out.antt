@@ -2,21 +2,20 @@
 use Prim.Native.Nat.{ℕ, zero, suc, _+_, _-_, _*_, _^_, _≤_, _<_}
 use mathlib.Core.Path.{_≡_, refl, sym, ap, subst, _∙_}
 use mathlib.Core.Bool.{Bool, true, false, cond}
-use mathlib.Core.List.{List, [], _∷_, _++_, map, append-nil, append-assoc}
+use mathlib.Core.List.{List, [], _∷_, _++_, map, append-nil}
 use native.Mathlib.Omega.{arith}
 use lib.Dec.{eqb}
 use lib.ListN.{length, getD, take, drop, length-append, length-take, length-drop, take-append-drop}
 use Rattle.laws.specs.Lists.{All, keep, cat, sum}
 use Rattle.laws.specs.Bytes.{part, splice, encAll, little, le32, u32At}
 use Rattle.laws.proofs.Lists.{map-append, cat-append, length-cat, sum-map}
-use Rattle.laws.proofs.Parts.{length-part, part-part}
+use Rattle.laws.proofs.Parts.{length-part}
 use Rattle.laws.proofs.Numbers.{littleAt-part, littleAt-little, littleAt-own}
 use Rattle.laws.proofs.Rows.{encAll-none, encAll-append}
-use Rattle.standard.specs.Pitches.{Pitch}
 use Rattle.reader.specs.State.{Note}
-use Rattle.reader.specs.Records.{pitchBytes, section}
+use Rattle.reader.specs.Records.{noteBytes, pitchBytes, section}
 use Rattle.layout.specs.Log.{Head}
-use Rattle.layout.specs.Sections.{notesIn, ofVoice, byVoice, inOrder}
+use Rattle.layout.specs.Sections.{headBytes, notesIn, ofVoice, byVoice, inOrder}
 use Rattle.rows.specs.Table.{Table}
 use Rattle.rows.specs.Encoded.{rowBytes, noteRow}
 use Rattle.rows.proofs.Bytes.{length-note, length-pitch}
@@ -26,10 +25,10 @@ use Rattle.sections.specs.declared.Wrote.{Wrote}
 use Rattle.sections.specs.declared.Wrote.the-variants.{To, NoRoom}
 use Rattle.sections.specs.Writes.{WroteIs}
 use Rattle.ends.proofs.Zipped.{table-front}
-use Rattle.writers.specs.Out.{noteCount, total}
+use Rattle.writers.specs.Out.{noteCount, total, notesOut}
 use Rattle.writers.proofs.Tables.{table-rest, table-take, table-drop, table-first}
-use Rattle.writers.proofs.Out.{wrote-as, byte-voice, by-voice, count-out, in-order-sum, notes-total}
-use Rattle.pitched.specs.Out.{pitchCount, pitchTotal, voiceOut, voicesOut, pitchesOut, pitchesOf, PitchesIn}
+use Rattle.writers.proofs.Out.{wrote-as, byte-voice, by-voice, count-out, in-order-sum, notes-total, measures-section, notes-section}
+use Rattle.pitched.specs.Out.{pitchCount, pitchTotal, voiceOut, voicesOut, pitchesOut, musicOut, pitchesOf, PitchesIn}
 
 -- STEPS, as the loops take them
 pub pitch-total-step : (s : List ℕ) (p k : ℕ) → 0 < k → pitchTotal s p k ≡ pitchCount s p + pitchTotal s (p + 16) (k - 1)
@@ -216,3 +215,20 @@ pub pitches-say : {d e : List ℕ} {r : Wrote} (s : List ℕ) (heads n notes pit
     → WroteIs d (le32 count ++ pitchesOut s heads notes pitches n) e r
     × ((ms : List Head) (log : List (ℕ × Note)) → PitchesIn s heads n notes pitches count ms log → WroteIs d (section pitchBytes (cat (map (λ (x : ℕ × Note). x .1 .pitches) (inOrder ms log)))) e r)
 pitches-say s heads n notes pitches count w = (w, λ ms log h. wrote-as w (pitches-section h))
+
+-- THREE SECTIONS
+pub music-section : {s : List ℕ} {heads n notes count pitches sounds : ℕ} {ms : List Head} {log : List (ℕ × Note)} → PitchesIn s heads n notes pitches sounds ms log → length log ≡ count
+    → musicOut s heads n notes count pitches sounds
+    ≡ section headBytes ms ++ section (λ (x : ℕ × Note). noteBytes (x .1)) (inOrder ms log) ++ section pitchBytes (pitchesOf (inOrder ms log))
+unfolding musicOut
+music-section {s} {heads} {n} {notes} {count} {pitches} {sounds} {ms} {log} h e =
+    let g = h .held in
+    let a = measures-section s heads n ms (g .heads-held) (g .heads-count) (g .fits .four-counts) in
+    let b = ap (λ (k : ℕ). le32 k ++ notesOut s heads notes n) (sym e) ∙ notes-section g in
+    λ i. a i ++ b i ++ pitches-section h i
+
+pub music-say : {d e : List ℕ} {r : Wrote} (s : List ℕ) (heads n notes count pitches sounds : ℕ) → WroteIs d (musicOut s heads n notes count pitches sounds) e r
+    → WroteIs d (musicOut s heads n notes count pitches sounds) e r
+    × ((ms : List Head) (log : List (ℕ × Note)) → PitchesIn s heads n notes pitches sounds ms log → length log ≡ count
+    → WroteIs d (section headBytes ms ++ section (λ (x : ℕ × Note). noteBytes (x .1)) (inOrder ms log) ++ section pitchBytes (cat (map (λ (x : ℕ × Note). x .1 .pitches) (inOrder ms log)))) e r)
+music-say s heads n notes count pitches sounds w = (w, λ ms log h e. wrote-as w (music-section h e))

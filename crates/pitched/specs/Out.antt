@@ -2,17 +2,17 @@
 use Prim.Native.Nat.{ℕ, zero, suc, _+_, _*_, _^_, _<_}
 use mathlib.Core.Path.{_≡_}
 use mathlib.Core.Bool.{cond}
-use mathlib.Core.List.{List, [], _∷_, _++_, map}
+use mathlib.Core.List.{List, [], _++_, map}
 use lib.Dec.{eqb}
 use lib.ListN.{length, getD}
 use Rattle.laws.specs.Lists.{cat}
-use Rattle.laws.specs.Bytes.{part, u32At}
+use Rattle.laws.specs.Bytes.{part, le32, u32At}
 use Rattle.standard.specs.Pitches.{Pitch}
 use Rattle.reader.specs.State.{Note}
 use Rattle.reader.specs.Records.{pitchBytes}
 use Rattle.layout.specs.Log.{Head}
 use Rattle.rows.specs.Table.{Table}
-use Rattle.writers.specs.Out.{noteCount, NotesIn}
+use Rattle.writers.specs.Out.{noteCount, notesOut, NotesIn}
 
 -- how many pitches the note in the row at p has
 unfoldable pub pitchCount : List ℕ → ℕ → ℕ
@@ -37,6 +37,11 @@ voicesOut s p q k v (suc j) = voiceOut s v p q k ++ voicesOut s p q k (suc v) j
 unfoldable pub pitchesOut : List ℕ → ℕ → ℕ → ℕ → ℕ → List ℕ
 pitchesOut s h p q zero = []
 pitchesOut s h p q (suc n) = voicesOut s p q (noteCount s h) 0 4 ++ pitchesOut s (h + 28) (p + 16 * noteCount s h) (q + 5 * pitchTotal s p (noteCount s h)) n
+
+-- the sections of n measures, `count` notes and `sounds` pitches
+unfoldable pub musicOut : List ℕ → ℕ → ℕ → ℕ → ℕ → ℕ → ℕ → List ℕ
+musicOut s heads n notes count pitches sounds =
+    (le32 n ++ part s heads (28 * n)) ++ (le32 count ++ notesOut s heads notes n) ++ (le32 sounds ++ pitchesOut s heads notes pitches n)
 
 -- all pitches of notes, in their order
 abbrev pub pitchesOf : List (ℕ × Note) → List Pitch

@@ -1,4 +1,5 @@
-// The section of a part's pitches from its tables in scratch: heads (28 bytes a row), notes (16) and pitches (5, each note's together, in the order written).
+// The section of a part's pitches from its tables in scratch: heads (28 bytes a row), notes (16) and pitches (5, each note's together, in the order written);
+// and the sections of measures, notes and pitches, one after the other.
 ghost use mathlib.Core.Path.{_≡_};
 ghost use mathlib.Core.List.{List, _++_, map};
 ghost use Prim.Native.Nat.{ℕ, _+_, _*_, _^_, _≤_, _<_};
@@ -6,12 +7,12 @@ ghost use lib.ListN.{length};
 ghost use Rattle.laws.specs.Lists.{cat};
 ghost use Rattle.laws.specs.Bytes.{part, le32};
 ghost use Rattle.reader.specs.State.{Note};
-ghost use Rattle.reader.specs.Records.{pitchBytes, section};
+ghost use Rattle.reader.specs.Records.{noteBytes, pitchBytes, section};
 ghost use Rattle.layout.specs.Log.{Head};
-ghost use Rattle.layout.specs.Sections.{inOrder};
+ghost use Rattle.layout.specs.Sections.{headBytes, inOrder};
 ghost use Rattle.sections.specs.Writes.{WroteIs};
-ghost use Rattle.writers.specs.Out.{noteCount, total};
-ghost use Rattle.pitched.specs.Out.{pitchCount, pitchTotal, voiceOut, voicesOut, pitchesOut, PitchesIn};
+ghost use Rattle.writers.specs.Out.{total, notesOut};
+ghost use Rattle.pitched.specs.Out.{pitchCount, pitchTotal, voiceOut, voicesOut, pitchesOut, musicOut, PitchesIn};
 use sections::Wrote;
 
 // How many bytes the pitches of the note in the row at `place` take.
@@ -153,6 +154,53 @@ pub fn write_pitches(
         return Wrote::NoRoom;
     };
     let Wrote::To(k) = write_records(store, heads, n, notes, pitches, &mut to[at..]) else {
+        return Wrote::NoRoom;
+    };
+    Wrote::To(at + k)
+}
+
+// THREE SECTIONS
+
+// Measures and notes.
+fn write_measures_notes(
+    store: &[u8],
+    heads: usize,
+    n: usize,
+    notes: usize,
+    count: usize,
+    to: &mut [u8],
+) -> Wrote
+    requires { ⌜ (heads + 28 * n ≤ length (now store)) × (n < 2 ^ 32) × (notes + 16 * total (now store) heads n ≤ length (now store)) × (count < 2 ^ 32) ⌝ }
+    ensures { λ r. ⌜ WroteIs (now (to .entry)) ((le32 n ++ part (now (store .entry)) heads (28 * n)) ++ (le32 count ++ notesOut (now (store .entry)) heads notes n)) (now (to .exit)) r ⌝ }
+{
+    let Wrote::To(at) = writers::write_measures(store, heads, n, to) else {
+        return Wrote::NoRoom;
+    };
+    let Wrote::To(k) = writers::write_notes(store, heads, n, notes, count, &mut to[at..]) else {
+        return Wrote::NoRoom;
+    };
+    Wrote::To(at + k)
+}
+
+// Measures, notes and pitches: n heads, `count` notes and `sounds` pitches.
+pub fn write_music(
+    store: &[u8],
+    heads: usize,
+    n: usize,
+    notes: usize,
+    count: usize,
+    pitches: usize,
+    sounds: usize,
+    to: &mut [u8],
+) -> Wrote
+    requires { ⌜ (heads + 28 * n ≤ length (now store)) × (n < 2 ^ 32) × (notes + 16 * total (now store) heads n ≤ length (now store)) × (count < 2 ^ 32) × (pitches + 5 * pitchTotal (now store) notes (total (now store) heads n) ≤ length (now store)) × (sounds < 2 ^ 32) ⌝ }
+    ensures { λ r. ⌜ WroteIs (now (to .entry)) (musicOut (now (store .entry)) heads n notes count pitches sounds) (now (to .exit)) r ⌝ }
+    ensures { λ r. ⌜ ((ms : List Head) (log : List (ℕ × Note)) → PitchesIn (now (store .entry)) heads n notes pitches sounds ms log → length log ≡ count → WroteIs (now (to .entry)) (section headBytes ms ++ section (λ (x : ℕ × Note). noteBytes (x .1)) (inOrder ms log) ++ section pitchBytes (cat (map (λ (x : ℕ × Note). x .1 .pitches) (inOrder ms log)))) (now (to .exit)) r) ⌝ }
+{
+    let Wrote::To(at) = write_measures_notes(store, heads, n, notes, count, to) else {
+        return Wrote::NoRoom;
+    };
+    let Wrote::To(k) = write_pitches(store, heads, n, notes, pitches, sounds, &mut to[at..]) else {
         return Wrote::NoRoom;
     };
     Wrote::To(at + k)
