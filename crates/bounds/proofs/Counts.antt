@@ -1,27 +1,25 @@
 -- The counts of a part's five sections by its costs, and the length of its sections by its lines' bytes.
-use Prim.Native.Nat.{ℕ, zero, suc, _+_, _-_, _*_, _≤_, _<_, zero-le}
-use mathlib.Core.Path.{_≡_, refl, sym, ap, _∙_}
-use mathlib.Core.Bool.{Bool, true, false, cond}
-use mathlib.Core.List.{List, [], _∷_, _++_, map}
+use Prim.Native.Nat.{ℕ, suc, _+_, _-_, _*_, _≤_}
+use mathlib.Core.Path.{_≡_, refl, ap}
+use mathlib.Core.List.{List, [], _∷_, map}
 use native.Mathlib.Nat.{mul-add, mul-suc}
 use native.Mathlib.Omega.{arith}
 use lib.Dec.{lit≤}
 use lib.ListN.{length, length-append}
 use Rattle.laws.specs.Lists.{sum, any, cat}
 use Rattle.laws.proofs.Bools.{by-test}
-use Rattle.laws.proofs.Lists.{sum-append, sum-map, length-cat}
+use Rattle.laws.proofs.Lists.{sum-append, sum-map}
 use Rattle.standard.specs.Keys.{Key}
-use Rattle.standard.specs.Pitches.{Pitch}
 use Rattle.reader.specs.Scan.{Item, Env}
 use Rattle.reader.specs.State.{Note, Measure}
 use Rattle.reader.specs.Lyrics.{Syllable}
 use Rattle.reader.specs.Part.{Part, build, emptyPart}
-use Rattle.reader.specs.Records.{measureWidth, noteWidth, pitchWidth, lyricWidth, tagged, byVoice, allNotes, notesOf, pitchesOf, lyrics, lyricText, sections}
+use Rattle.reader.specs.Records.{tagged, byVoice, allNotes, notesOf, pitchesOf, lyrics, lyricText, sections}
 use Rattle.reader.specs.Answer.{isMusic, built}
 use Rattle.reader.specs.All.{all as everything}
-use Rattle.reader.proofs.Sizes.{Fours, four-voices, sections-length}
-use Rattle.bounds.specs.Prices.{Prices, Covered, sectionPrices, notePrices, pitchPrices, accidentalPrices, measurePrices, syllablePrices, textPrices, noteCost, voiceCost, measureCost, measuresCost, syllableCost, musicBytes, lyricBytes, itemBytes}
-use Rattle.bounds.proofs.Generic.{sum-both, sum-mul, sum-times}
+use Rattle.reader.proofs.Sizes.{four-voices, sections-length}
+use Rattle.bounds.specs.Prices.{Prices, Covered, sectionPrices, noteCost, voiceCost, measureCost, measuresCost, syllableCost, musicBytes, lyricBytes, itemBytes}
+use Rattle.bounds.proofs.Generic.{sum-both}
 use Rattle.bounds.proofs.PartCosts.{part-cost}
 use Rattle.bounds.proofs.LyricCosts.{words-cost, lyrics-cost}
 
@@ -30,17 +28,20 @@ module _ (p : Prices) where
   abbrev oneCost : ℕ × Note → ℕ
   oneCost x = noteCost p (x .1)
 
+  -- the notes of a measure, voice by voice
   voices-cost : (v : ℕ) (vs : List (List Note)) → sum oneCost (byVoice v vs) ≡ sum (voiceCost p) vs
   unfolding byVoice tagged
   voices-cost v [] = refl
   voices-cost v (ns ∷ vs) = omega (arith, sum-append oneCost (map (λ n. (v, n)) ns) (byVoice (suc v) vs), sum-map (λ (n : Note). (v, n)) oneCost ns, voices-cost (suc v) vs)
 
+  -- measures, and notes with their pitches
   notes-cost : (ms : List Measure) → measuresCost p ms ≡ p .measure * length ms + sum oneCost (allNotes ms)
   unfolding allNotes measureCost
   notes-cost [] = omega arith
   notes-cost (m ∷ ms) =
       omega (arith, sum-append oneCost (byVoice 0 (m .voices)) (allNotes ms), voices-cost 0 (m .voices), notes-cost ms, mul-suc (p .measure) (length ms))
 
+  -- notes, and pitches
   pitches-cost : (xs : List (ℕ × Note)) → sum oneCost xs ≡ p .note * length xs + p .pitch * length (cat (map (λ (x : ℕ × Note). x .1 .pitches) xs))
   unfolding noteCost
   pitches-cost [] = omega arith
@@ -53,6 +54,7 @@ module _ (p : Prices) where
   unfolding notesOf pitchesOf
   counts-cost q = omega (arith, notes-cost (q .measures), pitches-cost (allNotes (q .measures)))
 
+  -- syllables, and their text
   texts-cost : (ys : List (ℕ × Syllable)) → sum (λ (x : ℕ × Syllable). syllableCost p (x .1)) ys ≡ p .syllable * length ys + p .text * length (cat (map (λ (x : ℕ × Syllable). x .1 .text) ys))
   unfolding syllableCost
   texts-cost [] = omega arith
@@ -70,6 +72,7 @@ module _ (p : Prices) where
       → p .measure * length (build header is .measures) + p .note * length (notesOf (build header is)) + p .pitch * length (pitchesOf (build header is)) ≤ p .measure + p .byte * sum musicBytes is
   music-bound paid header is = omega (arith, part-cost p paid header is, counts-cost (build header is))
 
+  -- its lyrics
   pub lyric-bound : Covered p → (header : Key) (is : List Item)
       → p .syllable * length (lyrics (build header is)) + p .text * length (lyricText (build header is)) ≤ p .byte * sum lyricBytes is
   unfolding lyrics
@@ -81,10 +84,12 @@ module _ (p : Prices) where
 section-covered : Covered sectionPrices
 section-covered = record { notes = lit≤ tt; measures = lit≤ tt; accidentals = lit≤ tt; syllables = lit≤ tt }
 
+-- the bytes of its lines
 bytes-sum : (is : List Item) → sum itemBytes is ≡ sum musicBytes is + sum lyricBytes is
 unfolding itemBytes
 bytes-sum is = sum-both musicBytes lyricBytes is
 
+-- so long at most
 pub sections-bound : (header : Key) (is : List Item) → length (sections (build header is)) ≤ 48 + 23 * sum itemBytes is
 sections-bound header is =
     omega (arith, sections-length (build header is) (four-voices header is), music-bound sectionPrices section-covered header is, lyric-bound sectionPrices section-covered header is, bytes-sum is)

@@ -1,26 +1,24 @@
 -- Every number that a reading writes in four bytes is below 2^32, so the four bytes say the number itself.
-use Prim.Native.Nat.{ℕ, zero, suc, _+_, _-_, _*_, _^_, max, _≤_, _<_, zero-le}
-use mathlib.Core.Path.{_≡_, refl, sym, ap, subst, _∙_}
-use mathlib.Core.Bool.{Bool, true, false, cond}
-use mathlib.Core.List.{List, [], _∷_, _++_, map}
+use Prim.Native.Nat.{ℕ, zero, suc, _+_, _-_, _*_, _^_, _≤_, _<_}
+use mathlib.Core.Path.{_≡_, subst}
+use mathlib.Core.List.{List, [], _∷_, map}
 use native.Mathlib.Nat.{pow-suc, pow-le-pow-right}
 use native.Mathlib.Omega.{arith}
-use lib.Dec.{leb, lit<, lit≤}
+use lib.Dec.{lit<, lit≤}
 use lib.ListN.{length, length-append, length-map}
-use Rattle.laws.specs.Lists.{All, any, cat}
-use Rattle.laws.specs.Bytes.{le32, little, littleAt, u32At}
+use Rattle.laws.specs.Lists.{All, cat}
+use Rattle.laws.specs.Bytes.{le32, u32At}
 use Rattle.laws.proofs.Bools.{by-test}
 use Rattle.laws.proofs.Lists.{All-map, All-append}
 use Rattle.laws.proofs.Numbers.{littleAt-little}
-use Rattle.standard.specs.Keys.{Key}
 use Rattle.reader.specs.Steps.{mine}
-use Rattle.reader.specs.Scan.{Item, Env, ScanState, Items, mostVoices}
+use Rattle.reader.specs.Scan.{Env, Items}
 use Rattle.reader.specs.State.{Note, Measure}
 use Rattle.reader.specs.Lyrics.{Syllable}
-use Rattle.reader.specs.Part.{Part, build, emptyPart}
+use Rattle.reader.specs.Part.{Part}
 use Rattle.reader.specs.Records.{passBits, tagged, byVoice, allNotes, isSung, lyricsOf, notesOf, pitchesOf, lyrics, lyricText, sections}
-use Rattle.reader.specs.Answer.{Verdict, refusal, reading, mostBytes, refusedWith, isMusic, built, parts, partBytes, encode, written, parseAbc}
-use Rattle.reader.proofs.Sizes.{Fours, four-voices, sections-length}
+use Rattle.reader.specs.Answer.{Verdict, refusal, reading, refusedWith, built, parts, partBytes, encode, written, parseAbc}
+use Rattle.reader.proofs.Sizes.{Fours, built-fours, sections-length}
 use Rattle.bounds.specs.Ranges.{PassesFit, MeasureFits, PartFits, FourBytes, CountsFit}
 use Rattle.bounds.proofs.ScanCosts.{voiceCount}
 use Rattle.bounds.proofs.Reading.{partsAfter, parts-fit, parts-most, outcome-cases}
@@ -35,6 +33,7 @@ passes-small low (p ∷ ps) l h =
     let m : low ≤ p - 1 = omega (arith, h .0) in
     omega (arith, passes-small p ps (h .1 .0) (h .1 .1), d, pow-le-pow-right {n = 2} (lit< tt) m)
 
+-- those of a measure
 pub pass-bits-small : (ps : List ℕ) → PassesFit 0 ps → passBits ps < 2 ^ 32
 pass-bits-small ps h = omega (arith, passes-small 0 ps (lit≤ tt) h)
 
@@ -43,6 +42,7 @@ tagged-length : (v : ℕ) (ns : List Note) → length (tagged v ns) ≡ length n
 unfolding tagged
 tagged-length v ns = length-map ns (λ n. (v, n))
 
+-- no voice of a measure
 voice-most : (v : ℕ) (vs : List (List Note)) (k : ℕ) → length (byVoice v vs) ≤ k → All (λ (ns : List Note). length ns ≤ k) vs
 unfolding byVoice
 voice-most v [] k h = tt
@@ -50,6 +50,7 @@ voice-most v (ns ∷ vs) k h =
     let e = length-append (tagged v ns) (byVoice (suc v) vs) in
     (omega (arith, e, tagged-length v ns), voice-most (suc v) vs k (omega (arith, e)))
 
+-- nor of any measure
 voices-most : (ms : List Measure) (k : ℕ) → length (allNotes ms) ≤ k → All (λ (m : Measure). All (λ (v : List Note). length v ≤ k) (m .voices)) ms
 unfolding allNotes
 voices-most [] k h = tt
@@ -69,6 +70,7 @@ placed-below : (i k : ℕ) (w : List Syllable) → i < k → All (λ (x : ℕ ×
 placed-below i k [] h = tt
 placed-below i k (y ∷ w) h = (h, placed-below i k w h)
 
+-- each index is below the number of notes
 index-below : (i k : ℕ) (xs : List (ℕ × Note)) (ws : List (List Syllable)) → i + length xs ≤ k → All (λ (x : ℕ × Syllable). x .0 < k) (lyricsOf i xs ws)
 unfolding lyricsOf
 index-below i k [] ws h = tt
@@ -102,10 +104,7 @@ counts-fit p f h l =
     }
 
 -- THE PARTS OF A READING
-built-fours : (e : Env) (is : List Item) → Fours (built e is .measures)
-unfolding built emptyPart
-built-fours e is = by-test (any isMusic is) (λ m. rw m (four-voices (e .headerKey) is)) (λ m. rw m tt)
-
+-- the counts of each part
 parts-counts : (e : Env) (a : Items) (n q : ℕ) → All PartFits (parts e (λ p. mine p a) n q) → length (partBytes (parts e (λ p. mine p a) n q)) < 2 ^ 32 → All CountsFit (parts e (λ p. mine p a) n q)
 unfolding parts partBytes
 parts-counts e a zero q f h = tt
@@ -115,10 +114,12 @@ parts-counts e a (suc n) q f h =
     let l = length-append (sections p) (partBytes ps) in
     (counts-fit p (built-fours e (mine q a)) (f .0) (omega (arith, l, h)), parts-counts e a n (suc q) (f .1) (omega (arith, l, h)))
 
+-- a verdict that has them
 unfoldable Counted : Verdict → Type 0
 Counted (refusal n l) = Unit {0}
 Counted (reading ps) = (length ps ≤ 32) × All CountsFit ps
 
+-- every verdict
 verdict-counted : (text : List ℕ) (rl sl : ℕ) → Counted (parseAbc text rl sl .verdict)
 unfolding refusedWith written Counted encode
 verdict-counted text rl sl =

@@ -1,11 +1,11 @@
 -- Laws of sums, spans and numbers that crate laws does not have.
-use Prim.Native.Nat.{ℕ, zero, suc, _+_, _-_, _*_, _≤_, _<_, zero-le, suc-le-suc}
-use mathlib.Core.Path.{_≡_, refl, sym, ap, _∙_}
-use mathlib.Core.Bool.{Bool, true, false, cond, not}
-use mathlib.Core.List.{List, [], _∷_, _++_, map, reverse, reverseAux}
-use native.Mathlib.Nat.{mul-le-mul, le-refl, mul-one, mul-add}
+use Prim.Native.Nat.{ℕ, zero, suc, _+_, _-_, _*_, _≤_, zero-le, suc-le-suc}
+use mathlib.Core.Path.{_≡_, refl}
+use mathlib.Core.Bool.{Bool, true}
+use mathlib.Core.List.{List, [], _∷_, reverse, reverseAux}
+use native.Mathlib.Nat.{mul-le-mul, le-refl, mul-add}
 use native.Mathlib.Omega.{arith}
-use lib.ListN.{length, getD, drop, length-map}
+use lib.ListN.{getD, drop}
 use Rattle.laws.specs.Lists.{sum, span, alterAt, All}
 use Rattle.laws.proofs.Bools.{by-test}
 use Rattle.laws.proofs.Spans.{span-yes, span-no}
@@ -17,6 +17,7 @@ module _ {ℓ} {A : Type ℓ} where
   sum-back f [] ys = omega arith
   sum-back f (x ∷ xs) ys = omega (arith, sum-back f xs (x ∷ ys))
 
+  -- the sum does not see the order
   pub sum-reverse : (f : A → ℕ) (xs : List A) → sum f (reverse xs) ≡ sum f xs
   sum-reverse f xs = omega (arith, sum-back f xs [])
 
@@ -36,11 +37,6 @@ module _ {ℓ} {A : Type ℓ} where
   pub sum-same : (f g : A → ℕ) → ((x : A) → f x ≡ g x) → (xs : List A) → sum f xs ≡ sum g xs
   sum-same f g h [] = refl
   sum-same f g h (x ∷ xs) = omega (arith, h x, sum-same f g h xs)
-
-  -- how often one counts
-  pub sum-times : (n : ℕ) (xs : List A) → sum (λ x. n) xs ≡ n * length xs
-  sum-times n [] = omega arith
-  sum-times n (x ∷ xs) = let h = mul-add n 1 (length xs) in let e : 1 + length xs ≡ suc (length xs) = omega arith in omega (arith, sum-times n xs, rw e at h, mul-one n)
 
   -- two sums at once
   pub sum-both : (f g : A → ℕ) (xs : List A) → sum (λ x. f x + g x) xs ≡ sum f xs + sum g xs
@@ -63,6 +59,7 @@ module _ {ℓ} {A : Type ℓ} where
   All-here P (x ∷ xs) p zero d q = p .0
   All-here P (x ∷ xs) p (suc i) d q = All-here P xs (p .1) i d q
 
+  -- the whole list
   pub All-reverse : (P : A → Type 0) (xs : List A) → All P xs → All P (reverse xs)
   All-reverse P xs p = All-back P xs [] p tt
 

@@ -1,29 +1,28 @@
 -- THE LENGTH LAW: a reading is at most 23 times as long as its text.
-use Prim.Native.Nat.{ℕ, zero, suc, _+_, _-_, _*_, _≤_, _<_, max, zero-le}
-use mathlib.Core.Path.{_≡_, refl, sym, ap, subst, _∙_}
-use mathlib.Core.Bool.{Bool, true, false, cond, false≢true}
-use mathlib.Core.Option.{Option, none, some}
+use Prim.Native.Nat.{ℕ, zero, suc, _+_, _-_, _*_, _≤_, _<_, zero-le}
+use mathlib.Core.Path.{_≡_, refl, ap}
+use mathlib.Core.Bool.{false}
+use mathlib.Core.Option.{none}
 use mathlib.Core.Logic.{_⊎_, inl, inr}
-use mathlib.Core.List.{List, [], _∷_, _++_}
+use mathlib.Core.List.{List, [], _∷_}
 use native.Mathlib.Omega.{arith}
-use lib.Dec.{eqb, leb, lit≤}
+use lib.Dec.{eqb, lit≤}
 use lib.ListN.{length, length-append}
-use borrow.Author.Tests.{eqb-true, leb-true, ne-eqb}
-use Rattle.laws.specs.Lists.{sum, any, All}
+use borrow.Author.Tests.{eqb-true, ne-eqb}
+use Rattle.laws.specs.Lists.{sum, any}
 use Rattle.laws.proofs.Bools.{by-test}
 use Rattle.laws.specs.Bytes.{le32}
 use Rattle.laws.proofs.Numbers.{length-little}
 use Rattle.reader.specs.Text.{rows}
-use Rattle.reader.specs.Steps.{Step, refuse, on, mine}
-use Rattle.reader.specs.Scan.{Item, Env, ScanState, begin, scan, Items, Out}
-use Rattle.reader.specs.Part.{Part, emptyPart}
+use Rattle.reader.specs.Steps.{mine}
+use Rattle.reader.specs.Scan.{Item, Env, ScanState, begin, scan, Items}
+use Rattle.reader.specs.Part.{emptyPart}
 use Rattle.reader.specs.Records.{sections}
 use Rattle.reader.specs.Answer.{isMusic, built, parts, partBytes, encode, measureCount}
 use Rattle.bounds.specs.Prices.{itemBytes}
-use Rattle.bounds.proofs.Generic.{sum-mul}
 use Rattle.bounds.proofs.Counts.{built-bound}
 use Rattle.bounds.proofs.RowCosts.{rows-length, rows-fed}
-use Rattle.bounds.proofs.ScanCosts.{Holds, holds-map, Silent, voiceCount, Paid, price, total, Headed, head-bill}
+use Rattle.bounds.proofs.ScanCosts.{Holds, holds-map, Silent, voiceCount, Paid, total, Headed, head-bill}
 
 -- EACH ITEM IS OF ONE PART
 -- the bytes of a part's own items
@@ -60,10 +59,10 @@ shares-all n q [] = none n q
 shares-all n q (x ∷ a) = omega (arith, shares-once n q x a, shares-all n q a)
 
 -- THE PARTS
-pub parts-length : (e : Env) (f : ℕ → List Item) (n q : ℕ) → length (parts e f n q) ≡ n
+pub parts-count : (e : Env) (f : ℕ → List Item) (n q : ℕ) → length (parts e f n q) ≡ n
 unfolding parts
-parts-length e f zero q = refl
-parts-length e f (suc n) q = ap suc (parts-length e f n (suc q))
+parts-count e f zero q = refl
+parts-count e f (suc n) q = ap suc (parts-count e f n (suc q))
 
 -- 48 bytes for each, and 23 for each byte of its lines
 pub parts-bound : (e : Env) (a : Items) (n q : ℕ) → length (partBytes (parts e (λ p. mine p a) n q)) ≤ 48 * n + 23 * shares n q a

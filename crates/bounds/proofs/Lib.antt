@@ -14,3 +14,4 @@ pub mod RecordBytes
 pub mod Reading
 pub mod FourBytes
 pub mod Tables
+pub mod Sharp

@@ -1,21 +1,19 @@
 -- The bytes of a part's lyric lines pay for its syllables and their text.
-use Prim.Native.Nat.{ℕ, zero, suc, _+_, _-_, _*_, _≤_, _<_, zero-le}
-use mathlib.Core.Path.{_≡_, refl, sym, ap, _∙_}
-use mathlib.Core.Bool.{Bool, true, false, cond, not, _&&_, _||_, false≢true}
-use mathlib.Core.Option.{Option, none, some}
-use mathlib.Core.List.{List, [], _∷_, _++_, map, reverse}
-use native.Mathlib.Nat.{mul-add, mul-suc, not-suc-le-zero, add-mul, mul-one}
+use Prim.Native.Nat.{ℕ, zero, suc, _+_, _-_, _*_, _≤_, zero-le}
+use mathlib.Core.Path.{_≡_, refl, ap, _∙_}
+use mathlib.Core.Bool.{Bool, true, false, cond, not, _&&_, false≢true}
+use mathlib.Core.List.{List, [], _∷_, map, reverse}
+use native.Mathlib.Nat.{mul-add, mul-suc}
 use native.Mathlib.Omega.{arith}
 use lib.Dec.{ltb, eqb}
-use lib.ListN.{length, getD, replicate, length-map}
-use Rattle.laws.specs.Lists.{foldl, sum, keep, isNil, eqText, All, alterAt}
+use lib.ListN.{length, replicate, length-map}
+use Rattle.laws.specs.Lists.{foldl, sum, isNil, eqText, All, alterAt}
 use Rattle.laws.proofs.Bools.{by-test}
 use Rattle.laws.proofs.Lists.{sum-append, sum-map, sum-keep, keep-passes}
 use Rattle.standard.specs.Bytes.{ascii, is, first, last}
 use Rattle.standard.specs.Keys.{Key}
-use Rattle.standard.specs.Fields.{Meter}
 use Rattle.standard.specs.Notes.{isSounded}
-use Rattle.standard.specs.Lyrics.{Syllabic, Word, skip, hold, syllable, syllabicOf, syllableText, syllables}
+use Rattle.standard.specs.Lyrics.{Word, skip, hold, syllable, syllableText, syllables}
 use Rattle.reader.specs.Text.{push}
 use Rattle.reader.specs.Pieces.{pieces, words, mark, whiteAt}
 use Rattle.reader.specs.Token.{Token, space, overlay, quoted, broken, tuplet, slur, graceOpen, graceClose, decoration, barline, volta, unit, meter, key, field, chord, rest, note, nothing, skipped, refused}
@@ -73,17 +71,20 @@ module _ (p : Prices) where
         rw (length-map {B = ℕ} x (λ c. cond (is "~" c) 32 c))
         (omega (arith, mul-suc (p .text) n, mul-suc (p .byte) n, times-dearer (p .text) (p .byte) n (omega (arith, paid .syllables)), paid .syllables))
 
+    -- the syllables of a word
     syllables-paid : (b a : Bool) (ps : List (List ℕ)) → All (λ x. not (isNil x) ≡ true) ps → sum wordCost (syllables b a ps) ≤ p .byte * sum length ps
     unfolding syllables wordCost
     syllables-paid b a [] h = zero-le
     syllables-paid b a (x ∷ []) h = omega (arith, syllable-paid x (h .0), mul-add (p .byte) (length x) 0)
     syllables-paid b a (x ∷ y ∷ ps) h = omega (arith, syllable-paid x (h .0), syllables-paid true a (y ∷ ps) (h .1), mul-add (p .byte) (length x) (sum length (y ∷ ps)))
 
+    -- a skip costs nothing
     skip-paid : (ws : List Word) → sum wordCost (orSkip ws) ≡ sum wordCost ws
     unfolding orSkip wordCost
     skip-paid [] = refl
     skip-paid (w ∷ ws) = refl
 
+    -- a word
     word-paid : (w : List ℕ) → sum wordCost (wordOf w) ≤ p .byte * length w
     unfolding wordOf wordCost
     word-paid w =
@@ -97,6 +98,7 @@ module _ (p : Prices) where
         let ws = syllables (is "-" (first w)) (is "-" (last w)) ps in
         omega (arith, skip-paid ws, syllables-paid (is "-" (first w)) (is "-" (last w)) ps (words-some (mark (is "-")) w), times-more (p .byte) (sum length ps) (length w) (words-length (mark (is "-")) w))))))))
 
+    -- all words
     all-paid : (ws : List (List ℕ)) → sum wordCost (wordsOf ws) ≤ p .byte * sum length ws
     unfolding wordsOf
     all-paid [] = zero-le
@@ -115,11 +117,13 @@ module _ (p : Prices) where
       by-test (ltb (y .verse) (x .verse)) (λ e. rw (e, put) (omega (arith, put-cost x ys)))
       (λ e. rw (e, put) (by-test (eqb (y .verse) (x .verse)) (λ f. rw (f, put) (omega arith)) (λ f. rw (f, put) (omega arith))))
 
+  -- a hold costs nothing
   held-cost : (v : ℕ) (ys : List Syllable) → sum (syllableCost p) (map (held v) ys) ≤ sum (syllableCost p) ys + 0
   unfolding held syllableCost
   held-cost v [] = zero-le
   held-cost v (y ∷ ys) = by-test (eqb (y .verse) v) (λ e. rw (e, held) (omega (arith, held-cost v ys))) (λ e. rw (e, held) (omega (arith, held-cost v ys)))
 
+  -- the words of a line cost what they are
   sing-cost : (start v i : ℕ) (ws : List Word) (notes : List (List Syllable)) → wordsCost p (sing start v i ws notes) ≤ wordsCost p notes + sum wordCost ws
   unfolding sing wordCost syllableCost
   sing-cost start v i [] notes = omega arith
@@ -137,6 +141,7 @@ module _ (p : Prices) where
   abbrev sungBytes : List Sung → ℕ
   sungBytes ls = sum (λ (l : Sung). length (l .text)) ls
 
+  -- all lyric lines
   sung-cost : Covered p → (ls : List Sung) (notes : List (List Syllable)) → wordsCost p (sungBy ls notes) ≤ wordsCost p notes + p .byte * sungBytes ls
   unfolding sungBy
   sung-cost paid [] notes = omega arith
@@ -144,6 +149,7 @@ module _ (p : Prices) where
       let m = sing (l .start) (l .verse) 0 (lyricWords (l .text)) notes in
       omega (arith, sung-cost paid ls m, sing-cost (l .start) (l .verse) 0 (lyricWords (l .text)) notes, lyric-paid paid (l .text), mul-add (p .byte) (length (l .text)) (sungBytes ls))
 
+  -- notes without syllables
   none-cost : (n : ℕ) → wordsCost p (replicate n []) ≡ 0
   none-cost zero = refl
   none-cost (suc n) = omega (arith, none-cost n)

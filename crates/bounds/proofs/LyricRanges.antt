@@ -1,22 +1,22 @@
 -- The syllables of a part have verses up to 32, and their text is of bytes.
 use Prim.Native.Nat.{ℕ, zero, suc, _+_, _≤_, _<_}
 use mathlib.Core.Path.{_≡_, refl}
-use mathlib.Core.Bool.{Bool, true, false, cond, not}
-use mathlib.Core.List.{List, [], _∷_, _++_, map, reverse}
+use mathlib.Core.Bool.{Bool, true, false, not}
+use mathlib.Core.List.{List, [], _∷_, map, reverse}
 use lib.Dec.{ltb, eqb, lit<}
-use lib.ListN.{length, replicate}
+use lib.ListN.{replicate}
 use Rattle.laws.specs.Lists.{foldl, All, eqText, isNil, alterAt}
 use Rattle.laws.proofs.Bools.{by-test}
 use Rattle.laws.proofs.Lists.{All-append, All-keep, All-alterAt}
 use Rattle.standard.specs.Bytes.{ascii, is, first, last}
 use Rattle.standard.specs.Keys.{Key}
-use Rattle.standard.specs.Lyrics.{Syllabic, Word, skip, hold, syllable, syllabicOf, syllableText, syllables}
+use Rattle.standard.specs.Lyrics.{Word, skip, hold, syllable, syllableText, syllables}
 use Rattle.reader.specs.Text.{push}
 use Rattle.reader.specs.Pieces.{pieces, words, mark, whiteAt}
 use Rattle.reader.specs.Scan.{Item}
-use Rattle.reader.specs.State.{PartState, Sung, newPart}
+use Rattle.reader.specs.State.{Sung, newPart}
 use Rattle.reader.specs.Lyrics.{Syllable, orSkip, wordOf, wordsOf, lyricWords, put, held, sing, sungBy}
-use Rattle.reader.specs.Part.{Part, onItem, finished, build, emptyPart}
+use Rattle.reader.specs.Part.{onItem, finished, build, emptyPart}
 use Rattle.bounds.specs.Ranges.{Bytes, SungFits, SyllableFits, StateFits, ItemFits, PartFits}
 use Rattle.bounds.proofs.Generic.{All-reverse}
 use Rattle.bounds.proofs.PartRanges.{items-state, new-part-fits, finished-fit}
@@ -27,6 +27,7 @@ push-bytes c [] h k = ((h, tt), tt)
 push-bytes c (p ∷ ps) h k = ((h, k .0), k .1)
 
 module _ (w : List ℕ → ℕ) where
+  -- each piece
   pub pieces-bytes : (k : ℕ) (s : List ℕ) → Bytes s → All Bytes (pieces w k s)
   unfolding pieces
   pieces-bytes k [] h = (tt, tt)

@@ -1,7 +1,7 @@
 -- What each token and item adds to a part, and what the part costs when it is finished.
 use Prim.Native.Nat.{ℕ, zero, suc, _+_, _-_, _*_, _≤_, _<_, zero-le}
-use mathlib.Core.Path.{_≡_, refl, sym, ap, _∙_}
-use mathlib.Core.Bool.{Bool, true, false, cond, not, _&&_, _||_, false≢true}
+use mathlib.Core.Path.{_≡_, refl, ap, _∙_}
+use mathlib.Core.Bool.{Bool, true, false, cond}
 use mathlib.Core.Option.{Option, none, some}
 use mathlib.Core.List.{List, [], _∷_, map, reverse, nil≢cons}
 use native.Mathlib.Nat.{mul-add, mul-suc, not-suc-le-zero}
@@ -10,23 +10,23 @@ use lib.Dec.{eqb}
 use lib.ListN.{length, getD}
 use Rattle.laws.specs.Lists.{foldl, all, sum, alterAt, onFirst, isNil}
 use Rattle.laws.proofs.Bools.{by-test, and-no-right}
-use Rattle.laws.proofs.Lists.{sum-append, sum-map}
+use Rattle.laws.proofs.Lists.{sum-map}
 use Rattle.standard.specs.Keys.{Key}
 use Rattle.standard.specs.Fields.{Meter}
 use Rattle.standard.specs.Bars.{Barline, normal, repeatStart, repeatEnd, repeatBoth, double, final}
-use Rattle.standard.specs.Lengths.{Value, dotted, halved}
-use Rattle.standard.specs.Pitches.{Accidental, Written, Pitch, altered}
+use Rattle.standard.specs.Lengths.{Value}
+use Rattle.standard.specs.Pitches.{Accidental, Written}
 use Rattle.standard.specs.Notes
-use Rattle.standard.specs.Notes.{NoteKind, Behind, Pending, pendingAfter}
+use Rattle.standard.specs.Notes.{NoteKind, Behind, pendingAfter}
 use Rattle.reader.specs.Lengths.{Length, valueOf}
-use Rattle.reader.specs.Pitches.{Scope, soundOf, scopeBy, scopeAfter, soundsOf, scopeAfterAll}
+use Rattle.reader.specs.Pitches.{Scope, scopeBy, scopeAfter, soundsOf, scopeAfterAll}
 use Rattle.reader.specs.Token.{Token, space, overlay, quoted, broken, tuplet, slur, graceOpen, graceClose, decoration, barline, volta, unit, meter, key, field, chord, rest, note, nothing, skipped, refused}
 use Rattle.reader.specs.Tokens.{tokens}
 use Rattle.reader.specs.Barlines.{leftOf}
 use Rattle.reader.specs.Scan.{Item, born, reset, headed, keyed, metered, sung, played}
-use Rattle.reader.specs.State.{PartState, Note, Measure, Half, Running, withBeam, withVoices, withRight, withMeter, withMark, withVolta, voltaBegins, onOpen, isEmpty, voiceIn, voiceNow, setVoice, setScopes, setPending, newMeasure, newPart, newLine, noScopes}
+use Rattle.reader.specs.State.{PartState, Note, Measure, Half, Running, withBeam, withVoices, withRight, withMeter, withMark, withVolta, voltaBegins, onOpen, isEmpty, voiceIn, voiceNow, setVoice, setScopes, setPending, newMeasure, newPart, noScopes}
 use Rattle.reader.specs.Voltas.{starts, endsAt, close, closed}
-use Rattle.reader.specs.Part.{valueIn, halvedNote, brokenNote, onBroken, afterHalf, canBeam, beamed, beamedAgain, onNothing, groupIn, grouped, append, restNote, soundNote, onSound, leftSet, ended, onBarline, hears, onToken, opened, lineBegins, onLine, onLyric, onKey, firstKey, onItem, dropped, inOrder, markedBy, marked, finished, build}
+use Rattle.reader.specs.Part.{halvedNote, brokenNote, onBroken, afterHalf, canBeam, beamed, beamedAgain, onNothing, grouped, append, restNote, soundNote, onSound, leftSet, ended, onBarline, hears, onToken, opened, lineBegins, onLine, onLyric, onKey, onItem, dropped, inOrder, markedBy, marked, finished, build}
 use Rattle.reader.proofs.LineLaws.{Kept, kept-item, ready-begins, ready-after}
 use Rattle.bounds.specs.Prices.{Prices, Covered, noteCost, voiceCost, measureCost, measuresCost, keptBack, scopesCost, stateCost, markCost, writtenCost, tokenCost, musicBytes}
 use Rattle.bounds.proofs.Generic.{sum-put, sum-reverse, sum-same}
@@ -39,16 +39,19 @@ module _ (p : Prices) where
   broken-cost h n =
       by-test (h .up) (λ e. rw (e, brokenNote)) (λ e. rw (e, brokenNote) (by-test (eqb (n .value) 10) (λ f. rw (f, halvedNote)) (λ f. rw (f, halvedNote))))
 
+  -- the half of a broken rhythm
   half-cost : (h : Option Half) (n : Note) → noteCost p (afterHalf h n) ≡ noteCost p n
   unfolding afterHalf
   half-cost none n = refl
   half-cost (some h) n = broken-cost h n
 
+  -- the beam step once more
   again-cost : (r : ℕ) (n : Note) → noteCost p (beamedAgain r n) ≡ noteCost p n
   unfolding beamedAgain noteCost
   again-cost zero n = by-test (canBeam n) (λ e. rw (e, beamedAgain)) (λ e. rw (e, beamedAgain))
   again-cost (suc r) n = refl
 
+  -- a tuplet
   group-cost : (t : Option Running) (n : Note) → noteCost p (grouped t n) ≡ noteCost p n
   unfolding grouped noteCost
   group-cost none n = refl
@@ -231,6 +234,7 @@ module _ (p : Prices) where
     opens-cost true b t m ms e = rw (e, keptBack) (omega (arith, paid .measures))
     opens-cost false b t m ms e = omega arith
 
+    -- any barline
     ended-cost : (b : Barline) (o : Bool) (t : Meter) (ms : List Measure) → openCost (ended b o t ms) ≤ openCost ms + p .byte
     unfolding ended
     ended-cost b o t [] = omega arith
@@ -273,10 +277,12 @@ module _ (p : Prices) where
     opened-cost t [] = omega arith
     opened-cost t (m ∷ ms) = omega arith
 
+    -- a line begins
     pub begins-step : (u : ℕ) (t : Meter) (s : PartState) → stateCost p (lineBegins u t s) ≤ stateCost p s + firstCost (s .measures)
     unfolding lineBegins stateCost
     begins-step u t s = omega (arith, opened-cost t (s .measures))
 
+    -- a whole line
     line-step : (u : ℕ) (t : Meter) (l : List ℕ) (s : PartState) → Kept s → paidFor (onLine u t l s) ≤ paidFor s + p .byte * length l
     unfolding onLine
     line-step u t l s k =

@@ -1,23 +1,23 @@
 -- The numbers of a part are in their ranges, while it is read and when it is finished.
-use Prim.Native.Nat.{ℕ, zero, suc, _+_, _-_, min, _≤_, _<_, zero-le}
-use mathlib.Core.Path.{_≡_, refl, sym, ap, _∙_}
-use mathlib.Core.Bool.{Bool, true, false, cond, not, _&&_, _||_}
+use Prim.Native.Nat.{ℕ, zero, suc, _+_, _-_, _≤_, _<_}
+use mathlib.Core.Path.{_≡_, refl}
+use mathlib.Core.Bool.{Bool, true, false, cond, _&&_}
 use mathlib.Core.Option.{Option, none, some}
 use mathlib.Core.List.{List, [], _∷_, map, reverse}
 use native.Mathlib.Omega.{arith}
 use lib.Dec.{ltb, leb, eqb, lit<, lit≤}
-use lib.ListN.{length, getD}
-use Rattle.laws.specs.Lists.{foldl, All, alterAt, onFirst}
+use lib.ListN.{getD}
+use Rattle.laws.specs.Lists.{foldl, All, onFirst}
 use Rattle.laws.proofs.Bools.{by-test}
 use Rattle.laws.proofs.Lists.{All-alterAt, All-onFirst}
 use Rattle.standard.specs.Keys.{Key, keyAlter, place}
 use Rattle.standard.specs.Fields.{Meter}
 use Rattle.standard.specs.Bars.{Barline, normal, repeatStart, repeatEnd, repeatBoth, double, final}
-use Rattle.standard.specs.Lengths.{Value, dotted, halved}
+use Rattle.standard.specs.Lengths.{dotted, halved}
 use Rattle.standard.specs.Pitches.{Accidental, Written, Pitch, altered}
 use Rattle.standard.specs.Tuplets.{boundary}
 use Rattle.standard.specs.Notes
-use Rattle.standard.specs.Notes.{NoteKind, Beam, Behind, Pending, isSounded, pendingAfter}
+use Rattle.standard.specs.Notes.{NoteKind, Beam, Behind, isSounded}
 use Rattle.standard.specs.Lyrics.{nextVerse}
 use Rattle.reader.specs.Lengths.{Length, valueOf}
 use Rattle.reader.specs.Pitches.{Scope, remembered, orKey, soundBy, soundOf, scopeBy, scopeAfter, soundsOf, scopeAfterAll}
@@ -25,11 +25,11 @@ use Rattle.reader.specs.Token.{Token, space, overlay, quoted, broken, tuplet, s
 use Rattle.reader.specs.Tokens.{tokens}
 use Rattle.reader.specs.Barlines.{leftOf}
 use Rattle.reader.specs.Scan.{Item, born, reset, headed, keyed, metered, sung, played}
-use Rattle.reader.specs.State.{PartState, Note, Measure, Half, Running, Sung, Verses, withBeam, withVoices, withRight, withLeft, withMeter, withMark, withVolta, Volta, voltaBegins, onOpen, isEmpty, voiceIn, voiceNow, setVoice, setScopes, setPending, newMeasure, newPart, newLine, noScopes}
+use Rattle.reader.specs.State.{PartState, Note, Measure, Half, Running, Verses, withBeam, withVoices, withRight, withLeft, withMeter, withMark, withVolta, Volta, voltaBegins, onOpen, isEmpty, voiceIn, voiceNow, setVoice, newMeasure, newPart, newLine, noScopes}
 use Rattle.reader.specs.Voltas.{starts, endsAt, close, closed}
-use Rattle.reader.specs.Part.{halvedNote, brokenNote, onBroken, afterHalf, canBeam, beamed, beamedAgain, onNothing, groupIn, grouped, oneFewer, countedIn, append, restNote, soundNote, onSound, leftSet, ended, onBarline, hears, onToken, opened, lineBegins, onLine, onLyric, onKey, firstKey, onItem, dropped, inOrder, markedBy, marked, finished, build}
+use Rattle.reader.specs.Part.{halvedNote, brokenNote, onBroken, afterHalf, canBeam, beamed, beamedAgain, onNothing, groupIn, grouped, oneFewer, countedIn, append, restNote, soundNote, onSound, leftSet, ended, onBarline, hears, onToken, opened, lineBegins, onLine, onLyric, onKey, onItem, dropped, inOrder, markedBy, marked, finished}
 use Rattle.reader.proofs.ValueLaws.{value-range}
-use Rattle.bounds.specs.Ranges.{Bytes, MeterFits, PassesFit, MarkFits, WrittenFits, PitchFits, TokenFits, NoteFits, MeasureFits, RunningFits, SungFits, StateFits, ItemFits}
+use Rattle.bounds.specs.Ranges.{MeterFits, PassesFit, MarkFits, WrittenFits, PitchFits, TokenFits, NoteFits, MeasureFits, RunningFits, StateFits, ItemFits}
 use Rattle.bounds.proofs.Generic.{All-reverse, All-here}
 use Rattle.bounds.proofs.TokenRanges.{tokens-fit}
 
@@ -37,12 +37,14 @@ use Rattle.bounds.proofs.TokenRanges.{tokens-fit}
 beam-fits : (b : Beam) (n : Note) → NoteFits n → NoteFits (withBeam b n)
 beam-fits b n h = record { value-fits = h .value-fits; dots-fit = h .dots-fit; actual-fits = h .actual-fits; normal-fits = h .normal-fits; boundary-fits = h .boundary-fits; pitches-fit = h .pitches-fit }
 
+-- halved
 halved-fits : (k : ℕ) (n : Note) → NoteFits n → NoteFits (halvedNote k n)
 unfolding halvedNote halved
 halved-fits k n h =
     by-test (eqb (n .value) 10) (λ e. rw (e, halvedNote) h)
     (λ e. rw (e, halvedNote) (record { value-fits = omega arith; dots-fit = h .dots-fit; actual-fits = h .actual-fits; normal-fits = h .normal-fits; boundary-fits = h .boundary-fits; pitches-fit = h .pitches-fit }))
 
+-- after a broken rhythm
 broken-fits : (x : Half) (n : Note) → NoteFits n → NoteFits (brokenNote x n)
 unfolding brokenNote dotted
 broken-fits x n h =
@@ -50,11 +52,13 @@ broken-fits x n h =
     (λ e. rw (e, brokenNote) (record { value-fits = h .value-fits; dots-fit = omega arith; actual-fits = h .actual-fits; normal-fits = h .normal-fits; boundary-fits = h .boundary-fits; pitches-fit = h .pitches-fit }))
     (λ e. rw (e, brokenNote) (halved-fits (x .times) n h))
 
+-- after the half that waited
 half-fits : (x : Option Half) (n : Note) → NoteFits n → NoteFits (afterHalf x n)
 unfolding afterHalf
 half-fits none n h = h
 half-fits (some x) n h = broken-fits x n h
 
+-- a voice with a note more
 beamed-fits : (r : ℕ) (n : Note) (ns : List Note) → NoteFits n → All NoteFits ns → All NoteFits (beamed r n ns)
 unfolding beamed
 beamed-fits zero n ns h k = (h, k)
@@ -63,11 +67,13 @@ beamed-fits (suc r) n ns h k =
     (λ e. rw (e, beamed) (beam-fits Notes.ends n h, All-onFirst NoteFits _ (beam-fits (cond (eqb r 0) Notes.begins Notes.continues)) ns k))
     (λ e. rw (e, beamed) (h, k))
 
+-- after the beam step once more
 again-fits : (r : ℕ) (n : Note) → NoteFits n → NoteFits (beamedAgain r n)
 unfolding beamedAgain
 again-fits zero n h = by-test (canBeam n) (λ e. rw e h) (λ e. rw e (beam-fits Notes.unbeamed n h))
 again-fits (suc r) n h = beam-fits (cond (canBeam n) Notes.ends Notes.unbeamed) n h
 
+-- a boundary is 0 to 3
 boundary-small : (a b : Bool) → boundary a b < 4
 unfolding boundary
 boundary-small true true = lit< tt
@@ -75,17 +81,20 @@ boundary-small true false = lit< tt
 boundary-small false true = lit< tt
 boundary-small false false = lit< tt
 
+-- in a tuplet
 grouped-fits : (t : Option Running) (n : Note) → RunningFits t → NoteFits n → NoteFits (grouped t n)
 unfolding grouped groupIn RunningFits
 grouped-fits none n r h = h
 grouped-fits (some t) n r h =
     record { value-fits = h .value-fits; dots-fit = h .dots-fit; actual-fits = r .0; normal-fits = r .1; boundary-fits = boundary-small (eqb (t .left) (t .tuplet .count)) (eqb (t .left) 1); pitches-fit = h .pitches-fit }
 
+-- the tuplet after it
 fewer-fits : (t : Option Running) → RunningFits t → RunningFits (oneFewer t)
 unfolding oneFewer RunningFits
 fewer-fits none r = tt
 fewer-fits (some t) r = by-test (leb (t .left) 1) (λ e. rw e tt) (λ e. rw e r)
 
+-- a rest
 rest-fits : (k : NoteKind) (u : ℕ) (l : Length) → NoteFits (restNote k (valueOf u l))
 unfolding restNote
 rest-fits Notes.sounded u l = record { value-fits = omega (arith, value-range u l .0); dots-fit = omega (arith, value-range u l .1); actual-fits = lit< tt; normal-fits = lit< tt; boundary-fits = lit< tt; pitches-fit = tt }
@@ -99,43 +108,51 @@ altered-fits : (w : Written) (a : Accidental) → WrittenFits w → MarkFits (so
 unfolding altered MarkFits
 altered-fits w a h m = record { step-fits = h .step-fits; octave-fits = h .octave-fits; alter-fits = m .0; cents-fits = m .1 }
 
+-- a key alters by one at most
 key-alter-small : (k : Key) (step : ℕ) → keyAlter k step < 256
 unfolding keyAlter
 key-alter-small k step =
     by-test (ltb (place step + 128) (k .fifths)) (λ e. rw (e, keyAlter) (lit< tt))
     (λ e. rw (e, keyAlter) (by-test (leb (k .fifths) (place step + 121)) (λ f. rw f (lit< tt)) (λ f. rw f (lit< tt))))
 
+-- a pitch that is remembered, if one is
 unfoldable Known : Option Pitch → Type 0
 Known none = Unit {0}
 Known (some p) = PitchFits p
 
+-- what is remembered
 remembered-fits : (sc : Scope) (w : Written) → All PitchFits sc → Known (remembered sc w)
 unfolding remembered Known
 remembered-fits [] w h = tt
 remembered-fits (p ∷ ps) w h =
     by-test (eqb (p .step) (w .step) && eqb (p .octave) (w .octave)) (λ e. rw (e, remembered) (h .0)) (λ e. rw (e, remembered) (remembered-fits ps w (h .1)))
 
+-- what is remembered, else as the key says
 or-key-fits : (k : Key) (w : Written) (o : Option Pitch) → WrittenFits w → Known o → PitchFits (orKey k w o)
 unfolding orKey Known
 or-key-fits k w none h m = record { step-fits = h .step-fits; octave-fits = h .octave-fits; alter-fits = key-alter-small k (w .step); cents-fits = lit< tt }
 or-key-fits k w (some p) h m = m
 
+-- as it sounds
 sound-by-fits : (k : Key) (sc : Scope) (w : Written) (a : Option Accidental) → All PitchFits sc → WrittenFits w → MarkFits a → PitchFits (soundBy k sc w a)
 unfolding soundBy
 sound-by-fits k sc w none h v m = or-key-fits k w (remembered sc w) v (remembered-fits sc w h)
 sound-by-fits k sc w (some a) h v m = altered-fits w a v m
 
+-- the scope after it
 scope-by-fits : (sc : Scope) (w : Written) (a : Option Accidental) → All PitchFits sc → WrittenFits w → MarkFits a → All PitchFits (scopeBy sc w a)
 unfolding scopeBy
 scope-by-fits sc w none h v m = h
 scope-by-fits sc w (some a) h v m = (altered-fits w a v m, h)
 
+-- all pitches of a chord
 sounds-fit : (k : Key) (sc : Scope) (ws : List Written) → All PitchFits sc → All WrittenFits ws → All PitchFits (soundsOf k sc ws)
 unfolding soundsOf soundOf scopeAfter
 sounds-fit k sc [] h v = tt
 sounds-fit k sc (w ∷ ws) h v =
     (sound-by-fits k sc w (w .mark) h (v .0) (v .0 .mark-fits), sounds-fit k (scopeBy sc w (w .mark)) ws (scope-by-fits sc w (w .mark) h (v .0) (v .0 .mark-fits)) (v .1))
 
+-- the scope after them
 scopes-after-fit : (sc : Scope) (ws : List Written) → All PitchFits sc → All WrittenFits ws → All PitchFits (scopeAfterAll sc ws)
 unfolding scopeAfterAll scopeAfter
 scopes-after-fit sc [] h v = h
@@ -145,25 +162,32 @@ scopes-after-fit sc (w ∷ ws) h v = scopes-after-fit (scopeBy sc w (w .mark)) w
 voices-measure : (vs : List (List Note)) (m : Measure) → All (All NoteFits) vs → MeasureFits m → MeasureFits (withVoices vs m)
 voices-measure vs m v h = record { voices-fit = v; meter-fits = h .meter-fits; passes-fit = h .passes-fit }
 
+-- another right barline
 right-measure : (b : Barline) (m : Measure) → MeasureFits m → MeasureFits (withRight b m)
 right-measure b m h = record { voices-fit = h .voices-fit; meter-fits = h .meter-fits; passes-fit = h .passes-fit }
 
+-- another left one
 left-measure : (b : Barline) (m : Measure) → MeasureFits m → MeasureFits (withLeft b m)
 left-measure b m h = record { voices-fit = h .voices-fit; meter-fits = h .meter-fits; passes-fit = h .passes-fit }
 
+-- a key mark
 mark-measure : (k : Key) (m : Measure) → MeasureFits m → MeasureFits (withMark k m)
 mark-measure k m h = record { voices-fit = h .voices-fit; meter-fits = h .meter-fits; passes-fit = h .passes-fit }
 
+-- another meter
 meter-measure : (t : Meter) → MeterFits t → (m : Measure) → MeasureFits m → MeasureFits (withMeter t m)
 meter-measure t f m h = record { voices-fit = h .voices-fit; meter-fits = f; passes-fit = h .passes-fit }
 
+-- a volta with its passes
 volta-measure : (v : Volta) (ps : List ℕ) → PassesFit 0 ps → (m : Measure) → MeasureFits m → MeasureFits (withVolta v ps m)
 volta-measure v ps f m h = record { voices-fit = h .voices-fit; meter-fits = h .meter-fits; passes-fit = f }
 
+-- a new one
 new-measure : (t : Meter) (b : Barline) → MeterFits t → MeasureFits (newMeasure t b)
 unfolding newMeasure PassesFit
 new-measure t b f = record { voices-fit = (tt, (tt, (tt, (tt, tt)))); meter-fits = f; passes-fit = tt }
 
+-- a barline without notes before it
 left-set : (b : Barline) (m : Measure) → MeasureFits m → MeasureFits (leftSet b m)
 unfolding leftSet
 left-set normal m h = h
@@ -173,6 +197,7 @@ left-set repeatBoth m h = left-measure repeatBoth m h
 left-set double m h = left-measure double m h
 left-set final m h = h
 
+-- any barline
 ended-fit : (b : Barline) (o : Bool) (t : Meter) (ms : List Measure) → MeterFits t → All MeasureFits ms → All MeasureFits (ended b o t ms)
 unfolding ended
 ended-fit b o t [] f h = tt

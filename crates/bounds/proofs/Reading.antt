@@ -1,23 +1,21 @@
 -- THE READING OF EVERY TEXT: its bytes are bytes, it is at most 23 times as long as the text, and a store that long is never too short.
-use Prim.Native.Nat.{ℕ, zero, suc, _+_, _-_, _*_, max, _≤_, _<_}
+use Prim.Native.Nat.{ℕ, zero, suc, _+_, _-_, _*_, _≤_, _<_}
 use mathlib.Core.Path.{_≡_, refl, sym, ap, subst, _∙_}
-use mathlib.Core.Bool.{Bool, true, false, cond, not, _&&_, false≢true}
-use mathlib.Core.Option.{Option, none, some}
+use mathlib.Core.Bool.{true, false, false≢true}
 use mathlib.Core.Logic.{_⊎_, inl, inr}
-use mathlib.Core.List.{List, [], _∷_, _++_}
+use mathlib.Core.List.{List, [], _∷_}
 use native.Mathlib.Omega.{arith}
 use lib.Dec.{eqb, leb, ltb, lit<, lit≤}
-use lib.ListN.{length, replicate}
-use borrow.Author.Tests.{leb-true, leb-false, ltb-true, ltb-false, lt-leb, le-leb, ne-eqb, eqb-false}
+use lib.ListN.{length}
+use borrow.Author.Tests.{leb-true, leb-false, ltb-true, ltb-false, lt-leb, ne-eqb}
 use Rattle.laws.specs.Lists.{foldl, sum, any, All}
 use Rattle.laws.specs.Bytes.{le32, zeros}
 use Rattle.laws.proofs.Bools.{by-test, and-no-right}
 use Rattle.laws.proofs.Numbers.{little-bytes}
-use Rattle.standard.specs.Keys.{Key}
 use Rattle.reader.specs.Text.{within, Utf8, between, one, two, three, afterE0, afterED, afterF0, afterF4, invalid, utf8Step, isBetween, isUtf8, isBlank, rows}
-use Rattle.reader.specs.Steps.{Step, refuse, on, mine}
+use Rattle.reader.specs.Steps.{refuse, on, mine}
 use Rattle.reader.specs.Scan.{Item, Env, ScanState, scan, Items, Out, mostVoices}
-use Rattle.reader.specs.Part.{Part, build, emptyPart}
+use Rattle.reader.specs.Part.{Part}
 use Rattle.reader.specs.Records.{sections}
 use Rattle.reader.specs.Answer.{Verdict, refusal, reading, Outcome, mostBytes, scratchNeeded, refusedWith, early, isMusic, built, parts, partBytes, encode, measureCount, written, ended, finish, scanned, unless, parseAbc}
 use Rattle.bounds.specs.Prices.{itemBytes}
@@ -26,15 +24,17 @@ use Rattle.bounds.proofs.ScanCosts.{Holds, Silent, voiceCount}
 use Rattle.bounds.proofs.ScanRanges.{ItemsFit, OutFits, ScanFits, scan-out}
 use Rattle.bounds.proofs.LyricRanges.{part-fits, empty-fits}
 use Rattle.bounds.proofs.RecordBytes.{both, sections-bytes}
-use Rattle.bounds.proofs.Length.{parts-length, encode-bound, silent-parts, scan-bound}
+use Rattle.bounds.proofs.Length.{parts-count, encode-bound, silent-parts, scan-bound}
 
 -- UTF-8 IS OF BYTES
 not-within : (a b c : ℕ) → b < c → within a b c ≡ false
 not-within a b c h = and-no-right (leb a c) (leb c b) (lt-leb c b h)
 
+-- a byte that is higher is another
 not-eq : (c n : ℕ) → n < c → eqb c n ≡ false
 not-eq c n h = ne-eqb c n (λ e. absurd (omega (arith, e)))
 
+-- what is no byte ends it
 big-invalid : (u : Utf8) (c : ℕ) → 256 ≤ c → utf8Step u c ≡ invalid
 unfolding utf8Step
 big-invalid between c h =
@@ -48,11 +48,13 @@ big-invalid afterF0 c h = rw (not-within 0x90 0xbf c (omega arith))
 big-invalid afterF4 c h = rw (not-within 0x80 0x8f c (omega arith))
 big-invalid invalid c h = refl
 
+-- and it stays so
 stays-invalid : (s : List ℕ) → isBetween (foldl utf8Step invalid s) ≡ false
 unfolding utf8Step isBetween
 stays-invalid [] = refl
 stays-invalid (c ∷ s) = stays-invalid s
 
+-- from any state
 valid-bytes : (s : List ℕ) (u : Utf8) → isBetween (foldl utf8Step u s) ≡ true → Bytes s
 valid-bytes [] u h = tt
 valid-bytes (c ∷ s) u h =
@@ -85,10 +87,12 @@ unfolding zeros
 zero-bytes zero = tt
 zero-bytes (suc n) = (lit< tt, zero-bytes n)
 
+-- the items of a part
 mine-fit : (q : ℕ) (a : Items) → ItemsFit a → All ItemFits (mine q a)
 mine-fit q [] h = tt
 mine-fit q (x ∷ a) h = by-test (eqb (x .0) q) (λ e. rw e (h .0, mine-fit q a (h .1))) (λ e. rw e (mine-fit q a (h .1)))
 
+-- a part
 built-fits : (e : Env) (is : List Item) → All ItemFits is → PartFits (built e is)
 unfolding built
 built-fits e is h = by-test (any isMusic is) (λ m. rw m (part-fits (e .headerKey) is h)) (λ m. rw m empty-fits)
@@ -99,11 +103,13 @@ unfolding parts
 parts-fit e a zero q h = tt
 parts-fit e a (suc n) q h = (built-fits e (mine q a) (mine-fit q a h), parts-fit e a n (suc q) h)
 
+-- their sections
 parts-bytes : (ps : List Part) → All PartFits ps → Bytes (partBytes ps)
 unfolding partBytes
 parts-bytes [] h = tt
 parts-bytes (p ∷ ps) h = both (sections p) (partBytes ps) (sections-bytes p (h .0)) (parts-bytes ps (h .1))
 
+-- with the count of parts
 pub encode-bytes : (ps : List Part) → All PartFits ps → Bytes (encode ps)
 unfolding encode
 encode-bytes ps h = both (le32 (length ps)) (partBytes ps) (little-bytes 4 (length ps)) (parts-bytes ps h)
@@ -114,7 +120,7 @@ partsAfter t a = parts (t .env) (λ p. mine p a) (voiceCount t) 0
 
 -- they are 32 at most
 pub parts-most : (t : ScanState) (a : Items) → ScanFits t → length (partsAfter t a) ≤ mostVoices
-parts-most t a h = omega (arith, parts-length (t .env) (λ p. mine p a) (voiceCount t) 0, h .voices-in)
+parts-most t a h = omega (arith, parts-count (t .env) (λ p. mine p a) (voiceCount t) 0, h .voices-in)
 
 -- where there is a measure, 23 bytes for each byte of the text are enough
 enough : (text : List ℕ) (t : ScanState) (a : Items) → Silent a ⊎ (4 + 48 * voiceCount t + 23 * sum (λ (x : ℕ × Item). itemBytes (x .1)) a ≤ 23 * length text)

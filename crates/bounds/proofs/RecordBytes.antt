@@ -1,16 +1,15 @@
 -- Every byte of a part's records is below 256.
-use Prim.Native.Nat.{ℕ, zero, suc, _+_, _-_, _%_, _^_, _≤_, _<_}
-use mathlib.Core.Path.{_≡_, refl}
-use mathlib.Core.Bool.{Bool, true, false, cond}
+use Prim.Native.Nat.{ℕ, suc, _+_, _-_, _≤_, _<_}
+use mathlib.Core.Bool.{Bool, true, false}
 use mathlib.Core.Option.{Option, none, some}
 use mathlib.Core.List.{List, [], _∷_, _++_, map}
 use native.Mathlib.Omega.{arith}
-use lib.Dec.{ltb, lit<, lit≤}
+use lib.Dec.{ltb, lit<}
 use lib.ListN.{length, getD}
-use Rattle.laws.specs.Lists.{All, any, cat}
+use Rattle.laws.specs.Lists.{All, cat}
 use Rattle.laws.specs.Bytes.{le32}
 use Rattle.laws.proofs.Bools.{by-test}
-use Rattle.laws.proofs.Lists.{All-append, All-cat, All-every}
+use Rattle.laws.proofs.Lists.{All-append}
 use Rattle.laws.proofs.Numbers.{little-bytes}
 use Rattle.standard.specs.Keys.{Key}
 use Rattle.standard.specs.Bars.{Barline, normal, repeatStart, repeatEnd, repeatBoth, double, final}
@@ -40,6 +39,7 @@ barline-byte repeatBoth = lit< tt
 barline-byte double = lit< tt
 barline-byte final = lit< tt
 
+-- a volta
 volta-byte : (v : Volta) → voltaCode v < 256
 unfolding voltaCode
 volta-byte noVolta = lit< tt
@@ -47,11 +47,13 @@ volta-byte voltaBegins = lit< tt
 volta-byte voltaEnds = lit< tt
 volta-byte voltaAlone = lit< tt
 
+-- a mode
 mode-byte : (m : Bool) → modeCode m < 256
 unfolding modeCode
 mode-byte true = lit< tt
 mode-byte false = lit< tt
 
+-- a kind of note
 kind-byte : (k : NoteKind) → kindCode k < 256
 unfolding kindCode
 kind-byte Notes.sounded = lit< tt
@@ -60,6 +62,7 @@ kind-byte Notes.invisibleRest = lit< tt
 kind-byte Notes.barRest = lit< tt
 kind-byte Notes.invisibleBarRest = lit< tt
 
+-- a beam
 beam-byte : (b : Beam) → beamCode b < 256
 unfolding beamCode
 beam-byte Notes.unbeamed = lit< tt
@@ -67,6 +70,7 @@ beam-byte Notes.begins = lit< tt
 beam-byte Notes.continues = lit< tt
 beam-byte Notes.ends = lit< tt
 
+-- a place in a word
 syllabic-byte : (s : Syllabic) → syllabicCode s < 256
 unfolding syllabicCode
 syllabic-byte Lyrics.single = lit< tt
@@ -74,15 +78,18 @@ syllabic-byte Lyrics.begins = lit< tt
 syllabic-byte Lyrics.ends = lit< tt
 syllabic-byte Lyrics.middle = lit< tt
 
+-- a flag
 bit-most : (b : Bool) (n : ℕ) → bit b n ≤ n
 unfolding bit
 bit-most true n = omega arith
 bit-most false n = omega arith
 
+-- a signed number
 signed-byte : (n : ℕ) → signed8 n < 256
 unfolding signed8
 signed-byte n = omega arith
 
+-- one of two bytes
 signed-bytes : (n : ℕ) → Bytes (signed16 n)
 unfolding signed16
 signed-bytes n = by-test (ltb n 128) (λ e. rw e (signed-byte n, (lit< tt, tt))) (λ e. rw e (signed-byte n, (lit< tt, tt)))
@@ -93,16 +100,19 @@ unfolding noteCounts
 counts-bytes [] = tt
 counts-bytes (v ∷ vs) = All-append _ (le32 (length v)) (noteCounts vs) (little-bytes 4 (length v)) (counts-bytes vs)
 
+-- a key mark
 mark-bytes : (k : Option Key) → Bytes (markBytes k)
 unfolding markBytes
 mark-bytes none = (lit< tt, (lit< tt, tt))
 mark-bytes (some k) = (mode-byte (k .minor), (signed-byte (k .fifths), tt))
 
+-- the first pass
 first-pass : (low : ℕ) (ps : List ℕ) → PassesFit low ps → getD ps 0 0 < 256
 unfolding PassesFit
 first-pass low [] h = lit< tt
 first-pass low (p ∷ ps) h = omega (arith, h .1 .0)
 
+-- a measure's record
 pub measure-bytes : (m : Measure) → MeasureFits m → Bytes (measureBytes m)
 unfolding measureBytes
 measure-bytes m h =
@@ -121,17 +131,20 @@ flag-byte n =
     let f = n .flags in
     omega (arith, bit-most (f .tieStart) 1, bit-most (f .tieEnd) 2, bit-most (f .slurStart) 4, bit-most (f .slurEnd) 8, bit-most (f .grace) 16, bit-most (isUnbeamed n) 32)
 
+-- a note's record
 pub note-bytes : (n : Note) → NoteFits n → Bytes (noteBytes n)
 unfolding noteBytes
 note-bytes n h =
     (kind-byte (n .kind), (omega (arith, h .value-fits), (omega (arith, h .dots-fit), (flag-byte n, (beam-byte (n .beam), (h .actual-fits, (h .normal-fits, (omega (arith, h .boundary-fits), little-bytes 4 (length (n .pitches))))))))))
 
 -- PITCH
+-- a pitch's record
 pub pitch-bytes : (p : Pitch) → PitchFits p → Bytes (pitchBytes p)
 unfolding pitchBytes
 pitch-bytes p h = (omega (arith, h .step-fits), (signed-byte (p .octave), (signed-byte (p .alter), signed-bytes (p .cents))))
 
 -- LYRIC
+-- a lyric's record
 pub lyric-bytes : (i : ℕ) (y : Syllable) → SyllableFits y → Bytes (lyricBytes i y)
 unfolding lyricBytes
 lyric-bytes i y h =
@@ -143,24 +156,29 @@ unfolding tagged
 tagged-fit v [] h = tt
 tagged-fit v (n ∷ ns) h = (h .0, tagged-fit v ns (h .1))
 
+-- the notes of a measure
 voices-fit : (v : ℕ) (vs : List (List Note)) → All (All NoteFits) vs → All (λ (x : ℕ × Note). NoteFits (x .1)) (byVoice v vs)
 unfolding byVoice
 voices-fit v [] h = tt
 voices-fit v (ns ∷ vs) h = All-append _ (tagged v ns) (byVoice (suc v) vs) (tagged-fit v ns (h .0)) (voices-fit (suc v) vs (h .1))
 
+-- all notes
 notes-fit : (ms : List Measure) → All MeasureFits ms → All (λ (x : ℕ × Note). NoteFits (x .1)) (allNotes ms)
 unfolding allNotes
 notes-fit [] h = tt
 notes-fit (m ∷ ms) h = All-append _ (byVoice 0 (m .voices)) (allNotes ms) (voices-fit 0 (m .voices) (h .0 .voices-fit)) (notes-fit ms (h .1))
 
+-- their pitches
 pitches-fit : (xs : List (ℕ × Note)) → All (λ (x : ℕ × Note). NoteFits (x .1)) xs → All PitchFits (cat (map (λ (x : ℕ × Note). x .1 .pitches) xs))
 pitches-fit [] h = tt
 pitches-fit (x ∷ xs) h = All-append PitchFits (x .1 .pitches) _ (h .0 .pitches-fit) (pitches-fit xs (h .1))
 
+-- a note's syllables
 placed-fit : (i : ℕ) (w : List Syllable) → All SyllableFits w → All (λ (x : ℕ × Syllable). SyllableFits (x .1)) (map (λ y. (i, y)) w)
 placed-fit i [] h = tt
 placed-fit i (y ∷ w) h = (h .0, placed-fit i w (h .1))
 
+-- all syllables
 lyrics-fit : (i : ℕ) (xs : List (ℕ × Note)) (ws : List (List Syllable)) → All (All SyllableFits) ws → All (λ (x : ℕ × Syllable). SyllableFits (x .1)) (lyricsOf i xs ws)
 unfolding lyricsOf
 lyrics-fit i [] ws h = tt
@@ -170,6 +188,7 @@ lyrics-fit i (x ∷ xs) (w ∷ ws) h =
     (λ e. rw (e, lyricsOf) (All-append _ (map (λ y. (i, y)) w) (lyricsOf (suc i) xs ws) (placed-fit i w (h .0)) (lyrics-fit (suc i) xs ws (h .1))))
     (λ e. rw (e, lyricsOf) (lyrics-fit (suc i) xs (w ∷ ws) h))
 
+-- their text
 text-fits : (ys : List (ℕ × Syllable)) → All (λ (x : ℕ × Syllable). SyllableFits (x .1)) ys → Bytes (cat (map (λ (x : ℕ × Syllable). x .1 .text) ys))
 text-fits [] h = tt
 text-fits (y ∷ ys) h = All-append _ (y .1 .text) _ (h .0 .text-fits) (text-fits ys (h .1))

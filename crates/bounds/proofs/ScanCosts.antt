@@ -1,23 +1,22 @@
 -- The scan: each row pays for its items and for the voice that it names; so many rows, so many items; voices up to 32.
-use Prim.Native.Nat.{ℕ, zero, suc, _+_, _-_, _*_, _≤_, _<_, max, zero-le}
+use Prim.Native.Nat.{ℕ, suc, _+_, _-_, _*_, _≤_, _<_, max}
 use mathlib.Core.Path.{_≡_, refl, sym, ap, subst, _∙_}
-use mathlib.Core.Bool.{Bool, true, false, cond, not, _&&_, _||_, false≢true}
+use mathlib.Core.Bool.{Bool, true, false}
 use mathlib.Core.Option.{Option, none, some}
 use mathlib.Core.List.{List, [], _∷_, _++_, append-nil}
 use mathlib.Core.Logic.{_⊎_, inl, inr}
 use native.Mathlib.Nat.{mul-add, mul-suc}
 use native.Mathlib.Omega.{arith}
-use lib.Dec.{eqb, leb, ltb}
+use lib.Dec.{leb, ltb}
 use lib.ListN.{length, length-append}
-use borrow.Author.Tests.{leb-false}
-use Rattle.laws.specs.Lists.{sum, All, has, indexOf}
+use Rattle.laws.specs.Lists.{sum, All, has}
 use Rattle.laws.proofs.Bools.{by-test}
 use Rattle.laws.proofs.Lists.{sum-append, All-append}
-use Rattle.reader.specs.Text.{rows, clean}
+use Rattle.reader.specs.Text.{clean}
 use Rattle.reader.specs.Tokens.{Effect}
 use Rattle.reader.specs.Lines.{Kind, blank, refused, lyric, voice, key, meter, unit, tune, other, music, lineKind, kindOf}
-use Rattle.reader.specs.Steps.{Row, Step, refuse, on, run, first}
-use Rattle.reader.specs.Scan.{Item, born, reset, headed, keyed, metered, sung, played, Env, ScanState, begin, mostVoices, mostLines, withUnnamed, voicesBefore, playOn, voiceOn, unitOn, act, step, scan, firstRefusal, Out, Items}
+use Rattle.reader.specs.Steps.{Row, refuse, on, run, first}
+use Rattle.reader.specs.Scan.{Item, ScanState, mostVoices, mostLines, withUnnamed, voicesBefore, playOn, voiceOn, unitOn, act, step, firstRefusal, Out, Items}
 use Rattle.reader.specs.Answer.{isMusic}
 use Rattle.bounds.specs.Prices.{musicBytes, lyricBytes, itemBytes}
 use Rattle.bounds.proofs.Generic.{times-more, times-dearer}
@@ -72,6 +71,7 @@ before-count s = unnamed-count (s .opened) (s .env .voices)
 
 -- THE BILL OF A ROW: an item's price and what a byte of its line costs, what a byte of the text pays, what is left to the line feed, what a voice costs
 module _ (item byte pays rest voiceCost : ℕ) where
+  -- what each byte pays covers these prices
   pub record Paid : Type 0 where
     -- a line of one byte, and its feed
     pub bytes : byte ≤ pays
@@ -80,9 +80,11 @@ module _ (item byte pays rest voiceCost : ℕ) where
     -- a V line has three bytes, two items and a voice
     pub voices : 2 * item + voiceCost ≤ 3 * pays + rest
 
+  -- an item with its line
   abbrev pub price : Item → ℕ
   price i = item + byte * itemBytes i
 
+  -- all items
   abbrev pub total : Items → ℕ
   total a = sum (λ (x : ℕ × Item). price (x .1)) a
 
@@ -99,12 +101,15 @@ module _ (item byte pays rest voiceCost : ℕ) where
     item-price : (n : ℕ) → 2 ≤ n → item ≤ pays * n + rest
     item-price n h = omega (arith, times-more pays 2 n h, paid .lines, paid .bytes)
 
+    -- three bytes
     three : (n : ℕ) → 3 ≤ n → 3 * pays ≤ pays * n
     three n h = omega (arith, times-more pays 3 n h)
 
+    -- as many voices
     same-voices : (m n : ℕ) → m ≡ n → voiceCost * m ≡ voiceCost * n
     same-voices m n e = ap (λ (x : ℕ). voiceCost * x) e
 
+    -- one voice more
     one-more : (n : ℕ) → voiceCost * max 1 (n + 1) ≤ voiceCost * max 1 n + voiceCost
     one-more n = omega (arith, times-more voiceCost (max 1 (n + 1)) (max 1 n + 1) (omega arith), mul-add voiceCost (max 1 n) 1)
 
@@ -118,6 +123,7 @@ module _ (item byte pays rest voiceCost : ℕ) where
     voice-bill s v vs n e h false false false =
         omega (arith, same-voices (max 1 (length vs)) (voiceCount s) e, one-more (length vs), same-voices (max 1 (length (vs ++ (v ∷ [])))) (max 1 (length vs + 1)) (ap (max 1) (length-append vs (v ∷ []))), three n h, paid .voices)
 
+    -- a music line
     play-bill : (s : ScanState) (es : List Effect) (l : List ℕ) (n : ℕ) → 1 ≤ length l → length l ≤ n → (o : Option ℕ) → Holds (Bill s n) (playOn s es l o)
     unfolding playOn Holds itemBytes musicBytes lyricBytes
     play-bill s es l n g h (some k) = tt
@@ -213,12 +219,15 @@ module _ (item byte pays rest voiceCost : ℕ) where
 
     -- THE ROWS FROM THE HEADER ON: nothing is played, or the K line and its feed pay for `extra` too
     module _ (extra : ℕ) (room : item + extra ≤ 3 * pays) where
+      -- what the rows from the header on come to
       abbrev pub Headed : ScanState → ℕ → ScanState → Items → Type 0
       Headed s n t a = Silent a ⊎ (total a + voiceCost * voiceCount t + extra ≤ voiceCost * voiceCount s + pays * n + rest)
 
+      -- a K line and its feed
       three-bytes : (m n : ℕ) → 2 ≤ m → m < n → item + extra ≤ pays * n
       three-bytes m n h l = omega (arith, room, times-more pays 3 n (omega arith))
 
+      -- so it is for any rows
       pub head-bill : (rs : List Row) → Fed rs → (s : ScanState) → s .env .inHeader ≡ true → Holds (Headed s (sum length rs)) (run step s rs)
       unfolding Holds Fed
       head-bill [] f s e = inl tt

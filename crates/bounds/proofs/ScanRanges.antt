@@ -1,25 +1,25 @@
 -- The scan: its items are in their ranges, there are 32 voices at most, and its refusals are 4 to 14.
-use Prim.Native.Nat.{ℕ, zero, suc, _+_, max, _≤_, _<_}
-use mathlib.Core.Path.{_≡_, refl, sym, ap, subst, _∙_}
-use mathlib.Core.Bool.{Bool, true, false, cond}
+use Prim.Native.Nat.{ℕ, zero, suc, _≤_, _<_}
+use mathlib.Core.Path.{_≡_, refl}
+use mathlib.Core.Bool.{Bool, true, false}
 use mathlib.Core.Option.{Option, none, some}
-use mathlib.Core.List.{List, [], _∷_, _++_, map}
+use mathlib.Core.List.{List, [], _∷_, map}
 use native.Mathlib.Omega.{arith}
 use lib.Dec.{eqb, leb, ltb, lit<, lit≤}
 use lib.ListN.{length, drop, length-append}
 use borrow.Author.Tests.{leb-false}
-use Rattle.laws.specs.Lists.{All, has, indexOf, isNil}
+use Rattle.laws.specs.Lists.{All, has, isNil}
 use Rattle.laws.proofs.Bools.{by-test}
 use Rattle.laws.proofs.Lists.{All-append}
 use Rattle.standard.specs.Fields.{Meter}
 use Rattle.reader.specs.Text.{isBlank, push, rows, cut, trim, clean, hasHigh}
-use Rattle.reader.specs.Fields.{middleWord, identifier, meterOf}
+use Rattle.reader.specs.Fields.{middleWord, identifier}
 use Rattle.reader.specs.Token.{Token, space, overlay, quoted, broken, tuplet, slur, graceOpen, graceClose, decoration, barline, volta, chord, rest, note, nothing, skipped}
 use Rattle.reader.specs.Token
 use Rattle.reader.specs.Tokens.{tokens, Effect, counts, refuses, setsUnit, setsMeter, passes, effectOf, effects}
 use Rattle.reader.specs.Lines.{isV, isK, isL, isM, isX, isLyric, isField, Kind, blank, refused, lyric, voice, key, meter, unit, tune, other, music, voiceKind, keyKind, fieldKind, lineKind, kindOf}
-use Rattle.reader.specs.Steps.{Row, Step, refuse, on, run, first}
-use Rattle.reader.specs.Scan.{Item, born, reset, headed, keyed, metered, sung, played, Env, ScanState, begin, mostNotes, mostVoices, mostLines, noteCount, lastUnit, lastMeter, firstRefusal, voicesBefore, playOn, voiceOn, unitOn, act, step, scan, Out, Items}
+use Rattle.reader.specs.Steps.{Row, refuse, on, run, first}
+use Rattle.reader.specs.Scan.{Item, ScanState, begin, mostNotes, mostVoices, mostLines, lastMeter, firstRefusal, voicesBefore, playOn, voiceOn, unitOn, act, step, scan, Out, Items}
 use Rattle.bounds.specs.Ranges.{Bytes, MeterFits, TokenFits, ItemFits}
 use Rattle.bounds.proofs.TokenRanges.{tokens-fit, meter-fits}
 use Rattle.bounds.proofs.ScanCosts.{before-count}
@@ -29,25 +29,30 @@ push-bytes : (c : ℕ) (ps : List (List ℕ)) → c < 256 → All Bytes ps → A
 push-bytes c [] h k = ((h, tt), tt)
 push-bytes c (p ∷ ps) h k = ((h, k .0), k .1)
 
+-- each row
 pub rows-bytes : (t : List ℕ) → Bytes t → All Bytes (rows t)
 unfolding rows
 rows-bytes [] h = tt
 rows-bytes (c ∷ t) h = by-test (eqb c 10) (λ e. rw e ((h .0, tt), rows-bytes t (h .1))) (λ e. rw e (push-bytes c (rows t) (h .0) (rows-bytes t (h .1))))
 
+-- cut
 cut-bytes : (r : List ℕ) → Bytes r → Bytes (cut r)
 unfolding cut
 cut-bytes [] h = tt
 cut-bytes (c ∷ r) h = by-test (eqb c 37) (λ e. rw e tt) (λ e. rw e (h .0, cut-bytes r (h .1)))
 
+-- trimmed
 trim-bytes : (r : List ℕ) → Bytes r → Bytes (trim r)
 unfolding trim
 trim-bytes [] h = tt
 trim-bytes (c ∷ r) h = by-test (isBlank (c ∷ r)) (λ e. rw e tt) (λ e. rw e (h .0, trim-bytes r (h .1)))
 
+-- both
 clean-bytes : (r : List ℕ) → Bytes r → Bytes (clean r)
 unfolding clean
 clean-bytes r h = trim-bytes (cut r) (cut-bytes r h)
 
+-- without its first bytes
 drop-bytes : (n : ℕ) (s : List ℕ) → Bytes s → Bytes (drop n s)
 drop-bytes zero s h = h
 drop-bytes (suc n) [] h = tt
@@ -61,6 +66,7 @@ EffectFits (setsUnit u) = Unit {0}
 EffectFits (setsMeter m) = MeterFits m
 EffectFits passes = Unit {0}
 
+-- of a token
 effect-fits : (t : Token) → TokenFits t → EffectFits (effectOf t)
 unfolding effectOf TokenFits EffectFits
 effect-fits space h = tt
@@ -85,10 +91,12 @@ effect-fits nothing h = tt
 effect-fits skipped h = tt
 effect-fits (Token.refused n) h = (omega (arith, h .0), h .1)
 
+-- of tokens
 effects-map : (ts : List Token) → All TokenFits ts → All EffectFits (map effectOf ts)
 effects-map [] h = tt
 effects-map (t ∷ ts) h = (effect-fits t (h .0), effects-map ts (h .1))
 
+-- of a line
 effects-fit : (l : List ℕ) → All EffectFits (effects l)
 unfolding effects
 effects-fit l = effects-map (tokens 0 l) (tokens-fit 0 l)
@@ -108,6 +116,7 @@ unfoldable Refusal : Option ℕ → Type 0
 Refusal none = Unit {0}
 Refusal (some n) = (4 ≤ n) × (n ≤ 14)
 
+-- it is from 4 to 14
 first-fits : (n : ℕ) (es : List Effect) → All EffectFits es → Refusal (firstRefusal n es)
 unfolding firstRefusal EffectFits Refusal
 first-fits n [] f = tt
@@ -130,6 +139,7 @@ KindRange tune = Unit {0}
 KindRange other = Unit {0}
 KindRange (music hi es l) = All EffectFits es
 
+-- a field
 field-range : (l : List ℕ) → KindRange (fieldKind l)
 unfolding fieldKind voiceKind keyKind KindRange
 field-range l =
@@ -143,6 +153,7 @@ field-range l =
     (by-test (isM l) (λ k. rw k (by-test (hasHigh l) (λ m. rw m (lit≤ tt, lit≤ tt)) (λ m. rw m (meter-fits (drop 2 l)))))
     (λ k. rw k (by-test (isX l) (λ m. rw m tt) (λ m. rw m tt)))))))))
 
+-- any line
 kind-range : (l : List ℕ) → Bytes l → KindRange (lineKind l)
 unfolding lineKind KindRange
 kind-range l h =
@@ -157,6 +168,7 @@ pub record ScanFits (s : ScanState) : Type 0 where
   pub meter-in : MeterFits (s .meter)
   pub voices-in : length (s .env .voices) ≤ mostVoices
 
+-- items in their ranges
 abbrev pub ItemsFit : Items → Type 0
 ItemsFit a = All (λ (x : ℕ × Item). ItemFits (x .1)) a
 
@@ -169,6 +181,7 @@ OutFits (on t a) = ScanFits t × ItemsFit a
 before-most : (s : ScanState) → ScanFits s → length (voicesBefore s) ≤ mostVoices
 before-most s h = omega (arith, before-count s, h .voices-in)
 
+-- a V line
 voice-out : (s : ScanState) (v : List ℕ) (vs : List (List ℕ)) → ScanFits s → length vs ≤ mostVoices → (known full mid : Bool) → (full ≡ false → length vs < mostVoices) → OutFits (voiceOn s v vs known full mid)
 unfolding voiceOn OutFits ItemFits
 voice-out s v vs h l true full true f = (lit≤ tt, lit≤ tt)
@@ -177,16 +190,19 @@ voice-out s v vs h l false true mid f = (lit≤ tt, lit≤ tt)
 voice-out s v vs h l false false true f = (lit≤ tt, lit≤ tt)
 voice-out s v vs h l false false false f = (record { meter-in = h .meter-in; voices-in = omega (arith, length-append vs (v ∷ []), f refl) }, (tt, (tt, tt)))
 
+-- a music line
 play-out : (s : ScanState) (es : List Effect) (l : List ℕ) (o : Option ℕ) → ScanFits s → All EffectFits es → Refusal o → OutFits (playOn s es l o)
 unfolding playOn OutFits ItemFits Refusal
 play-out s es l (some k) h f r = r
 play-out s es l none h f r = (record { meter-in = last-fits es (s .meter) f (h .meter-in); voices-in = h .voices-in }, (h .meter-in, tt))
 
+-- an L line
 unit-out : (s : ScanState) (u : Option ℕ) → ScanFits s → OutFits (unitOn s u)
 unfolding unitOn OutFits
 unit-out s none h = (record { meter-in = h .meter-in; voices-in = h .voices-in }, tt)
 unit-out s (some u) h = (record { meter-in = h .meter-in; voices-in = h .voices-in }, tt)
 
+-- any line
 act-out : (s : ScanState) (k : Kind) (b : Bool) → ScanFits s → KindRange k → OutFits (act s k b)
 unfolding act OutFits KindRange ItemFits
 act-out s blank b h f = (record { meter-in = h .meter-in; voices-in = h .voices-in }, tt)
@@ -208,6 +224,7 @@ act-out s (music hi es l) true h f = (record { meter-in = h .meter-in; voices-in
 act-out s (music true es l) false h f = (lit≤ tt, lit≤ tt)
 act-out s (music false es l) false h f = play-out s es l (firstRefusal (s .notes) es) h f (first-fits (s .notes) es f)
 
+-- a row
 step-out : (s : ScanState) (r : Row) → ScanFits s → Bytes r → OutFits (step s r)
 unfolding step kindOf OutFits
 step-out s r h b =
@@ -219,6 +236,7 @@ unfolding OutFits
 first-out a (refuse n l) h f = f
 first-out a (on t b) h f = (f .0, All-append _ a b h (f .1))
 
+-- any rows
 run-out : (rs : List Row) (s : ScanState) → ScanFits s → All Bytes rs → OutFits (run step s rs)
 unfolding OutFits
 run-out [] s h b = (h, tt)

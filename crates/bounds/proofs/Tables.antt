@@ -1,16 +1,15 @@
 -- WHAT A SCRATCH STORE MUST HOLD: each count of a part by its lines' bytes, and the tables of the line table and any one part by the text's bytes.
 -- The prices stand in specs/Prices.
-use Prim.Native.Nat.{ℕ, zero, suc, _+_, _-_, _*_, _≤_, _<_, zero-le}
-use mathlib.Core.Path.{_≡_, refl, sym, ap, subst, _∙_}
-use mathlib.Core.Bool.{Bool, true, false, cond}
+use Prim.Native.Nat.{ℕ, _+_, _-_, _*_, _≤_, zero-le}
+use mathlib.Core.Path.{_≡_, refl, ap, subst}
 use mathlib.Core.List.{List, [], _∷_, _++_}
 use native.Mathlib.Nat.{mul-add}
 use native.Mathlib.Omega.{arith}
 use lib.Dec.{eqb, lit≤}
 use lib.ListN.{length}
-use Rattle.laws.specs.Lists.{foldl, sum, cat}
+use Rattle.laws.specs.Lists.{foldl, sum}
 use Rattle.laws.proofs.Bools.{by-test}
-use Rattle.laws.proofs.Lists.{sum-append, foldl-append}
+use Rattle.laws.proofs.Lists.{sum-append}
 use Rattle.standard.specs.Keys.{Key}
 use Rattle.standard.specs.Fields.{Meter}
 use Rattle.reader.specs.Text.{rows}
@@ -18,17 +17,16 @@ use Rattle.reader.specs.Token.{Token}
 use Rattle.reader.specs.Tokens.{tokens}
 use Rattle.reader.specs.Steps.{on, mine}
 use Rattle.reader.specs.Scan.{Item, played, ScanState, begin, scan, Items}
-use Rattle.reader.specs.State.{PartState, newPart}
-use Rattle.reader.specs.Part.{Part, onToken, lineBegins, onItem, build}
+use Rattle.reader.specs.State.{newPart}
+use Rattle.reader.specs.Part.{onToken, lineBegins, onItem, build}
 use Rattle.reader.specs.Records.{notesOf, pitchesOf, lyrics, lyricText}
-use Rattle.reader.proofs.LineLaws.{kept-after}
-use Rattle.bounds.specs.Prices.{Prices, Covered, sectionPrices, tablePrices, rowPrice, textPays, feedPays, notePrices, pitchPrices, accidentalPrices, measurePrices, syllablePrices, textPrices, stateCost, scopesCost, measuresCost, tokenCost, musicBytes, lyricBytes, itemBytes}
-use Rattle.bounds.proofs.Generic.{sum-both, sum-mul, sum-times, times-more}
+use Rattle.bounds.specs.Prices.{Prices, Covered, tablePrices, rowPrice, textPays, feedPays, notePrices, pitchPrices, accidentalPrices, measurePrices, syllablePrices, textPrices, stateCost, scopesCost, tokenCost, musicBytes, lyricBytes, itemBytes}
+use Rattle.bounds.proofs.Generic.{sum-both, sum-mul}
 use Rattle.bounds.proofs.TokenCosts.{line-paid}
 use Rattle.bounds.proofs.PartCosts.{tokens-step, begins-step, reading-cost, items-paid}
 use Rattle.bounds.proofs.Counts.{music-bound, lyric-bound}
 use Rattle.bounds.proofs.RowCosts.{rows-length, rows-fed}
-use Rattle.bounds.proofs.ScanCosts.{Holds, voiceCount, Paid, price, total, Bill, rows-bill}
+use Rattle.bounds.proofs.ScanCosts.{Holds, Paid, total, Bill, rows-bill}
 
 -- EACH COUNT OF A PART
 -- notes: one for each byte of its music lines
@@ -71,6 +69,7 @@ module _ (p : Prices) (paid : Covered p) where
 item-paid : Paid 2 0 1 1 0
 item-paid = record { bytes = lit≤ tt; lines = lit≤ tt; feed = lit≤ tt; voices = lit≤ tt }
 
+-- two for each item
 count-total : (a : Items) → total 2 0 1 1 0 a ≡ 2 * length a
 count-total [] = refl
 count-total (x ∷ a) = omega (arith, count-total a)
@@ -91,9 +90,11 @@ mine-bytes q (x ∷ a) = by-test (eqb (x .0) q) (λ e. rw e (omega (arith, mine-
 table-paid : Paid rowPrice (tablePrices .byte) textPays feedPays 0
 table-paid = record { bytes = lit≤ tt; lines = lit≤ tt; feed = lit≤ tt; voices = lit≤ tt }
 
+-- the tables' prices are covered
 table-covered : Covered tablePrices
 table-covered = record { notes = lit≤ tt; measures = lit≤ tt; accidentals = lit≤ tt; syllables = lit≤ tt }
 
+-- rows, and bytes
 table-total : (a : Items) → total rowPrice (tablePrices .byte) textPays feedPays 0 a ≡ rowPrice * length a + tablePrices .byte * sum (λ (x : ℕ × Item). itemBytes (x .1)) a
 table-total [] = refl
 table-total (x ∷ a) = omega (arith, table-total a)
@@ -107,6 +108,7 @@ lines-most text t a e =
     let h : Bill rowPrice (tablePrices .byte) textPays feedPays 0 begin n t a = subst (Holds (Bill rowPrice (tablePrices .byte) textPays feedPays 0 begin n)) e (rows-bill rowPrice (tablePrices .byte) textPays feedPays 0 table-paid (rows text) (rows-fed text) begin) in
     omega (arith, h, table-total a, rows-length text)
 
+-- music and lyrics
 bytes-both : (is : List Item) → sum itemBytes is ≡ sum musicBytes is + sum lyricBytes is
 unfolding itemBytes
 bytes-both is = sum-both musicBytes lyricBytes is

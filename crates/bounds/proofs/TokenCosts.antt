@@ -1,6 +1,6 @@
 -- The bytes of a token pay for what it adds, so a line's bytes pay for all its tokens.
 use Prim.Native.Nat.{ℕ, zero, suc, _+_, _-_, _*_, _^_, pred, _≤_, _<_, zero-le}
-use mathlib.Core.Path.{_≡_, refl, sym, ap, _∙_}
+use mathlib.Core.Path.{_≡_, refl}
 use mathlib.Core.Bool.{Bool, true, false, cond, not, _&&_, _||_, false≢true}
 use mathlib.Core.Option.{Option, none, some}
 use mathlib.Core.List.{List, [], _∷_}
@@ -8,10 +8,10 @@ use native.Mathlib.Nat.{not-suc-le-zero, mul-add, mul-suc}
 use native.Mathlib.Omega.{arith}
 use lib.Dec.{ltb, eqb}
 use lib.ListN.{length, take, drop}
-use borrow.Author.Tests.{eqb-true, ltb-true}
+use borrow.Author.Tests.{eqb-true}
 use Rattle.laws.specs.Lists.{span, sum}
-use Rattle.laws.proofs.Bools.{by-test, both-true, and-left, and-right}
-use Rattle.laws.proofs.Spans.{span-yes, span-no, span-le}
+use Rattle.laws.proofs.Bools.{by-test}
+use Rattle.laws.proofs.Spans.{span-yes, span-no}
 use Rattle.standard.specs.Bytes.{is, isDigit, first}
 use Rattle.standard.specs.Bars.{Symbol, barSymbols, symbolAt}
 use Rattle.standard.specs.Pitches.{Accidental, Written, isLetter}
@@ -29,15 +29,17 @@ use Rattle.reader.specs.Tokens.{closedBy, brokenOf, bracketOf, Class, white, am
 use Rattle.reader.proofs.TokenLaws.{as-takes, takes-a-byte}
 use Rattle.reader.proofs.TokenBounds.{takes-what-is-there}
 use Rattle.bounds.specs.Prices.{Prices, Covered, markCost, writtenCost, tokenCost}
-use Rattle.bounds.proofs.Generic.{span-wider, spans-wider, times-more}
+use Rattle.bounds.proofs.Generic.{spans-wider, times-more}
 
 -- a byte that does not end a chord
 abbrev pub inChord : ℕ → Bool
 inChord c = not (is "]" c)
 
+-- a comma does not
 comma-in : (c : ℕ) → is "," c ≡ true → inChord c ≡ true
 comma-in c e = rw (eqb-true c 44 e)
 
+-- nor does an apostrophe
 apostrophe-in : (c : ℕ) → is "'" c ≡ true → inChord c ≡ true
 apostrophe-in c e = rw (eqb-true c 39 e)
 
@@ -71,14 +73,17 @@ module _ (p : Prices) (paid : Covered p) where
   costs-cons c a o n none h = tt
   costs-cons c a o n (some ws) h = by-test (o .fine) (λ e. rw (e, consPitch) (omega arith)) (λ e. rw (e, consPitch) tt)
 
+  -- a byte pays for an accidental
   mark-paid : (a : Option Accidental) → markCost p a ≤ p .byte
   unfolding markCost
   mark-paid none = zero-le
   mark-paid (some a) = paid .accidentals
 
+  -- and for a pitch
   pitch-paid : p .pitch ≤ p .byte
   pitch-paid = omega (arith, paid .notes)
 
+  -- no accidental costs nothing
   none-cost : markCost p none ≡ 0
   unfolding markCost
   none-cost = refl
@@ -146,6 +151,7 @@ module _ (p : Prices) (paid : Covered p) where
   pays : (cost n used : ℕ) → cost ≤ p .byte * n → n ≤ used → cost ≤ p .byte * used
   pays cost n used h l = omega (arith, times-more (p .byte) n used l)
 
+  -- one byte
   byte-once : p .byte ≤ p .byte * 1
   byte-once = omega arith
 
@@ -158,6 +164,7 @@ module _ (p : Prices) (paid : Covered p) where
       let l = lengthOf s in
       pays (p .note + p .kept + sum (writtenCost p) (w ∷ ws)) (suc m) (n + l .used + behind (drop (l .used) s) .used) (omega (arith, mul-suc (p .byte) m, paid .notes)) (omega arith)
 
+  -- the same from its bracket on
   chordAt-paid : (s : List ℕ) → tokenCost p (chordAt s .token) ≤ p .byte * chordAt s .used
   unfolding chordAt
   chordAt-paid s =

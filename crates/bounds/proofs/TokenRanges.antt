@@ -1,6 +1,6 @@
 -- The numbers of each token are in their ranges.
-use Prim.Native.Nat.{ℕ, zero, suc, _+_, _-_, _^_, _%_, min, _≤_, _<_, zero-le}
-use mathlib.Core.Path.{_≡_, refl, sym, ap, _∙_}
+use Prim.Native.Nat.{ℕ, zero, suc, _+_, _-_, _^_, _≤_, _<_}
+use mathlib.Core.Path.{_≡_}
 use mathlib.Core.Bool.{Bool, true, false, cond, not, _&&_, _||_}
 use mathlib.Core.Option.{Option, none, some}
 use mathlib.Core.List.{List, [], _∷_, _++_}
@@ -8,7 +8,7 @@ use native.Mathlib.Nat.{add-zero}
 use native.Mathlib.Omega.{arith}
 use lib.Dec.{ltb, leb, eqb, lit<, lit≤}
 use lib.ListN.{length, take, drop}
-use borrow.Author.Tests.{ltb-true, ltb-false, leb-true, eqb-false}
+use borrow.Author.Tests.{ltb-true, ltb-false, leb-true}
 use Rattle.laws.specs.Lists.{span, all, isNil, eqText, All}
 use Rattle.laws.proofs.Bools.{by-test, and-left, and-right}
 use Rattle.standard.specs.Bytes.{ascii, is, isDigit, first, decimal, digits}
@@ -17,16 +17,15 @@ use Rattle.standard.specs.Passes.{Item, pass, passes, rising, passesOf}
 use Rattle.standard.specs.Bars.{Symbol, barSymbols, symbolAt}
 use Rattle.standard.specs.Tuplets.{usualNormal}
 use Rattle.standard.specs.Pitches.{Accidental, Written, isLetter, stepOf, letterOctave}
-use Rattle.reader.specs.Lengths.{lengthOf}
 use Rattle.reader.specs.Pieces.{numeral, before, after, pieces, mark, trimmed}
 use Rattle.reader.specs.Fields.{orFour, meterNumber, meterBottom, meterOr, meterText, meterOf, unitInline, middleWord}
-use Rattle.reader.specs.Pitches.{Octave, octaveFrom, octaveOf, Before, signs, accidentalOf, natural, quarterTone, moved, added, isQuarter, consPitch, chordOf}
+use Rattle.reader.specs.Pitches.{octaveFrom, octaveOf, Before, signs, accidentalOf, natural, quarterTone, moved, added, isQuarter, consPitch, chordOf}
 use Rattle.reader.specs.Token.{Token, quoted, decoration, skipped, Taken, taken}
 use Rattle.reader.specs.Tuplets.{notZero, positive, orOneLess, normalFor, counted, withCount, withNormal, withActual, tupletOf, orSlur}
 use Rattle.reader.specs.Barlines.{barlineAs, barlineOf}
 use Rattle.reader.specs.PassLists.{passNumber, single, range, itemOf, lastPass, inTurn, isPassByte, passList, voltaAs, voltaOf}
 use Rattle.reader.specs.Inline.{unitToken, keyToken, fieldToken, isInline, inlineAt}
-use Rattle.reader.specs.Sounds.{behind, chordTaken, chordAt, restAs, noteAs, noteAfter, noteOf}
+use Rattle.reader.specs.Sounds.{chordTaken, chordAt, restAs, noteAs, noteAfter, noteOf}
 use Rattle.reader.specs.Tokens.{closedBy, brokenOf, bracketOf, Class, white, ampersand, quote, more, less, paren, braceOpen, braceClose, bang, plus, bars, bracket, pitched, none-of-these, resting, classOf, tokenAs, tokenOf, tokens}
 use Rattle.bounds.specs.Ranges.{MeterFits, PassesFit, MarkFits, WrittenFits, TokenFits}
 
@@ -36,6 +35,7 @@ unfoldable pub Most : ℕ → Option ℕ → Type 0
 Most top none = Unit {0}
 Most top (some v) = v ≤ top
 
+-- in digits
 pub digits-most : (top : ℕ) (s : List ℕ) → Most top (digits top s)
 unfolding digits Most
 digits-most top s =
@@ -43,6 +43,7 @@ digits-most top s =
     (λ e. rw (e, digits) (leb-true (decimal 0 s) top (and-right (not (isNil s) && all isDigit s) (leb (decimal 0 s) top) e)))
     (λ e. rw (e, digits) tt)
 
+-- with a plus sign
 pub numeral-most : (top : ℕ) (s : List ℕ) → Most top (numeral top s)
 unfolding numeral
 numeral-most top s = by-test (is "+" (first s)) (λ e. rw (e, numeral) (digits-most top (drop 1 s))) (λ e. rw (e, numeral) (digits-most top s))
@@ -53,25 +54,30 @@ unfolding orFour Most
 four-most none h = lit< tt
 four-most (some v) h = omega arith
 
+-- top or bottom
 number-most : (s : List ℕ) → meterNumber s < 256
 unfolding meterNumber
 number-most s = four-most (numeral 255 (trimmed s)) (numeral-most 255 (trimmed s))
 
+-- the bottom
 bottom-most : (o : Option (List ℕ)) → meterBottom o < 256
 unfolding meterBottom
 bottom-most none = lit< tt
 bottom-most (some s) = number-most s
 
+-- a named meter, if it is one
 unfoldable NamedFits : Option Meter → Type 0
 NamedFits none = Unit {0}
 NamedFits (some m) = MeterFits m
 
+-- so it is
 named-fits : (m : List ℕ) → NamedFits (namedMeter m)
 unfolding namedMeter NamedFits
 named-fits m =
     by-test (eqText m (ascii "C")) (λ e. rw (e, namedMeter) (lit< tt, lit< tt))
     (λ e. rw (e, namedMeter) (by-test (eqText m (ascii "C|")) (λ f. rw f (lit< tt, lit< tt)) (λ f. rw f tt)))
 
+-- any meter
 or-fits : (m : List ℕ) (o : Option Meter) → NamedFits o → MeterFits (meterOr m o)
 unfolding meterOr NamedFits
 or-fits m (some t) h = h
@@ -95,11 +101,13 @@ ItemAbove low none = Unit {0}
 ItemAbove low (some (pass a)) = (low < a) × (a ≤ 32)
 ItemAbove low (some (passes a b)) = (low < a) × ((a < b) × (b ≤ 32))
 
+-- a pass
 single-above : (low : ℕ) (o : Option ℕ) → Most 32 o → ItemAbove low (single low o)
 unfolding single Most ItemAbove
 single-above low none h = tt
 single-above low (some a) h = by-test (ltb low a) (λ e. rw e (ltb-true low a e, h)) (λ e. rw e tt)
 
+-- a range
 range-above : (low : ℕ) (o q : Option ℕ) → Most 32 q → ItemAbove low (range low o q)
 unfolding range Most ItemAbove
 range-above low none q h = tt
@@ -109,6 +117,7 @@ range-above low (some a) (some b) h =
     (λ e. rw e (ltb-true low a (and-left (ltb low a) (ltb a b) e), (ltb-true a b (and-right (ltb low a) (ltb a b) e), h)))
     (λ e. rw e tt)
 
+-- any item
 item-above : (low : ℕ) (ps : List (List ℕ)) → ItemAbove low (itemOf low ps)
 unfolding itemOf ItemAbove
 item-above low [] = tt
@@ -124,10 +133,12 @@ rising-fits low a (suc n) qs h l f =
     let e : suc a + n ≡ a + suc n = omega arith in
     (h, (omega arith, rising-fits a (suc a) n qs (omega arith) (omega arith) (rw e f)))
 
+-- a list, if it is one
 unfoldable ListFits : ℕ → Option (List ℕ) → Type 0
 ListFits low none = Unit {0}
 ListFits low (some ps) = PassesFit low ps
 
+-- an item before the others
 turn-fits : (low : ℕ) (i : Option Item) (o : Option (List ℕ)) → ItemAbove low i → ListFits (lastPass low i) o → ListFits low (inTurn i o)
 unfolding inTurn ItemAbove ListFits lastPass passesOf PassesFit
 turn-fits low none o h f = tt
@@ -138,6 +149,7 @@ turn-fits low (some (passes a b)) (some qs) h f =
     let e : a + (b - a) ≡ b = omega (arith, h .1 .0) in
     rising-fits low a (b - a) qs (h .0) (omega (arith, h .1 .0, h .1 .1)) (rw e f)
 
+-- any list
 list-fits : (low : ℕ) (xs : List (List ℕ)) → ListFits low (passList low xs)
 unfolding passList ListFits PassesFit
 list-fits low [] = tt
@@ -151,21 +163,25 @@ unfolding notZero Most
 zero-most top none h = tt
 zero-most top (some v) h = by-test (eqb v 0) (λ e. rw e tt) (λ e. rw e h)
 
+-- a number that is not 0
 pub positive-most : (top : ℕ) (s : List ℕ) → Most top (positive top s)
 unfolding positive
 positive-most top s = zero-most top (digits top (take (span isDigit s) s)) (digits-most top (take (span isDigit s) s))
 
+-- the usual normal, or one less
 less-most : (p : ℕ) (o : Option ℕ) → p ≤ 255 → Most 255 o → orOneLess p o ≤ 255
 unfolding orOneLess Most
 less-most p none h k = omega arith
 less-most p (some q) h k = k
 
+-- the usual normals
 usual-most : (p : ℕ) → Most 255 (usualNormal p)
 unfolding usualNormal Most
 usual-most p =
     by-test (eqb p 2 || eqb p 4) (λ e. rw (e, usualNormal) (lit≤ tt))
     (λ e. rw (e, usualNormal) (by-test (eqb p 3) (λ f. rw f (lit≤ tt)) (λ f. rw f tt)))
 
+-- any default
 normal-most : (p : ℕ) → p ≤ 255 → normalFor p ≤ 255
 unfolding normalFor
 normal-most p h = less-most p (usualNormal p) h (usual-most p)
@@ -175,11 +191,13 @@ unfoldable TakenFits : Option Taken → Type 0
 TakenFits none = Unit {0}
 TakenFits (some t) = TokenFits (t .token)
 
+-- with its count
 counted-fits : (p q n : ℕ) (o : Option ℕ) → p ≤ 255 → q ≤ 255 → TakenFits (counted p q n o)
 unfolding counted TakenFits TokenFits
 counted-fits p q n none h k = tt
 counted-fits p q n (some r) h k = (omega arith, omega arith)
 
+-- up to its count
 count-fits : (p q n : ℕ) (s : List ℕ) → p ≤ 255 → q ≤ 255 → TakenFits (withCount p q n s)
 unfolding withCount TakenFits TokenFits
 count-fits p q n s h k =
@@ -187,11 +205,13 @@ count-fits p q n s h k =
     (λ e. rw (e, withCount) (counted-fits p q (n + 1 + span isDigit (drop 1 s)) (positive (2 ^ 64 - 1) (drop 1 s)) h k))
     (λ e. rw (e, withCount) (omega arith, omega arith))
 
+-- up to its normal
 normal-fits : (p n : ℕ) (s : List ℕ) (o : Option ℕ) → p ≤ 255 → Most 255 o → TakenFits (withNormal p n s o)
 unfolding withNormal TakenFits Most
 normal-fits p n s none h k = tt
 normal-fits p n s (some q) h k = count-fits p q (n + 1 + span isDigit (drop 1 s)) (drop (1 + span isDigit (drop 1 s)) s) h k
 
+-- up to its actual
 actual-fits : (n : ℕ) (s : List ℕ) (o : Option ℕ) → Most 255 o → TakenFits (withActual n s o)
 unfolding withActual TakenFits TokenFits Most
 actual-fits n s none h = tt
@@ -202,20 +222,24 @@ actual-fits n s (some p) h =
     (by-test (is ":" (first s)) (λ f. rw (f, withActual) (normal-fits p n s (positive 255 (drop 1 s)) h (positive-most 255 (drop 1 s))))
     (λ f. rw (f, withActual) (omega arith, omega (arith, normal-most p h)))))
 
+-- a slur start instead
 slur-fits : (o : Option Taken) → TakenFits o → TokenFits (orSlur o .token)
 unfolding orSlur TakenFits TokenFits
 slur-fits none h = tt
 slur-fits (some t) h = h
 
+-- a tuplet
 tuplet-fits : (s : List ℕ) → TokenFits (orSlur (tupletOf s) .token)
 unfolding tupletOf
 tuplet-fits s = slur-fits (tupletOf s) (actual-fits (1 + span isDigit s) (drop (span isDigit s) s) (positive 255 s) (positive-most 255 s))
 
 -- PITCHES
+-- a step is one of seven
 step-small : (c : ℕ) → stepOf c < 7
 unfolding stepOf
 step-small c = omega arith
 
+-- an octave that is not refused
 octave-small : (c : ℕ) (s : List ℕ) → octaveOf c s .fine ≡ true → octaveOf c s .octave < 256
 unfolding octaveOf octaveFrom
 octave-small c s e =
@@ -224,20 +248,24 @@ octave-small c s e =
     let up = span (is "'") (drop down s) in
     omega (arith, leb-true (start - down + up) 255 (and-right (leb down start) (leb (start - down + up) 255) e))
 
+-- a sign more
 moved-small : (up : Bool) (n a : ℕ) → a < 256 → moved up n a < 256
 moved-small true n a h = omega arith
 moved-small false n a h = omega arith
 
+-- a quarter tone
 quarter-fits : (up : Bool) → MarkFits (some (quarterTone up))
 unfolding MarkFits
 quarter-fits true = (lit< tt, lit< tt)
 quarter-fits false = (lit< tt, lit< tt)
 
+-- a run of signs
 signs-fit : (up : Bool) (n : ℕ) (s : List ℕ) → MarkFits (signs up n s .mark)
 unfolding signs MarkFits
 signs-fit up n s =
     by-test (eqb n 1 && is "/" (first (drop n s))) (λ e. rw (e, signs) (quarter-fits up)) (λ e. rw (e, signs) (moved-small up n 128 (lit< tt), lit< tt))
 
+-- an accidental before a note
 accidental-fits : (s : List ℕ) → MarkFits (accidentalOf s .mark)
 unfolding accidentalOf MarkFits
 accidental-fits s =
@@ -246,6 +274,7 @@ accidental-fits s =
     (by-test (is "_" (first s)) (λ f. rw (f, accidentalOf) (signs-fit false (span (is "_") s) s))
     (λ f. rw (f, accidentalOf) (by-test (is "=" (first s)) (λ g. rw g (lit< tt, lit< tt)) (λ g. rw g tt)))))
 
+-- signs that add up in a chord
 added-fits : (up : Bool) (a : Option Accidental) → MarkFits a → MarkFits (some (added up a))
 unfolding added MarkFits
 added-fits up none h = (moved-small up 1 128 (lit< tt), lit< tt)
@@ -256,6 +285,7 @@ unfoldable ChordFits : Option (List Written) → Type 0
 ChordFits none = Unit {0}
 ChordFits (some ws) = All WrittenFits ws
 
+-- one pitch before the others
 cons-fits : (c : ℕ) (a : Option Accidental) (s : List ℕ) (r : Option (List Written)) → MarkFits a → ChordFits r → ChordFits (consPitch c a (octaveOf c s) r)
 unfolding consPitch ChordFits
 cons-fits c a s none h k = tt
@@ -264,14 +294,17 @@ cons-fits c a s (some ws) h k =
     (λ e. rw (e, consPitch) (record { step-fits = step-small c; octave-fits = octave-small c s e; mark-fits = h }, k))
     (λ e. rw (e, consPitch) tt)
 
+-- no accidental
 no-mark : MarkFits none
 unfolding MarkFits
 no-mark = tt
 
+-- a natural
 natural-fits : MarkFits (some natural)
 unfolding MarkFits
 natural-fits = (lit< tt, lit< tt)
 
+-- all of them
 chord-fits : (k : ℕ) (a : Option Accidental) (s : List ℕ) → MarkFits a → ChordFits (chordOf k a s)
 unfolding chordOf ChordFits
 chord-fits k a [] h = tt
@@ -297,10 +330,12 @@ taken-fits n s none h = (lit≤ tt, lit≤ tt)
 taken-fits n s (some []) h = tt
 taken-fits n s (some (w ∷ ws)) h = h
 
+-- the same from its bracket on
 chordAt-fits : (s : List ℕ) → TokenFits (chordAt s .token)
 unfolding chordAt
 chordAt-fits s = let n = span (λ c. not (is "]" c)) s in taken-fits (cond (ltb n (length s)) (2 + n) (1 + n)) (drop (suc n) s) (chordOf 0 none s) (chord-fits 0 none s no-mark)
 
+-- a note from its letter on
 noteAs-fits : (a : Before) (c : ℕ) (s : List ℕ) → MarkFits (a .mark) → TokenFits (noteAs a c s .token)
 unfolding noteAs TokenFits
 noteAs-fits a c s h =
@@ -308,42 +343,51 @@ noteAs-fits a c s h =
     (λ e. rw (e, noteAs) (record { step-fits = step-small c; octave-fits = octave-small c s e; mark-fits = h }))
     (λ e. rw (e, noteAs) (lit≤ tt, lit≤ tt))
 
+-- a note behind its accidental
 noteAfter-fits : (a : Before) (r : List ℕ) → MarkFits (a .mark) → TokenFits (noteAfter a r .token)
 unfolding noteAfter TokenFits
 noteAfter-fits a [] h = tt
 noteAfter-fits a (c ∷ r) h = by-test (isLetter c) (λ e. rw (e, noteAfter) (noteAs-fits a c r h)) (λ e. rw (e, noteAfter) tt)
 
+-- a note
 note-fits : (s : List ℕ) → TokenFits (noteOf s .token)
 unfolding noteOf
 note-fits s = let a = accidentalOf s in noteAfter-fits a (drop (a .used) s) (accidental-fits s)
 
+-- a quote or decoration
 closed-fits : (x : ℕ → Bool) (t : Token) (s : List ℕ) (other : Taken) → TokenFits t → TokenFits (other .token) → TokenFits (closedBy x t s other .token)
 unfolding closedBy
 closed-fits x t s other g h = by-test (ltb (span (λ c. not (x c)) s) (length s)) (λ e. rw (e, closedBy) g) (λ e. rw (e, closedBy) h)
 
+-- a broken rhythm
 broken-fits : (up : Bool) (n : ℕ) (s : List ℕ) → TokenFits (brokenOf up n s .token)
 unfolding brokenOf TokenFits
 broken-fits up n s = by-test (ltb 255 n) (λ e. rw (e, brokenOf) (lit≤ tt, lit≤ tt)) (λ e. rw (e, brokenOf) (omega (arith, ltb-false 255 n e)))
 
+-- a barline
 barline-fits : (s : List ℕ) (o : Option Symbol) → TokenFits (barlineAs s o .token)
 unfolding barlineAs TokenFits
 barline-fits s none = tt
 barline-fits s (some x) = tt
 
+-- an ending
 volta-fits : (n : ℕ) (s : List ℕ) (o : Option (List ℕ)) → ListFits 0 o → TokenFits (voltaAs n s o .token)
 unfolding voltaAs ListFits TokenFits
 volta-fits n s none h = (lit≤ tt, lit≤ tt)
 volta-fits n s (some ps) h = h
 
+-- an inline L
 unit-fits : (o : Option ℕ) → TokenFits (unitToken o)
 unfolding unitToken TokenFits
 unit-fits none = tt
 unit-fits (some u) = tt
 
+-- an inline K
 key-fits : (s : List ℕ) → TokenFits (keyToken s)
 unfolding keyToken TokenFits
 key-fits s = by-test (middleWord s) (λ e. rw (e, keyToken) (lit≤ tt, lit≤ tt)) (λ e. rw (e, keyToken) tt)
 
+-- an inline field
 field-fits : (s : List ℕ) → TokenFits (fieldToken s)
 unfolding fieldToken TokenFits
 field-fits s =
@@ -355,6 +399,7 @@ field-fits s =
     (λ g. rw (g, fieldToken) (by-test (is "K" (first s)) (λ k. rw (k, fieldToken) (key-fits (drop 2 s))) (λ k. rw (k, fieldToken) tt)))))))
     (λ e. rw (e, fieldToken) tt)
 
+-- what a `[` begins
 bracket-fits : (s : List ℕ) → TokenFits (bracketOf s .token)
 unfolding bracketOf voltaOf inlineAt
 bracket-fits s =
@@ -365,6 +410,7 @@ bracket-fits s =
     (λ e. rw (e, bracketOf)
     (by-test (isInline s) (λ f. rw (f, bracketOf) (field-fits (take (span (λ c. not (is "]" c)) s) s))) (λ f. rw (f, bracketOf) (chordAt-fits s))))
 
+-- of any class
 as-fits : (k : Class) (s : List ℕ) → TokenFits (tokenAs k s .token)
 unfolding tokenAs restAs barlineOf TokenFits
 as-fits white s = tt

@@ -1,7 +1,7 @@
 -- WHAT A PART COSTS: so many bytes for each measure, note, pitch, accidental in force, syllable, byte of lyric text and item, and so many that
 -- each byte of the part's lines pays. The reading's sections and the tables of a scratch store are such prices; the laws hold for any that are covered.
-use Prim.Native.Nat.{ℕ, zero, suc, _+_, _*_, _≤_}
-use mathlib.Core.Bool.{Bool, true, false, cond}
+use Prim.Native.Nat.{ℕ, _+_, _*_, _≤_}
+use mathlib.Core.Bool.{cond}
 use mathlib.Core.Option.{Option, none, some}
 use mathlib.Core.List.{List, [], _∷_}
 use lib.ListN.{length}
@@ -14,6 +14,7 @@ use Rattle.reader.specs.State.{Note, Measure, PartState, isEmpty}
 use Rattle.reader.specs.Lyrics.{Syllable}
 use Rattle.reader.specs.Records.{measureWidth, noteWidth, pitchWidth, lyricWidth}
 
+-- the prices
 pub record Prices : Type 0 where
   pub measure : ℕ
   pub note : ℕ
@@ -43,23 +44,27 @@ sectionPrices =
 abbrev pub tablePrices : Prices
 tablePrices = record { measure = 32; note = 16; pitch = 8; accidental = 8; syllable = 20; text = 0; byte = 28; kept = 4 }
 
--- a row of the line table; what each byte of the text pays for both; what is left to a row's line feed
+-- a row of the line table
 abbrev pub rowPrice : ℕ
 rowPrice = 24
 
+-- what each byte of the text pays for the line table and one part's tables
 abbrev pub textPays : ℕ
 textPays = 32
 
+-- what is left to a row's line feed
 abbrev pub feedPays : ℕ
 feedPays = 20
 
--- one of each, to count it: so many of them for each byte
+-- ONE OF EACH, to count it. Notes
 abbrev pub notePrices : Prices
 notePrices = record { measure = 0; note = 1; pitch = 0; accidental = 0; syllable = 0; text = 0; byte = 1; kept = 0 }
 
+-- pitches
 abbrev pub pitchPrices : Prices
 pitchPrices = record { measure = 0; note = 0; pitch = 1; accidental = 0; syllable = 0; text = 0; byte = 1; kept = 0 }
 
+-- accidentals in force
 abbrev pub accidentalPrices : Prices
 accidentalPrices = record { measure = 0; note = 0; pitch = 0; accidental = 1; syllable = 0; text = 0; byte = 1; kept = 0 }
 
@@ -67,9 +72,11 @@ accidentalPrices = record { measure = 0; note = 0; pitch = 0; accidental = 1; sy
 abbrev pub measurePrices : Prices
 measurePrices = record { measure = 2; note = 0; pitch = 0; accidental = 0; syllable = 0; text = 0; byte = 1; kept = 1 }
 
+-- syllables
 abbrev pub syllablePrices : Prices
 syllablePrices = record { measure = 0; note = 0; pitch = 0; accidental = 0; syllable = 1; text = 0; byte = 1; kept = 0 }
 
+-- bytes of lyric text
 abbrev pub textPrices : Prices
 textPrices = record { measure = 0; note = 0; pitch = 0; accidental = 0; syllable = 0; text = 1; byte = 1; kept = 0 }
 
@@ -78,6 +85,7 @@ module _ (p : Prices) where
   unfoldable pub noteCost : Note → ℕ
   noteCost n = p .note + p .pitch * length (n .pitches)
 
+  -- a voice
   abbrev pub voiceCost : List Note → ℕ
   voiceCost ns = sum noteCost ns
 
@@ -85,6 +93,7 @@ module _ (p : Prices) where
   unfoldable pub measureCost : Measure → ℕ
   measureCost m = p .measure + sum voiceCost (m .voices)
 
+  -- all measures
   abbrev pub measuresCost : List Measure → ℕ
   measuresCost ms = sum measureCost ms
 
@@ -101,10 +110,11 @@ module _ (p : Prices) where
   unfoldable pub stateCost : PartState → ℕ
   stateCost s = measuresCost (s .measures) + keptBack (s .measures) + scopesCost (s .scopes)
 
-  -- A SYLLABLE with its text; all syllables, by note
+  -- A SYLLABLE with its text
   unfoldable pub syllableCost : Syllable → ℕ
   syllableCost y = p .syllable + p .text * length (y .text)
 
+  -- all syllables, by note
   abbrev pub wordsCost : List (List Syllable) → ℕ
   wordsCost ws = sum (sum syllableCost) ws
 
@@ -141,7 +151,7 @@ module _ (p : Prices) where
   tokenCost skipped = 0
   tokenCost (refused n) = 0
 
--- the bytes of an item's line that pay for music, and for lyrics
+-- the bytes of an item's line that pay for music
 unfoldable pub musicBytes : Item → ℕ
 musicBytes (born b) = 0
 musicBytes reset = 0
@@ -151,6 +161,7 @@ musicBytes (metered m) = 0
 musicBytes (sung b t) = 0
 musicBytes (played u m l) = length l
 
+-- and for lyrics
 unfoldable pub lyricBytes : Item → ℕ
 lyricBytes (born b) = 0
 lyricBytes reset = 0

@@ -126,6 +126,7 @@ pub record PartFits (p : Part) : Type 0 where
 abbrev pub FourBytes : ℕ → Type 0
 FourBytes n = n < 2 ^ 32
 
+-- the counts of a part
 pub record CountsFit (p : Part) : Type 0 where
   pub measures-count : FourBytes (length (p .measures))
   pub notes-count : FourBytes (length (notesOf p))

@@ -1,9 +1,9 @@
 -- Laws of the values of fields by position.
 use Prim.Native.Nat.{ℕ, _+_, _-_, _≤_, _<_}
 use mathlib.Core.Path.{_≡_, refl, sym, ap, _∙_}
-use mathlib.Core.Bool.{Bool, true, false, not, _&&_}
+use mathlib.Core.Bool.{true, false, not, _&&_}
 use mathlib.Core.Option.{Option, none, some}
-use mathlib.Core.List.{List, [], _∷_}
+use mathlib.Core.List.{List}
 use native.Mathlib.Nat.{add-zero}
 use native.Mathlib.Decide.{decLt}
 use native.Mathlib.Omega.{arith}
@@ -18,7 +18,7 @@ use Rattle.laws.proofs.Parts.{part-cut, getD-between, drop-between, between-non
 use Rattle.standard.specs.Bytes.{ascii, is, first, isDigit, decimal, digits}
 use Rattle.standard.specs.Fields.{namedMeter}
 use Rattle.reader.specs.Text.{isSpace}
-use Rattle.reader.specs.Pieces.{numeral, before, after, fieldWords, trimmed}
+use Rattle.reader.specs.Pieces.{numeral, after, fieldWords, trimmed}
 use Rattle.reader.specs.Fields.{orFour, meterNumber, meterBottom, meterOr, meterText, unitText, unitNumber, orEight, lineUnit, inlineUnit, middleWord, firstWord, identifier, meterOf, unitInline}
 use Rattle.reader.specs.Token.{meter, field}
 use Rattle.reader.specs.Inline.{unitToken, keyToken, fieldToken}

@@ -1,19 +1,17 @@
 -- Words passed one after the other are the key text passed; and a key text is trimmed.
-use Prim.Native.Nat.{ℕ, zero, suc, _+_, _-_, _≤_, _<_}
+use Prim.Native.Nat.{ℕ, _+_, _-_}
 use mathlib.Core.Path.{_≡_, refl, sym, ap, ap₂, _∙_}
-use mathlib.Core.Bool.{Bool, true, false, cond, not, _&&_, true≢false}
+use mathlib.Core.Bool.{Bool, true, false, not, true≢false}
 use mathlib.Core.List.{List, [], _∷_, _++_, map, append-nil}
-use lib.Dec.{eqb}
 use Rattle.laws.specs.Lists.{startsWith, foldl, all, All, keep, isNil}
 use Rattle.laws.proofs.Bools.{by-test, and-left, and-right, and-both}
 use Rattle.laws.proofs.Lists.{foldl-kept, All-keep, keep-passes}
 use Rattle.standard.specs.Bytes.{ascii, first, lower}
 use Rattle.reader.specs.Text.{isSpace, push}
 use Rattle.reader.specs.Pieces.{pieces, words, mark, fieldWords, trimStart, consTrim, trimEnd, trimmed}
-use Rattle.reader.specs.Keys.{isKeyWord, joined, keyText, keyIn, keyOf}
+use Rattle.reader.specs.Keys.{isKeyWord, joined, keyText, keyOf}
 use Rattle.words.specs.Words.{notSpace}
 use Rattle.words.proofs.Trims.{consTrim-word}
-use Rattle.tonics.specs.declared.Name.the-variants.{Empty}
 use Rattle.tonics.specs.Names.{withByte}
 use Rattle.keys.specs.declared.Passed.{Passed}
 use Rattle.keys.specs.Passed.{firstFound, passByte, passText, passWord, passKept, unpassed, keyBy}

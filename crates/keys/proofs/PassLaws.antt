@@ -1,23 +1,22 @@
 -- What is met in a text that is passed is what the definition finds in it; so the key is the definition's, for every trimmed text.
-use Prim.Native.Nat.{ℕ, zero, suc, _+_, _-_, _≤_, _<_}
+use Prim.Native.Nat.{ℕ, suc, _-_}
 use mathlib.Core.Path.{_≡_, refl, sym, ap, _∙_}
-use mathlib.Core.Bool.{Bool, true, false, cond, _&&_}
+use mathlib.Core.Bool.{Bool, true, false, cond}
 use mathlib.Core.Option.{Option, none, some}
 use mathlib.Core.List.{List, [], _∷_, map}
 use native.Mathlib.Omega.{arith}
 use lib.Dec.{eqb, leb}
-use lib.ListN.{length, getD, take}
+use lib.ListN.{length, take}
 use borrow.Author.Tests.{le-leb}
 use Rattle.laws.specs.Lists.{startsWith, foldl}
-use Rattle.laws.proofs.Bools.{by-test, and-no-left, and-no-right}
+use Rattle.laws.proofs.Bools.{by-test}
 use Rattle.standard.specs.Bytes.{ascii, is, first, last, lower, isCapital}
-use Rattle.standard.specs.Keys.{Key as StandardKey, tonic}
 use Rattle.reader.specs.Text.{isSpace}
 use Rattle.reader.specs.Pieces.{trimmed}
-use Rattle.reader.specs.Keys.{fifthsOf, named, consSome, beforeWord, endsInM, majorOf, minorOr, keyIn}
+use Rattle.reader.specs.Keys.{named, consSome, beforeWord, endsInM, majorOf, minorOr, keyIn}
 use Rattle.tonics.specs.declared.Name.{Name}
 use Rattle.tonics.specs.declared.Name.the-variants.{Empty}
-use Rattle.tonics.specs.Names.{withByte, nameOf, tonicIn, firstOf}
+use Rattle.tonics.specs.Names.{withByte, nameOf, firstOf}
 use Rattle.tonics.proofs.NameLaws.{name-tonic, name-first}
 use Rattle.keys.specs.declared.Found.{Found}
 use Rattle.keys.specs.declared.Found.the-variants.{Nothing, Named}

@@ -1,8 +1,7 @@
 -- The loops of `pass_word` and `parse_key`: what is left, after what was passed, gives what the whole gives.
 use Prim.Native.Nat.{ℕ, _+_, _-_, _≤_, _<_}
-use mathlib.Core.Path.{_≡_, refl, sym, ap, _∙_}
-use mathlib.Core.List.{List, [], _∷_, map}
-use native.Mathlib.Omega.{arith}
+use mathlib.Core.Path.{_≡_, sym, ap, _∙_}
+use mathlib.Core.List.{List, map}
 use lib.ListN.{length, getD}
 use Rattle.laws.specs.Lists.{startsWith, foldl}
 use Rattle.laws.specs.Bytes.{between}

@@ -3,7 +3,7 @@ use Prim.Native.Nat.{ℕ}
 use mathlib.Core.Bool.{Bool, true, false, cond}
 use mathlib.Core.List.{List, [], _∷_, map}
 use lib.Dec.{eqb}
-use Rattle.laws.specs.Lists.{startsWith, foldl}
+use Rattle.laws.specs.Lists.{startsWith}
 use Rattle.standard.specs.Bytes.{ascii, lower, isCapital}
 use Rattle.standard.specs.Keys.{Key as StandardKey}
 use Rattle.reader.specs.Keys.{fifthsOf, isKeyWord}

@@ -2,14 +2,12 @@
 // The key text is never built. Its bytes are passed one by one, word by word in the line, and what `parse_key` asks of the text is
 // known as a name each: before `min`, before a final m, before `maj`, and the whole text's.
 ghost use mathlib.Core.Path.{_≡_};
-ghost use mathlib.Core.Bool.{not, _&&_, _||_};
 ghost use mathlib.Core.List.{map};
 ghost use Prim.Native.Nat.{_≤_};
-ghost use lib.Dec.{leb};
 ghost use lib.ListN.{length};
 ghost use Rattle.laws.specs.Lists.{has};
 ghost use Rattle.laws.specs.Bytes.{between};
-ghost use Rattle.standard.specs.Bytes.{isCapital, lower};
+ghost use Rattle.standard.specs.Bytes.{lower};
 ghost use Rattle.reader.specs.Keys.{clefs, isKeyWord, keyOf};
 ghost use Rattle.keys.specs.Passed.{keyAs, firstFound, passByte, passWord, passKept, keyNamed, majorElse, endedElse, keyBy};
 use tonics::Name;

@@ -1,18 +1,18 @@
 -- Quotes, decorations and broken rhythm, by position.
 use Prim.Native.Nat.{ℕ, suc, _+_, _-_, _≤_, _<_}
-use mathlib.Core.Path.{_≡_, refl, sym, ap, _∙_}
-use mathlib.Core.Bool.{Bool, true, false, not}
+use mathlib.Core.Path.{_≡_, sym, ap, _∙_}
+use mathlib.Core.Bool.{Bool, not}
 use mathlib.Core.List.{List}
 use native.Mathlib.Omega.{arith}
-use lib.Dec.{ltb, eqb}
+use lib.Dec.{eqb}
 use lib.ListN.{length, drop, length-drop}
 use lib.Seq.{drop-drop}
 use borrow.Author.Tests.{lt-ltb, le-ltb}
 use Rattle.laws.specs.Lists.{span}
 use Rattle.laws.specs.Spans.{endOf, endIn}
-use Rattle.laws.proofs.Spans.{end-le, span-le}
+use Rattle.laws.proofs.Spans.{end-le}
 use Rattle.laws.proofs.Parts.{endIn-endOf}
-use Rattle.reader.specs.Token.{Token, broken, refused, Taken, taken}
+use Rattle.reader.specs.Token.{Token, Taken}
 use Rattle.reader.specs.Tokens.{closedBy, brokenOf}
 use Rattle.lexemes.specs.Lexemes.{lexemeFor, cutFor}
 use Rattle.lexemes.specs.declared.Lexeme.the-variants.{Broken, Refused}

@@ -1,5 +1,5 @@
-mod Closed
-mod Ratio
+pub mod Closed
+pub mod Ratio
 mod Bar
 mod Ending
 mod Sounding

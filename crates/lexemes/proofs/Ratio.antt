@@ -1,7 +1,6 @@
 -- Tuplets, or slur starts instead.
 use Prim.Native.Nat.{ℕ, _+_, _-_, _^_}
 use mathlib.Core.Path.{_≡_, refl, sym, ap, _∙_}
-use mathlib.Core.Bool.{Bool, true, false}
 use mathlib.Core.Option.{Option, none, some}
 use mathlib.Core.List.{List}
 use native.Mathlib.Omega.{arith}
@@ -22,11 +21,11 @@ use Rattle.lexemes.specs.Lexemes.{lexemeFor, cutFor}
 use Rattle.lexemes.specs.declared.Lexeme.the-variants as lexeme
 
 -- what is read, if anything is, is a tuplet
-record IsTuplet (t : Taken) : Type 0 where
-  of : standard.Tuplet
-  is-it : t .token ≡ tuplet of
+pub record IsTuplet (t : Taken) : Type 0 where
+  pub of : standard.Tuplet
+  pub is-it : t .token ≡ tuplet of
 
-unfoldable Form : Option Taken → Type 0
+unfoldable pub Form : Option Taken → Type 0
 Form none = Unit {0}
 Form (some t) = IsTuplet t
 
@@ -58,7 +57,7 @@ actual-form n s (some p) =
     (λ f. rw f (normal-form p n s (positive 255 (drop 1 s))))
     (λ f. rw f (record { of = record { actual = p; normal = normalFor p; count = p }; is-it = refl }))))
 
-form : (s : List ℕ) → Form (tupletOf s)
+pub form : (s : List ℕ) → Form (tupletOf s)
 unfolding tupletOf
 form s = actual-form (1 + span isDigit s) (drop (span isDigit s) s) (positive 255 s)
 

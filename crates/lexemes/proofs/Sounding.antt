@@ -1,18 +1,16 @@
 -- Notes, by position.
 use Prim.Native.Nat.{ℕ, suc, _+_, _-_, _≤_, _<_}
-use mathlib.Core.Path.{_≡_, refl, sym, ap, _∙_}
-use mathlib.Core.Bool.{Bool, true, false}
-use mathlib.Core.Option.{Option, none, some}
+use mathlib.Core.Path.{_≡_, sym, ap, _∙_}
+use mathlib.Core.Bool.{true, false}
 use mathlib.Core.List.{List, [], _∷_}
 use native.Mathlib.Omega.{arith}
 use lib.ListN.{length, getD, drop, length-drop, drop-of-length-le}
 use lib.Seq.{drop-drop}
 use Rattle.laws.proofs.Bools.{by-test}
-use Rattle.standard.specs.Pitches.{Accidental, isLetter, stepOf, letterOctave}
+use Rattle.standard.specs.Pitches.{isLetter, stepOf}
 use Rattle.standard.specs.Notes as standard
 use Rattle.reader.specs.Lengths.{Length, lengthOf}
-use Rattle.reader.specs.Pitches.{Octave, octaveFrom, octaveOf, Before, accidentalOf}
-use Rattle.reader.specs.Token.{Taken}
+use Rattle.reader.specs.Pitches.{octaveFrom, octaveOf, Before, accidentalOf}
 use Rattle.reader.specs.Sounds.{behind, noteAs, noteAfter, noteOf}
 use Rattle.reader.specs.Tokens.{pitched, tokenAs}
 use Rattle.lengths.specs.declared.Suffix.{Suffix}
@@ -20,7 +18,7 @@ use Rattle.lengths.specs.Values.{suffixAt}
 use Rattle.runs.proofs.Places.{drop-here}
 use Rattle.runs.specs.declared.Behind as runs
 use Rattle.runs.specs.Behind.{behindFor}
-use Rattle.pitches.specs.Pitches.{noteChar, markFor, markOf, pitchFor, beforeFor, octaveFor}
+use Rattle.pitches.specs.Pitches.{noteChar, markFor, markOf, beforeFor, octaveFor}
 use Rattle.pitches.specs.declared.Mark.{Mark}
 use Rattle.pitches.specs.declared.NoteChar.{NoteChar}
 use Rattle.pitches.specs.declared.Octave.the-variants.{At, Out}

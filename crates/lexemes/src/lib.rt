@@ -1,6 +1,5 @@
 // Tokens as they stand in a music line, each read by a function of its own: all but what a `[` begins with.
 ghost use mathlib.Core.Path.{_≡_};
-ghost use mathlib.Core.Bool.{Bool};
 ghost use Prim.Native.Nat.{suc, _+_, _<_};
 ghost use lib.Dec.{eqb};
 ghost use lib.ListN.{length, drop, getD};

@@ -1,19 +1,18 @@
 -- Tuplets, by position.
 use Prim.Native.Nat.{ℕ, _+_, _-_, _^_, _≤_, _<_}
 use mathlib.Core.Path.{_≡_, refl, sym, ap, _∙_}
-use mathlib.Core.Bool.{Bool, true, false, cond}
+use mathlib.Core.Bool.{true, false}
 use mathlib.Core.Option.{Option, none, some}
-use mathlib.Core.List.{List, [], _∷_}
+use mathlib.Core.List.{List}
 use native.Mathlib.Omega.{arith}
-use lib.Dec.{ltb, eqb}
-use lib.ListN.{length, getD, drop}
+use lib.Dec.{eqb}
+use lib.ListN.{getD, drop}
 use lib.Seq.{drop-drop}
 use borrow.Author.Tests.{lt-ltb, le-ltb, eq-eqb, ne-eqb}
 use Rattle.laws.specs.Lists.{span}
 use Rattle.laws.specs.Spans.{run, endOf}
 use Rattle.laws.proofs.Bools.{by-test}
 use Rattle.standard.specs.Bytes.{isDigit, first, digits}
-use Rattle.reader.specs.Token.{Taken}
 use Rattle.reader.specs.Tuplets.{notZero, positive, normalFor, tupletToken, counted, withCount, withNormal, withActual, tupletOf}
 use Rattle.numbers.specs.declared.Digits.{Digits}
 use Rattle.numbers.specs.declared.Digits.the-variants as digit
@@ -22,7 +21,6 @@ use Rattle.numbers.proofs.Numbers.{option-run}
 use Rattle.runs.proofs.Places.{first-at, digits-le}
 use Rattle.marks.specs.Tuplets.{numberFor, tupletIn, tupletFor}
 use Rattle.marks.specs.declared.Number.the-variants as number
-use Rattle.marks.specs.declared.Tuplet.{Tuplet}
 use Rattle.marks.specs.declared.Tuplet.the-variants.{Read, Nothing}
 
 -- NUMBERS

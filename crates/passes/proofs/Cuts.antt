@@ -1,15 +1,15 @@
 -- A run of bytes cut at its marks, by position: the first piece ends at the first mark, and what stands behind that is cut in the same way.
-use Prim.Native.Nat.{ℕ, zero, suc, _+_, _≤_, _<_}
-use mathlib.Core.Path.{_≡_, refl, sym, ap, ap₂, _∙_}
-use mathlib.Core.Bool.{Bool, true, false, cond, _||_}
+use Prim.Native.Nat.{ℕ, suc, _+_, _≤_, _<_}
+use mathlib.Core.Path.{_≡_, refl, sym, ap, _∙_}
+use mathlib.Core.Bool.{Bool, true, false, _||_}
 use mathlib.Core.List.{List, [], _∷_}
 use native.Mathlib.Omega.{arith}
-use lib.ListN.{length, getD, drop, drop-of-length-le, List·getD-eq-default}
+use lib.ListN.{length, getD, drop, drop-of-length-le}
 use lib.Seq.{drop-drop}
 use native.Mathlib.Decide.{decLt}
 use Rattle.laws.specs.Lists.{span}
 use Rattle.laws.specs.Spans.{run, endOf}
-use Rattle.laws.proofs.Bools.{by-test, or-no-left, or-no-right, both-true}
+use Rattle.laws.proofs.Bools.{by-test, both-true}
 use Rattle.laws.proofs.Spans.{span-yes, span-no, run-yes, run-no, run-within}
 use Rattle.reader.specs.Text.{push}
 use Rattle.reader.specs.Pieces.{pieces, mark}

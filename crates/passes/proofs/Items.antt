@@ -1,24 +1,21 @@
 -- Numbers and items of a pass list, by position.
 use Prim.Native.Nat.{ℕ, suc, _+_, _-_, _≤_, _<_}
-use mathlib.Core.Path.{_≡_, refl, sym, ap, ap₂, _∙_}
-use mathlib.Core.Bool.{Bool, true, false, cond, _&&_, _||_}
+use mathlib.Core.Path.{_≡_, refl, sym, ap, _∙_}
+use mathlib.Core.Bool.{true, false, _&&_}
 use mathlib.Core.Option.{Option, none, some}
 use mathlib.Core.List.{List, [], _∷_}
-use native.Mathlib.Nat.{sub-self}
 use native.Mathlib.Omega.{arith}
-use lib.Dec.{ltb, leb, eqb}
-use lib.ListN.{length, getD, drop}
-use borrow.Author.Tests.{lt-ltb, le-ltb, ltb-true, eq-eqb, ne-eqb, eqb-true, eqb-false}
-use Rattle.laws.specs.Lists.{span}
+use lib.Dec.{ltb, eqb}
+use lib.ListN.{getD, drop}
+use borrow.Author.Tests.{lt-ltb, le-ltb, ltb-true, eq-eqb, ne-eqb, eqb-true}
 use Rattle.laws.specs.Spans.{run, endOf}
-use Rattle.laws.proofs.Bools.{by-test, both-true, and-left, and-right, and-no-left, and-no-right, and-both}
+use Rattle.laws.proofs.Bools.{by-test, both-true, and-left, and-right, and-no-right}
 use Rattle.laws.proofs.Spans.{run-yes, run-no}
-use Rattle.standard.specs.Bytes.{is, isDigit, first, digits}
+use Rattle.standard.specs.Bytes.{is, isDigit, first}
 use Rattle.standard.specs.Passes.{Item, pass, passes, passesOf, rising}
 use Rattle.reader.specs.Pieces.{pieces, mark}
 use Rattle.reader.specs.PassLists.{passNumber, single, range, itemOf, lastPass}
 use Rattle.numbers.specs.declared.Digits.{Digits}
-use Rattle.numbers.specs.declared.Digits.the-variants as digit
 use Rattle.numbers.specs.Digits.{written, option}
 use Rattle.numbers.proofs.Numbers.{option-run}
 use Rattle.runs.proofs.Places.{first-at, digits-le}

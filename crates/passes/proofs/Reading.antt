@@ -1,24 +1,22 @@
 -- The loop of `parse_passes`.
-use Prim.Native.Nat.{ℕ, zero, suc, _+_, _-_, _^_, _≤_, _<_}
+use Prim.Native.Nat.{ℕ, suc, _+_, _-_, _^_, _≤_, _<_}
 use mathlib.Core.Path.{_≡_, refl, sym, ap, ap₂, _∙_}
-use mathlib.Core.Bool.{Bool, true, false, cond, _||_}
+use mathlib.Core.Bool.{Bool, true, false, _||_}
 use mathlib.Core.Option.{Option, none, some}
-use mathlib.Core.List.{List, [], _∷_, _++_, append-nil}
+use mathlib.Core.List.{List, [], _++_}
 use native.Mathlib.Nat.{add-zero, zero-add}
 use native.Mathlib.Omega.{arith}
 use lib.Dec.{eqb}
-use lib.ListN.{length, getD, drop}
+use lib.ListN.{getD}
 use lib.Pow.{pow-mono}
 use borrow.Author.Tests.{eq-eqb, ne-eqb, eqb-true}
-use Rattle.laws.specs.Spans.{run, endOf}
+use Rattle.laws.specs.Spans.{endOf}
 use Rattle.laws.proofs.Bools.{by-test}
-use Rattle.laws.proofs.Spans.{run-within, end-ge}
 use Rattle.standard.specs.Bytes.{is, isDigit}
 use Rattle.standard.specs.Passes.{Item, passesOf, rising}
-use Rattle.reader.specs.Pieces.{pieces, mark}
-use Rattle.reader.specs.PassLists.{itemOf, lastPass, inTurn, passList, isPassByte}
+use Rattle.reader.specs.PassLists.{lastPass, inTurn, passList, isPassByte}
 use Rattle.reader.specs.Records.{passBits}
-use Rattle.passes.specs.Passes.{isItemByte, itemAt, itemFor, passesAt, passesFor, firstFor}
+use Rattle.passes.specs.Passes.{isItemByte, itemAt, passesAt, passesFor, firstFor}
 use Rattle.passes.specs.declared.Passes.{Passes}
 use Rattle.passes.specs.declared.Passes.the-variants.{Read, Refused}
 use Rattle.passes.proofs.Cuts.{pieces-on, pieces-last, ends-on, ends-here}

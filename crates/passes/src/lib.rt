@@ -1,7 +1,7 @@
 // Pass lists of endings behind `[`: numbers 1 to 32 without leading zero, or a-b with a below b, strictly rising, commas between.
 ghost use mathlib.Core.Path.{_≡_};
 ghost use Prim.Native.Nat.{suc, _+_, _-_, _≤_, _<_};
-ghost use lib.ListN.{length, drop};
+ghost use lib.ListN.{drop};
 ghost use Rattle.laws.specs.Spans.{run, endOf};
 ghost use Rattle.standard.specs.Bytes.{isDigit};
 ghost use Rattle.standard.specs.Passes.{rising};

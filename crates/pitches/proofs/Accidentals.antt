@@ -1,18 +1,18 @@
 -- Accidentals before a note, by position.
-use Prim.Native.Nat.{ℕ, _+_, _-_, _≤_, _<_}
-use mathlib.Core.Path.{_≡_, refl, sym, ap, _∙_}
+use Prim.Native.Nat.{ℕ, _+_, _-_}
+use mathlib.Core.Path.{_≡_, sym, ap, _∙_}
 use mathlib.Core.Bool.{Bool, true, false, _&&_}
-use mathlib.Core.Option.{Option, none, some}
+use mathlib.Core.Option.{none, some}
 use mathlib.Core.List.{List}
 use native.Mathlib.Omega.{arith}
 use lib.Dec.{eqb}
-use lib.ListN.{length, getD, drop}
+use lib.ListN.{getD, drop}
 use borrow.Author.Tests.{eq-eqb, ne-eqb}
 use Rattle.laws.specs.Lists.{span}
 use Rattle.laws.specs.Spans.{endOf}
 use Rattle.laws.proofs.Bools.{and-no-left, and-no-right}
 use Rattle.standard.specs.Bytes.{is, first}
-use Rattle.reader.specs.Pitches.{Before, natural, quarterTone, moved, signs, accidentalOf}
+use Rattle.reader.specs.Pitches.{natural, quarterTone, moved, signs, accidentalOf}
 use Rattle.runs.proofs.Places.{first-at, first-on}
 use Rattle.pitches.specs.Pitches.{beforeFor, quarterFor}
 use Rattle.pitches.specs.declared.Mark.the-variants as mark

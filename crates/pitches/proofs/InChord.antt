@@ -1,16 +1,15 @@
 -- Signs and letters in a chord, by position.
 use Prim.Native.Nat.{ℕ, suc, _+_}
 use mathlib.Core.Path.{_≡_, refl, sym, ap, _∙_}
-use mathlib.Core.Bool.{Bool, true, false}
-use mathlib.Core.Option.{Option, none, some}
+use mathlib.Core.Bool.{Bool}
+use mathlib.Core.Option.{none, some}
 use mathlib.Core.List.{List}
 use native.Mathlib.Omega.{arith}
 use lib.ListN.{getD, drop}
 use borrow.Author.Tests.{eq-eqb, ne-eqb}
 use Rattle.laws.proofs.Bools.{by-test}
-use Rattle.standard.specs.Bytes.{is, first}
-use Rattle.standard.specs.Pitches.{Accidental, stepOf, letterOctave}
-use Rattle.reader.specs.Pitches.{added, isQuarter, quarterTone, moved, Octave, octaveFrom, octaveOf}
+use Rattle.standard.specs.Pitches.{stepOf}
+use Rattle.reader.specs.Pitches.{added, isQuarter, moved, octaveFrom, octaveOf}
 use Rattle.runs.proofs.Places.{first-at}
 use Rattle.pitches.specs.Pitches.{noteChar, quarterFor, beforeFor, octaveFor, markFor, markOf}
 use Rattle.pitches.specs.Chords.{signIn, letterMet, metFor}
@@ -18,7 +17,6 @@ use Rattle.pitches.specs.declared.Mark.{Mark}
 use Rattle.pitches.specs.declared.Mark.the-variants as mark
 use Rattle.pitches.specs.declared.NoteChar.{NoteChar}
 use Rattle.pitches.specs.declared.Octave.the-variants.{At, Out}
-use Rattle.pitches.specs.declared.Met as code
 use Rattle.pitches.specs.declared.Met.the-variants as met-as
 use Rattle.pitches.proofs.Octaves.{fine, refused}
 use Rattle.pitches.proofs.Walk.{sign-quarter, sign-plain, letter-fine, letter-out}

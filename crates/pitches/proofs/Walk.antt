@@ -6,7 +6,6 @@ use mathlib.Core.Option.{Option, none, some}
 use mathlib.Core.List.{List, [], _∷_}
 use native.Mathlib.Nat.{add-assoc, add-zero, zero-add}
 use native.Mathlib.Omega.{arith}
-use lib.Dec.{eqb}
 use lib.ListN.{length, getD, drop, drop-of-length-le}
 use lib.Seq.{drop-drop}
 use borrow.Author.Tests.{ne-eqb}
@@ -18,7 +17,6 @@ use Rattle.runs.proofs.Places.{drop-here}
 use Rattle.pitches.specs.Pitches.{markFor, markOf, pitchFor}
 use Rattle.pitches.specs.Chords.{Met, over, out, met, further, signIn, letterMet, pitchMet, metFor, chordFor}
 use Rattle.pitches.specs.declared.Pitch.{Pitch}
-use Rattle.pitches.specs.declared.Met as code
 use Rattle.pitches.specs.declared.Met.the-variants as met-as
 use Rattle.pitches.specs.declared.Chord.{Chord}
 use Rattle.pitches.specs.declared.Chord.the-variants.{Read, Refused}
@@ -237,6 +235,49 @@ takes a (c ∷ s) =
     (by-test (is "=" c)
     (λ g. rw g (further-takes (pitchMet 0 (some natural) s)))
     (λ g. rw g (by-test (isLetter c) (λ h. rw h (letter-takes c a (octaveOf c s))) (λ h. rw h (further-takes (pitchMet 0 a s)))))))))
+
+-- FOR A READER OF THE PITCHES: what `next_chord_pitch` answers at i, where the chord's pitches from i on are known
+pub record Next (line : List ℕ) (i : ℕ) (p : Written) (ps : List Written) : Type 0 where
+  pub next : ℕ
+  pub answer : metFor i (pitchMet 0 none (drop i line)) ≡ met-as.Pitch (pitchFor p) next
+  pub past : i < next
+  pub rest : chordOf 0 none (drop next line) ≡ some ps
+
+before-some : (w : Written) (o : Option (List Written)) (p : Written) (ps : List Written) → before w o ≡ some (p ∷ ps) → (w ≡ p) × (o ≡ some ps)
+unfolding before
+before-some w none p ps e = let z : _≡_ {A = ℕ} 0 1 = cc in absurd (omega arith)
+before-some w (some qs) p ps e = let a : w ≡ p = cc in let b : qs ≡ ps = cc in (a, ap some b)
+
+next-by : (line : List ℕ) (i : ℕ) (p : Written) (ps : List Written) (m : Met) → pitchMet 0 none (drop i line) ≡ m → Takes m → walked m (drop i line) ≡ some (p ∷ ps) → Next line i p ps
+unfolding walked metFor Takes
+next-by line i p ps over e t k = let z : _≡_ {A = ℕ} 0 1 = cc in absurd (omega arith)
+next-by line i p ps out e t k = let z : _≡_ {A = ℕ} 0 1 = cc in absurd (omega arith)
+next-by line i p ps (met w n) e t k =
+    let q = before-some w (chordOf 0 none (drop n (drop i line))) p ps k in
+    record {
+      next = i + n;
+      answer = ap (metFor i) e ∙ ap (λ x. met-as.Pitch (pitchFor x) (i + n)) (q .0);
+      past = omega arith;
+      rest = ap (chordOf 0 none) (sym (drop-drop n i line)) ∙ q .1;
+    }
+
+-- a pitch and others behind it
+pub next-pitch : (line : List ℕ) (i : ℕ) (p : Written) (ps : List Written) → chordOf 0 none (drop i line) ≡ some (p ∷ ps) → Next line i p ps
+next-pitch line i p ps e = next-by line i p ps (pitchMet 0 none (drop i line)) refl (takes none (drop i line)) (sym (chord-walk 0 none (drop i line)) ∙ e)
+
+over-by-list : (line : List ℕ) (i : ℕ) (m : Met) → walked m (drop i line) ≡ some [] → metFor i m ≡ met-as.Over
+unfolding walked metFor before
+over-by-list line i over k = refl
+over-by-list line i out k = let z : _≡_ {A = ℕ} 0 1 = cc in absurd (omega arith)
+over-by-list line i (met w n) k = no (chordOf 0 none (drop n (drop i line))) k
+  where
+    no : (o : Option (List Written)) → before w o ≡ some [] → metFor i (met w n) ≡ met-as.Over
+    no none q = let z : _≡_ {A = ℕ} 0 1 = cc in absurd (omega arith)
+    no (some qs) q = let z : _≡_ {A = ℕ} 0 1 = cc in absurd (omega arith)
+
+-- none
+pub no-pitch : (line : List ℕ) (i : ℕ) → chordOf 0 none (drop i line) ≡ some [] → metFor i (pitchMet 0 none (drop i line)) ≡ met-as.Over
+no-pitch line i e = over-by-list line i (pitchMet 0 none (drop i line)) (sym (chord-walk 0 none (drop i line)) ∙ e)
 
 -- the loop of `parse_abc_chord` at i, with `count` so far: each took a byte, and with those from i on they are the chord's
 pub record Counting (line : List ℕ) (at count i : ℕ) : Type 0 where

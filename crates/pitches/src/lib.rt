@@ -1,13 +1,13 @@
 // Pitches in a music line, as written: letters, accidentals, octave marks, chords. Signed numbers have 128 added.
 ghost use mathlib.Core.Path.{_≡_};
-ghost use mathlib.Core.Option.{Option, none};
+ghost use mathlib.Core.Option.{none};
 ghost use Prim.Native.Nat.{_+_, _<_, _≤_};
 ghost use lib.Dec.{eqb};
 ghost use lib.ListN.{length, drop, getD};
 ghost use Rattle.laws.specs.Lists.{span};
 ghost use Rattle.standard.specs.Pitches.{isLetter};
 ghost use Rattle.reader.specs.Pitches as written;
-ghost use Rattle.pitches.specs.Pitches.{noteChar, markFor, markOf, beforeFor, octaveFor, quarterFor};
+ghost use Rattle.pitches.specs.Pitches.{noteChar, markOf, beforeFor, octaveFor, quarterFor};
 ghost use Rattle.pitches.specs.Chords.{signIn, letterMet, pitchMet, metFor, closedAt, chordFor};
 
 // An accidental, or none.
@@ -289,7 +289,7 @@ pub fn parse_abc_chord(line: &[u8], at: usize, close: usize) -> Chord
 }
 
 // The position after a closing byte, or the line's end.
-pub fn past(line: &[u8], close: usize) -> usize
+fn past(line: &[u8], close: usize) -> usize
     requires { ⌜ close ≤ length (now line) ⌝ }
     ensures { λ r. ⌜ r ≡ closedAt (now (line .entry)) close ⌝ }
 {

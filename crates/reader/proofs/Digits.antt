@@ -1,19 +1,18 @@
 -- Texts of digits: how far they reach, what they write, and that nothing in them is white space or a mark.
-use Prim.Native.Nat.{ℕ, zero, suc, _+_, _≤_, _<_}
-use mathlib.Core.Path.{_≡_, refl, sym, ap, _∙_}
-use mathlib.Core.Bool.{Bool, true, false, cond, not, _&&_, false≢true}
-use mathlib.Core.Option.{Option, none, some}
+use Prim.Native.Nat.{ℕ, suc, _+_, _≤_, _<_}
+use mathlib.Core.Path.{_≡_, refl, ap, _∙_}
+use mathlib.Core.Bool.{Bool, true, false, not, false≢true}
+use mathlib.Core.Option.{some}
 use mathlib.Core.List.{List, [], _∷_, _++_}
 use native.Mathlib.Nat.{not-suc-le-zero}
 use native.Mathlib.Omega.{arith}
 use lib.Dec.{eqb, leb}
-use lib.ListN.{length, take, drop}
-use lib.Seq.{take-append-seam, drop-at}
+use lib.ListN.{length}
 use borrow.Author.Tests.{eqb-true, le-leb, lt-leb, leb-true}
-use Rattle.laws.specs.Lists.{all, span, isNil}
+use Rattle.laws.specs.Lists.{all, span}
 use Rattle.laws.proofs.Bools.{by-test, both-true, and-left, and-right, and-both, or-none, and-no-right, eqb-same}
-use Rattle.laws.proofs.Spans.{span-yes, span-no}
-use Rattle.standard.specs.Bytes.{is, isDigit, first, decimal, digits}
+use Rattle.laws.proofs.Spans.{span-yes}
+use Rattle.standard.specs.Bytes.{isDigit, decimal, digits}
 use Rattle.reader.specs.Text.{isSpace, within}
 use Rattle.reader.specs.Pieces.{numeral, before, after, pieces, mark, trimStart, consTrim, trimEnd, trimmed}
 
@@ -52,6 +51,7 @@ solid-end (c ∷ []) a = by-test (isSpace c) (λ e. absurd (false≢true (rw e a
 solid-end (c ∷ d ∷ s) a =
     ap (consTrim c) (solid-end (d ∷ s) (and-right (not (isSpace c)) (all (λ c. not (isSpace c)) (d ∷ s)) a))
 
+-- at neither end
 pub solid-trimmed : (s : List ℕ) → all (λ c. not (isSpace c)) s ≡ true → trimmed s ≡ s
 unfolding trimmed trimStart
 solid-trimmed [] a = solid-end [] a
@@ -64,6 +64,7 @@ digits-solid (c ∷ d) a = rw (digit-solid c (and-left (isDigit c) (all isDigit 
 
 -- BEFORE AND AFTER A MARK that is no digit
 module _ (x : ℕ) (n : isDigit x ≡ false) where
+  -- the byte is the mark
   abbrev at : ℕ → Bool
   at c = eqb c x
 

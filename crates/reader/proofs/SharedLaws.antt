@@ -1,6 +1,6 @@
 -- What the scan of the whole text keeps for all parts is what a part's own line has at its end: one L and one M for both (000's `unit_den` and `time`).
 use Prim.Native.Nat.{ℕ}
-use mathlib.Core.Path.{_≡_, refl, sym, ap, _∙_}
+use mathlib.Core.Path.{_≡_, refl, ap, _∙_}
 use mathlib.Core.Bool.{Bool}
 use mathlib.Core.List.{List, [], _∷_, map}
 use Rattle.laws.specs.Lists.{foldl}

@@ -1,15 +1,16 @@
 -- Every measure of a part has four voices, so a part's five sections have a length that its five counts give.
-use Prim.Native.Nat.{ℕ, zero, suc, _+_, _*_, _≤_}
-use mathlib.Core.Path.{_≡_, refl, sym, ap, ap₂, _∙_}
+use Prim.Native.Nat.{ℕ, _+_, _*_}
+use mathlib.Core.Path.{_≡_, refl, ap, _∙_}
 use mathlib.Core.Bool.{Bool, true, false, cond}
 use mathlib.Core.Option.{Option, none, some}
 use mathlib.Core.List.{List, [], _∷_, _++_, map, reverse, reverseAux}
 use native.Mathlib.Nat.{mul-suc}
 use native.Mathlib.Omega.{arith}
 use lib.ListN.{length, length-map, length-append}
-use Rattle.laws.specs.Lists.{foldl, All, cat}
-use Rattle.laws.specs.Bytes.{little}
+use Rattle.laws.specs.Lists.{foldl, All, any, cat, sum}
+use Rattle.laws.specs.Bytes.{little, le32}
 use Rattle.laws.proofs.Bools.{by-test}
+use Rattle.laws.proofs.Numbers.{length-little}
 use Rattle.laws.proofs.Lists.{foldl-holds, length-alterAt, All-onFirst, All-every}
 use Rattle.standard.specs.Keys.{Key}
 use Rattle.standard.specs.Bars.{Barline, normal, repeatStart, repeatEnd, repeatBoth, double, final}
@@ -18,11 +19,12 @@ use Rattle.standard.specs.Fields.{Meter}
 use Rattle.reader.specs.Token.{Token, space, overlay, quoted, broken, tuplet, slur, graceOpen, graceClose, decoration, barline, volta, unit, meter, key, field, chord, rest, note, nothing, skipped, refused}
 use Rattle.reader.specs.Tokens.{tokens}
 use Rattle.reader.specs.Barlines.{leftOf}
-use Rattle.reader.specs.Scan.{Item, born, reset, headed, keyed, metered, sung, played}
-use Rattle.reader.specs.State.{PartState, Note, Measure, onOpen, setVoice, voiceNow, isEmpty, newMeasure, newPart, withLeft, withRight}
+use Rattle.reader.specs.Scan.{Env, Item, born, reset, headed, keyed, metered, sung, played}
+use Rattle.reader.specs.State.{PartState, Note, Measure, onOpen, setVoice, voiceNow, isEmpty, newMeasure, newPart, withRight}
 use Rattle.reader.specs.Voltas.{starts, endsAt, close, closed}
 use Rattle.reader.specs.Lyrics.{Syllable}
-use Rattle.reader.specs.Part.{Part, onBroken, onNothing, append, onSound, leftSet, ended, onBarline, hears, onToken, opened, lineBegins, onLine, onLyric, onKey, onItem, dropped, inOrder, markedBy, marked, finished, build}
+use Rattle.reader.specs.Answer.{isMusic, built, partBytes, encode}
+use Rattle.reader.specs.Part.{Part, emptyPart, onBroken, onNothing, append, onSound, leftSet, ended, onBarline, hears, onToken, opened, lineBegins, onLine, onLyric, onKey, onItem, dropped, inOrder, markedBy, marked, finished, build}
 use Rattle.reader.specs.Records.{measureWidth, noteWidth, pitchWidth, lyricWidth, section, sections, notesOf, pitchesOf, lyrics, lyricText, noteCounts, markBytes, measureBytes, noteBytes, pitchBytes, lyricBytes, signed16}
 
 -- a measure with four voices
@@ -264,3 +266,20 @@ sections-length p h =
     (section-length (λ x. Unit {0}) pitchBytes pitchWidth pitch-bytes (pitchesOf p) (All-every _ (λ x. tt) (pitchesOf p)))
     (section-length (λ x. Unit {0}) fy lyricWidth lyric-bytes (lyrics p) (All-every _ (λ x. tt) (lyrics p)))
     (omega (arith, t))
+
+-- THE LENGTH OF A READING
+-- of its parts, one after the other
+pub parts-length : (ps : List Part) → length (partBytes ps) ≡ sum (λ (p : Part). length (sections p)) ps
+unfolding partBytes
+parts-length [] = refl
+parts-length (p ∷ ps) = length-append (sections p) (partBytes ps) ∙ ap (λ (n : ℕ). length (sections p) + n) (parts-length ps)
+
+-- with the count of parts
+pub encode-length : (ps : List Part) → length (encode ps) ≡ 4 + sum (λ (p : Part). length (sections p)) ps
+unfolding encode
+encode-length ps = omega (arith, length-append (le32 (length ps)) (partBytes ps), length-little 4 (length ps), parts-length ps)
+
+-- every part of a reading has measures of four voices
+pub built-fours : (e : Env) (is : List Item) → Fours (built e is .measures)
+unfolding built emptyPart
+built-fours e is = by-test (any isMusic is) (λ m. rw m (four-voices (e .headerKey) is)) (λ m. rw m tt)

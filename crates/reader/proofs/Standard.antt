@@ -1,40 +1,40 @@
 -- WHERE THE READER AND THE STANDARD AGREE: on the inputs that each law states, the reader's definition gives what crate standard says.
 -- That ticks are 1024ths of a whole note is `ticks-fraction` (ValueLaws).
-use Prim.Native.Nat.{ℕ, zero, suc, _+_, _-_, _*_, _^_, _≤_, _<_, min, zero-le}
+use Prim.Native.Nat.{ℕ, zero, suc, _+_, _-_, _*_, _^_, _≤_, _<_, min}
 use mathlib.Core.Path.{_≡_, refl, sym, ap, _∙_}
-use mathlib.Core.Bool.{Bool, true, false, cond, not, _&&_, _||_, false≢true}
+use mathlib.Core.Bool.{Bool, true, false, not, _||_}
 use mathlib.Core.Option.{Option, none, some}
 use mathlib.Core.List.{List, [], _∷_, _++_, map, reverse, reverseAux, append-nil, nil≢cons, tail-eq-of-cons-eq}
 use native.Mathlib.Nat.{add-zero, not-suc-le-zero}
 use native.Mathlib.Omega.{arith}
-use lib.Dec.{eqb, leb, ltb}
-use lib.ListN.{length, take, drop, replicate, length-replicate}
+use lib.Dec.{eqb, ltb}
+use lib.ListN.{length, drop, replicate, length-replicate}
 use lib.Seq.{take-append-seam, drop-at}
-use borrow.Author.Tests.{eqb-true, le-leb, le-ltb, lt-ltb, ne-eqb, ltb-false}
-use Rattle.laws.specs.Lists.{foldl, All, all, allBelow, span, eqText, onFirst}
+use borrow.Author.Tests.{eqb-true, le-leb, le-ltb, lt-ltb, ne-eqb}
+use Rattle.laws.specs.Lists.{foldl, All, all, allBelow, span, eqText}
 use Rattle.laws.proofs.Bools.{by-test, both-true, and-left, and-right, and-both, eqb-sym}
 use Rattle.laws.proofs.Finite.{below, below₂}
 use Rattle.laws.proofs.Lists.{eqText-true, foldl-append}
-use Rattle.laws.proofs.Spans.{span-yes, span-no}
-use Rattle.standard.specs.Bytes.{ascii, is, isDigit, first, decimal, digits}
-use Rattle.standard.specs.Pitches.{Accidental, isLetter, octaveMark, octaveBy, alterOf, stepOf}
-use Rattle.standard.specs.Keys.{Key, keyAlter}
-use Rattle.standard.specs.Bars.{Barline, normal, repeatStart, repeatEnd, repeatBoth, double, final, symbolAt}
+use Rattle.laws.proofs.Spans.{span-no}
+use Rattle.standard.specs.Bytes.{ascii, is, isDigit, first, decimal}
+use Rattle.standard.specs.Pitches.{isLetter, octaveMark, octaveBy, alterOf, stepOf}
+use Rattle.standard.specs.Keys.{keyAlter}
+use Rattle.standard.specs.Bars.{normal, repeatStart, repeatEnd, repeatBoth, double, final, symbolAt}
 use Rattle.standard.specs.Tuplets.{usualNormal}
-use Rattle.standard.specs.Passes.{Item, pass, passes, passesOf}
-use Rattle.standard.specs.Lengths.{Value, ticks, dotted, halved}
+use Rattle.standard.specs.Passes.{pass, passes, passesOf}
+use Rattle.standard.specs.Lengths.{ticks, dotted, halved}
 use Rattle.standard.specs.Notes
 use Rattle.standard.specs.Notes.{Beam, beams}
 use Rattle.standard.specs.Fields.{namedMeter}
 use Rattle.reader.specs.Text.{isSpace}
 use Rattle.reader.specs.Pieces.{pieces, mark, after}
 use Rattle.reader.specs.Fields.{meterOf, meterText, meterOr, meterNumber, meterBottom, orFour, unitOf, unitInline, unitText, unitNumber, lineUnit, inlineUnit, orEight}
-use Rattle.reader.specs.Pitches.{Octave, octaveFrom, Before, accidentalOf, signs}
-use Rattle.reader.specs.Token.{Taken, taken, barline, tuplet}
+use Rattle.reader.specs.Pitches.{octaveFrom, Before, accidentalOf, signs}
+use Rattle.reader.specs.Token.{taken, barline, tuplet, volta}
 use Rattle.reader.specs.Tuplets.{notZero, positive, normalFor, orOneLess, counted, withCount, withNormal, withActual, tupletOf}
 use Rattle.reader.specs.Barlines.{barlineOf}
-use Rattle.reader.specs.PassLists.{passNumber, itemOf, single, range, lastPass, inTurn, passList}
-use Rattle.reader.specs.State.{Note, withBeam}
+use Rattle.reader.specs.PassLists.{passNumber, itemOf, single, range, inTurn, passList, isPassByte, voltaAs, voltaOf}
+use Rattle.reader.specs.State.{Note}
 use Rattle.reader.specs.Part.{canBeam, beamed, runAfter}
 use Rattle.reader.specs.All.{all as everything}
 use Rattle.reader.proofs.ValueLaws.{written}
@@ -46,15 +46,18 @@ unfolding octaveBy octaveMark
 marks-down zero o = omega arith
 marks-down (suc m) o = omega (arith, marks-down m (o - 1))
 
+-- apostrophes go up
 marks-up : (n o : ℕ) → octaveBy o (replicate n 39) ≡ o + n
 unfolding octaveBy octaveMark
 marks-up zero o = omega arith
 marks-up (suc n) o = omega (arith, marks-up n (o + 1))
 
+-- commas, then apostrophes
 marks-both : (m n o : ℕ) → octaveBy o (replicate m 44 ++ replicate n 39) ≡ o - m + n
 unfolding octaveBy
 marks-both m n o = foldl-append octaveMark o (replicate m 44) (replicate n 39) ∙ ap (λ (x : ℕ). octaveBy x (replicate n 39)) (marks-down m o) ∙ marks-up n (o - m)
 
+-- equal bytes pass together
 all-same : (p : ℕ → Bool) (x n : ℕ) → p x ≡ true → all p (replicate n x) ≡ true
 all-same p x zero h = refl
 all-same p x (suc n) h = and-both (p x) (all p (replicate n x)) h (all-same p x n h)
@@ -79,25 +82,31 @@ octave-meets start m n s low high c a =
 letter-not : (c x : ℕ) → isLetter c ≡ true → isLetter x ≡ false → eqb c x ≡ false
 letter-not c x d n = by-test (eqb c x) (λ e. absurd (both-true (isLetter x) (rw (eqb-true c x e) at d) n)) (λ e. e)
 
+-- an answer is what it holds
 some-same : (x y : ℕ) → some x ≡ some y → x ≡ y
 some-same x y e = ap (λ (o : Option ℕ). elim o as (λ _. ℕ) [ none ↦ 0 | some v ↦ v ]) e
 
+-- `^`
 sharp-meets : (c : ℕ) (s : List ℕ) → isLetter c ≡ true → accidentalOf (94 ∷ c ∷ s) ≡ record { mark = some (record { alter = 129; cents = 128 }); used = 1 }
 unfolding accidentalOf signs
 sharp-meets c s l = rw (span-no (is "^") c s (letter-not c 94 l refl)) (rw (letter-not c 47 l refl, signs))
 
+-- `^^`
 double-sharp-meets : (c : ℕ) (s : List ℕ) → isLetter c ≡ true → accidentalOf (94 ∷ 94 ∷ c ∷ s) ≡ record { mark = some (record { alter = 130; cents = 128 }); used = 2 }
 unfolding accidentalOf signs
 double-sharp-meets c s l = rw (span-no (is "^") c s (letter-not c 94 l refl)) refl
 
+-- `_`
 flat-meets : (c : ℕ) (s : List ℕ) → isLetter c ≡ true → accidentalOf (95 ∷ c ∷ s) ≡ record { mark = some (record { alter = 127; cents = 128 }); used = 1 }
 unfolding accidentalOf signs
 flat-meets c s l = rw (span-no (is "_") c s (letter-not c 95 l refl)) (rw (letter-not c 47 l refl, signs))
 
+-- `__`
 double-flat-meets : (c : ℕ) (s : List ℕ) → isLetter c ≡ true → accidentalOf (95 ∷ 95 ∷ c ∷ s) ≡ record { mark = some (record { alter = 126; cents = 128 }); used = 2 }
 unfolding accidentalOf signs
 double-flat-meets c s l = rw (span-no (is "_") c s (letter-not c 95 l refl)) refl
 
+-- `=`
 natural-meets : (c : ℕ) (s : List ℕ) → accidentalOf (61 ∷ c ∷ s) ≡ record { mark = some (record { alter = 128; cents = 128 }); used = 1 }
 unfolding accidentalOf
 natural-meets c s = refl
@@ -112,10 +121,12 @@ this-sign given sign v a t k m e h =
     let q : v ≡ a = some-same v a (sym k ∙ ap alterOf (sym e) ∙ h) in
     rw (e, ← q) m
 
+-- no other sign has an alteration
 no-sign : (sign : List ℕ) → eqText sign (ascii "=") ≡ false → eqText sign (ascii "^") ≡ false → eqText sign (ascii "^^") ≡ false → eqText sign (ascii "_") ≡ false → eqText sign (ascii "__") ≡ false → alterOf sign ≡ none
 unfolding alterOf
 no-sign sign a b c d e = rw (a, alterOf) (rw (b, alterOf) (rw (c, alterOf) (rw (d, alterOf) (rw e))))
 
+-- nothing is no answer
 none-some : (a : ℕ) → none ≡ some a → ⊥
 none-some a e = absurd (let z : _≡_ {A = ℕ} 0 1 = ap (λ (o : Option ℕ). elim o as (λ _. ℕ) [ none ↦ 0 | some v ↦ 1 ]) e in omega (arith, z))
 
@@ -136,18 +147,22 @@ pub repeat-start-meets : (s : List ℕ) → barlineOf (ascii "|:" ++ s) ≡ take
 unfolding everything
 repeat-start-meets s = refl
 
+-- `||`
 pub double-meets : (s : List ℕ) → barlineOf (ascii "||" ++ s) ≡ taken (barline double (not (is "]" (first s)))) 2
 unfolding everything
 double-meets s = refl
 
+-- `|]`
 pub final-meets : (s : List ℕ) → barlineOf (ascii "|]" ++ s) ≡ taken (barline final (not (is "]" (first s)))) 2
 unfolding everything
 final-meets s = refl
 
+-- `:|`
 pub repeat-end-meets : (s : List ℕ) → barlineOf (ascii ":|" ++ s) ≡ taken (barline repeatEnd (not (is "]" (first s)))) 2
 unfolding everything
 repeat-end-meets s = refl
 
+-- `::`
 pub repeat-both-meets : (s : List ℕ) → barlineOf (ascii "::" ++ s) ≡ taken (barline repeatBoth (not (is "]" (first s)))) 2
 unfolding everything
 repeat-both-meets s = refl
@@ -209,14 +224,48 @@ range-meets d e nd ne ad ae zd ze low less high =
     rw (pieces-two 45 refl d e ad, pieces-digits 45 refl e ae, pass-meets d nd ad zd (omega arith), pass-meets e ne ae ze high, lt-ltb 0 (decimal 0 d) low, lt-ltb (decimal 0 d) (decimal 0 e) less)
     (ap some (append-nil (passesOf (passes (decimal 0 d) (decimal 0 e)))))
 
+-- a digit is a pass byte
+digit-pass : (d : List ℕ) → all isDigit d ≡ true → all isPassByte d ≡ true
+digit-pass [] a = refl
+digit-pass (c ∷ d) a = rw (and-left (isDigit c) (all isDigit d) a) (digit-pass d (and-right (isDigit c) (all isDigit d) a))
+
+-- in a music line: `[` and a number, before what is no pass byte
+pub ending-meets : (d s : List ℕ) → 0 < length d → all isDigit d ≡ true → is "0" (first d) ≡ false → 1 ≤ decimal 0 d → decimal 0 d ≤ 32 → span isPassByte s ≡ 0
+    → voltaOf (d ++ s) ≡ taken (volta (passesOf (pass (decimal 0 d)))) (suc (length d))
+unfolding voltaOf voltaAs
+ending-meets d s n a z low high r =
+    rw (span-front isPassByte d s (digit-pass d a) r, take-append-seam d s, pieces-digits 44 refl d a, single-meets d n a z low high)
+
+-- so are two numbers and a hyphen
+range-bytes : (d e : List ℕ) → all isDigit d ≡ true → all isDigit e ≡ true → all isPassByte (d ++ (45 ∷ e)) ≡ true
+range-bytes [] e a b = digit-pass e b
+range-bytes (c ∷ d) e a b = rw (and-left (isDigit c) (all isDigit d) a) (range-bytes d e (and-right (isDigit c) (all isDigit d) a) b)
+
+-- and they are one piece
+range-piece : (d e : List ℕ) → all isDigit d ≡ true → all isDigit e ≡ true → pieces (mark (is ",")) 0 (d ++ (45 ∷ e)) ≡ (d ++ (45 ∷ e)) ∷ []
+unfolding pieces
+range-piece [] e a b = rw (pieces-digits 44 refl e b)
+range-piece (c ∷ d) e a b = rw (digit-not c 44 (and-left (isDigit c) (all isDigit d) a) refl, pieces) (rw (range-piece d e (and-right (isDigit c) (all isDigit d) a) b))
+
+-- `[` and two numbers around a hyphen
+pub endings-meet : (d e s : List ℕ) → 0 < length d → 0 < length e → all isDigit d ≡ true → all isDigit e ≡ true → is "0" (first d) ≡ false → is "0" (first e) ≡ false
+    → 1 ≤ decimal 0 d → decimal 0 d < decimal 0 e → decimal 0 e ≤ 32 → span isPassByte s ≡ 0
+    → voltaOf ((d ++ (45 ∷ e)) ++ s) ≡ taken (volta (passesOf (passes (decimal 0 d) (decimal 0 e)))) (suc (length (d ++ (45 ∷ e))))
+unfolding voltaOf voltaAs
+endings-meet d e s nd ne ad ae zd ze low less high r =
+    let t : List ℕ = d ++ (45 ∷ e) in
+    rw (span-front isPassByte t s (range-bytes d e ad ae) r, take-append-seam t s, range-piece d e ad ae, range-meets d e nd ne ad ae zd ze low less high)
+
 -- BROKEN RHYTHM: two notes of equal length without dots keep their sum, where neither dots nor halving come to their end
 sums : ℕ → ℕ → Bool
 sums v n = ltb 9 (v + n) || eqb (ticks (dotted n (written v 0)) + ticks (halved n (written v 0))) (2 * ticks (written v 0))
 
+-- computed at each value and each number of dots
 sums-all : allBelow 10 (λ v. allBelow 4 (sums v)) ≡ true
 unfolding sums ticks dotted halved
 sums-all = refl
 
+-- the dotted note and the halved one are as long as the two were
 pub broken-sum : (v n : ℕ) → n ≤ 3 → v + n ≤ 9 → ticks (dotted n (written v 0)) + ticks (halved n (written v 0)) ≡ 2 * ticks (written v 0)
 unfolding sums
 broken-sum v n h l =
@@ -235,13 +284,16 @@ broken-ticks v n h l =
 abbrev pub sharpOrder : List ℕ
 sharpOrder = map stepOf (ascii "FCGDAEB")
 
+-- that of flats
 abbrev pub flatOrder : List ℕ
 flatOrder = map stepOf (ascii "BEADGCF")
 
+-- computed at each number of sharps
 sharps-all : (m : Bool) → allBelow 8 (λ f. eqText (map (keyAlter (record { fifths = 128 + f; minor = m })) sharpOrder) (replicate f 129 ++ replicate (7 - f) 128)) ≡ true
 unfolding everything
 sharps-all m = refl
 
+-- computed at each number of flats
 flats-all : (m : Bool) → allBelow 8 (λ f. eqText (map (keyAlter (record { fifths = 128 - f; minor = m })) flatOrder) (replicate f 127 ++ replicate (7 - f) 128)) ≡ true
 unfolding everything
 flats-all m = refl
@@ -259,6 +311,7 @@ flats-meet f m h = eqText-true _ _ (below 8 (λ f. eqText (map (keyAlter (record
 abbrev Beaming : Type 0
 Beaming = ℕ × List Note
 
+-- one note more
 abbrev pub beamOn : Beaming → Note → Beaming
 beamOn r n = (runAfter (r .0) n, beamed (r .0) n (r .1))
 
@@ -272,6 +325,7 @@ lastFirst (suc (suc n)) = Notes.ends ∷ (replicate n Notes.continues ++ (Notes.
 abbrev pub New : Note → Type 0
 New n = (canBeam n ≡ true) × (n .beam ≡ Notes.unbeamed)
 
+-- the beams of the notes
 abbrev beamsOf : List Note → List Beam
 beamsOf ns = map (λ (n : Note). n .beam) ns
 
@@ -286,6 +340,7 @@ next-beam (suc zero) (n ∷ ns) x h e = rw (h .0, beamed) (ap (λ (t : List Beam
 next-beam (suc (suc r)) (n ∷ ns) x h e =
     rw (h .0, beamed) (rw (ne-eqb (suc r) 0 (λ z. absurd (omega (arith, z)))) (ap (λ (t : List Beam). Notes.ends ∷ (Notes.continues ∷ t)) (tail-eq-of-cons-eq e)))
 
+-- the run is one longer
 next-run : (r : ℕ) (x : Note) → New x → runAfter r x ≡ suc r
 unfolding runAfter
 next-run r x h = rw (h .0)

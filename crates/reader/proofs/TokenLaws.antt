@@ -15,7 +15,7 @@ use Rattle.standard.specs.Bytes.{is, isDigit, first}
 use Rattle.standard.specs.Bars.{Symbol, barSymbols, symbolAt}
 use Rattle.standard.specs.Pitches.{Written, isLetter}
 use Rattle.reader.specs.Pieces.{pieces, mark}
-use Rattle.reader.specs.Pitches.{Octave, octaveOf, Before, accidentalOf, chordOf}
+use Rattle.reader.specs.Pitches.{octaveOf, Before, accidentalOf, chordOf}
 use Rattle.reader.specs.Token.{Token, Taken}
 use Rattle.reader.specs.Tuplets.{positive, counted, withCount, withNormal, withActual, tupletOf, orSlur}
 use Rattle.reader.specs.Barlines.{barlineAs, barlineOf}
@@ -219,3 +219,7 @@ tokens-end s i h = rw (drop-of-length-le s h)
 -- the same of a fold over them, for any state: what is left to do at i is one step and what is left behind the token
 pub fold-at {ℓ} : {S : Type ℓ} (f : S → Token → S) (t : S) (s : List ℕ) (i : ℕ) → i < length s → foldl f t (tokens 0 (drop i s)) ≡ foldl f (f t (tokenOf (drop i s) .token)) (tokens 0 (drop (i + tokenOf (drop i s) .used) s))
 fold-at f t s i h = ap (foldl f t) (tokens-at s i h)
+
+-- and at the end nothing is left
+pub fold-end {ℓ} : {S : Type ℓ} (f : S → Token → S) (t : S) (s : List ℕ) (i : ℕ) → length s ≤ i → foldl f t (tokens 0 (drop i s)) ≡ t
+fold-end f t s i h = ap (foldl f t) (tokens-end s i h)

@@ -12,7 +12,7 @@ use Rattle.reader.specs.State.{Note}
 use Rattle.reader.specs.Part.{Part}
 use Rattle.reader.specs.Records.{notesOf, pitchesOf}
 use Rattle.reader.specs.Answer.{Verdict, refusal, reading, Outcome, scratchNeeded, parseAbc, encode, measureCount}
-use Rattle.reader.specs.Tally.{Counts, countsOf, tally}
+use Rattle.reader.specs.Tally.{tally}
 use Rattle.reader.specs.All.{all}
 
 -- the call with a reading store of n bytes, and scratch just large enough

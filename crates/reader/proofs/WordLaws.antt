@@ -1,10 +1,10 @@
 -- The words of a text, from left to right: a mark is passed over, a word is taken up to the next mark. For loops over words by position.
 use Prim.Native.Nat.{ℕ, zero, suc, pred}
 use mathlib.Core.Path.{_≡_, refl, sym, ap, _∙_}
-use mathlib.Core.Bool.{Bool, true, false, cond, not}
+use mathlib.Core.Bool.{not}
 use mathlib.Core.List.{List, [], _∷_}
 use native.Mathlib.Omega.{arith}
-use lib.ListN.{length, take, drop}
+use lib.ListN.{take, drop}
 use Rattle.laws.specs.Lists.{keep, isNil}
 use Rattle.reader.specs.Text.{push}
 use Rattle.reader.specs.Pieces.{pieces, words}

@@ -34,14 +34,14 @@ pub fn find(line: &[u8], from: usize, to: usize, b: u8) -> usize
     requires { ⌜ to ≤ length (now line) ⌝ }
     ensures { λ r. ⌜ r ≡ endIn (λ c. not (eqb c b)) (now (line .entry)) from to ⌝ }
 {
-    let mut i = from;
-    while i < to {
-        if line[i] == b {
-            return i;
+    let mut k = from;
+    while k < to {
+        if line[k] == b {
+            return k;
         }
-        i += 1;
+        k += 1;
     }
-    i
+    k
 }
 
 // Every `-` and `)` right behind a note (000, apply_abc_note_annotations).
@@ -50,20 +50,28 @@ pub fn note_annotations(line: &[u8], at: usize) -> Behind
 {
     let mut tie = false;
     let mut slur = false;
-    let mut i = at;
-    while i < line.len() {
-        let marker = line[i];
+    let mut cursor = at;
+    while cursor < line.len() {
+        let marker = line[cursor];
         if marker == b'-' {
             tie = true;
-            i += 1;
+            cursor += 1;
             continue;
         }
         if marker == b')' {
             slur = true;
-            i += 1;
+            cursor += 1;
             continue;
         }
-        return Behind { tie, slur, next: i };
+        return Behind {
+            tie,
+            slur,
+            next: cursor,
+        };
     }
-    Behind { tie, slur, next: i }
+    Behind {
+        tie,
+        slur,
+        next: cursor,
+    }
 }

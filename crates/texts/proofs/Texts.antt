@@ -1,7 +1,7 @@
 -- Laws of a name at the front of a text, for the loops that compare them byte by byte.
-use Prim.Native.Nat.{ℕ, zero, suc, _+_, _-_, _≤_, _<_}
-use mathlib.Core.Path.{_≡_, refl, sym, ap, _∙_}
-use mathlib.Core.Bool.{Bool, true, false, _&&_, false≢true}
+use Prim.Native.Nat.{ℕ, _+_, _-_, _≤_, _<_}
+use mathlib.Core.Path.{_≡_, refl, ap, _∙_}
+use mathlib.Core.Bool.{false, _&&_}
 use mathlib.Core.List.{List, [], _∷_, map}
 use native.Mathlib.Nat.{suc-inj}
 use native.Mathlib.Omega.{arith}
@@ -10,8 +10,8 @@ use lib.ListN.{length, getD, drop, length-map, List·getD-map}
 use borrow.Author.Tests.{eq-eqb, ne-eqb}
 use Rattle.laws.specs.Lists.{startsWith, eqText}
 use Rattle.laws.specs.Bytes.{between}
-use Rattle.laws.proofs.Bools.{by-test, eqb-sym}
-use Rattle.laws.proofs.Lists.{startsWith-at, startsWith-end, startsWith-length, eqText-length, eqText-sym}
+use Rattle.laws.proofs.Bools.{by-test}
+use Rattle.laws.proofs.Lists.{startsWith-at, startsWith-length}
 use Rattle.laws.proofs.Parts.{length-between, getD-between}
 use Rattle.standard.specs.Bytes.{lower}
 

@@ -37,7 +37,7 @@ pub fn is_text(line: &[u8], a: usize, b: usize, name: &[u8]) -> bool
 }
 
 // A capital as a small letter; any other byte as it is.
-pub fn lower(c: u8) -> u8
+fn lower(c: u8) -> u8
     ensures { λ r. ⌜ r ≡ lowered c ⌝ }
 {
     if c < 65 {
@@ -47,30 +47,30 @@ pub fn lower(c: u8) -> u8
 }
 
 // The part begins with `name`, small letters, in any case.
-pub fn says(line: &[u8], a: usize, b: usize, name: &[u8]) -> bool
-    requires { ⌜ (a ≤ b) × (b ≤ length (now line)) ⌝ }
-    ensures { λ r. ⌜ r ≡ startsWith (now (name .entry)) (map lowered (between (now (line .entry)) a b)) ⌝ }
+pub fn says(line: &[u8], i: usize, e: usize, name: &[u8]) -> bool
+    requires { ⌜ (i ≤ e) × (e ≤ length (now line)) ⌝ }
+    ensures { λ r. ⌜ r ≡ startsWith (now (name .entry)) (map lowered (between (now (line .entry)) i e)) ⌝ }
 {
-    if b - a < name.len() {
+    if e - i < name.len() {
         return false;
     }
-    let mut k: usize = 0;
-    while k < name.len() {
-        if name[k] != lower(line[a + k]) {
+    let mut j: usize = 0;
+    while j < name.len() {
+        if name[j] != lower(line[i + j]) {
             return false;
         }
-        k += 1;
+        j += 1;
     }
     true
 }
 
 // The part is `name`, small letters, in any case.
-pub fn is_named(line: &[u8], a: usize, b: usize, name: &[u8]) -> bool
-    requires { ⌜ (a ≤ b) × (b ≤ length (now line)) ⌝ }
-    ensures { λ r. ⌜ r ≡ eqText (now (name .entry)) (map lowered (between (now (line .entry)) a b)) ⌝ }
+pub fn is_named(line: &[u8], i: usize, e: usize, name: &[u8]) -> bool
+    requires { ⌜ (i ≤ e) × (e ≤ length (now line)) ⌝ }
+    ensures { λ r. ⌜ r ≡ eqText (now (name .entry)) (map lowered (between (now (line .entry)) i e)) ⌝ }
 {
-    if b - a != name.len() {
+    if e - i != name.len() {
         return false;
     }
-    says(line, a, b, name)
+    says(line, i, e, name)
 }

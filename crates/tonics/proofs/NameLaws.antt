@@ -1,8 +1,8 @@
 -- A name read byte by byte names the tonic of the text without white space around it, for every text.
 use Prim.Native.Nat.{ℕ}
-use mathlib.Core.Path.{_≡_, refl, sym, ap, _∙_}
-use mathlib.Core.Bool.{Bool, true, false, cond}
-use mathlib.Core.Option.{Option, none, some}
+use mathlib.Core.Path.{_≡_, refl, sym, _∙_}
+use mathlib.Core.Bool.{true, false}
+use mathlib.Core.Option.{none}
 use mathlib.Core.List.{List, [], _∷_}
 use Rattle.laws.specs.Lists.{foldl}
 use Rattle.laws.proofs.Bools.{by-test}
@@ -10,8 +10,7 @@ use Rattle.standard.specs.Keys.{tonic}
 use Rattle.reader.specs.Text.{isSpace}
 use Rattle.reader.specs.Pieces.{trimStart, consTrim, trimEnd, trimmed}
 use Rattle.words.proofs.Trims.{consTrim-word}
-use Rattle.tonics.specs.declared.Name.{Name}
-use Rattle.tonics.specs.declared.Name.the-variants.{Empty, One, Gap, Two, Long}
+use Rattle.tonics.specs.declared.Name.the-variants.{One, Gap, Two, Long}
 use Rattle.tonics.specs.Names.{withByte, nameOf, tonicIn, firstOf}
 
 -- more than any name has stays so

@@ -2,8 +2,6 @@
 // Fifths have 128 added: 128 is none, one sharp more is one more.
 ghost use mathlib.Core.Path.{_≡_};
 ghost use mathlib.Core.Bool.{_&&_};
-ghost use Prim.Native.Nat.{ℕ};
-ghost use lib.Dec.{eqb};
 ghost use Rattle.reader.specs.Keys.{fifthsOf};
 ghost use Rattle.tonics.specs.Names.{withByte, tonicIn, firstOf, isName, majors, minors, lookupIn, lookedUp};
 
@@ -234,7 +232,7 @@ fn is_name(k: KeyName, first: u8, second: u8) -> bool
 }
 
 // The fifths of the major key of a name, none for a name that is none of the fifteen.
-pub fn major_fifths(first: u8, second: u8) -> u8
+fn major_fifths(first: u8, second: u8) -> u8
     ensures { λ r. ⌜ r ≡ lookupIn majors first second ⌝ }
 {
     for i in 0..15 {
@@ -247,7 +245,7 @@ pub fn major_fifths(first: u8, second: u8) -> u8
 }
 
 // The same of the minor key.
-pub fn minor_fifths(first: u8, second: u8) -> u8
+fn minor_fifths(first: u8, second: u8) -> u8
     ensures { λ r. ⌜ r ≡ lookupIn minors first second ⌝ }
 {
     for i in 0..15 {

@@ -1,17 +1,17 @@
 -- Laws of trimming: what goes at either end, what is left as a part of the line, and the turns of a loop from the end back.
-use Prim.Native.Nat.{ℕ, zero, suc, _+_, _-_, _≤_, _<_}
+use Prim.Native.Nat.{ℕ, _+_, _-_, _≤_, _<_}
 use mathlib.Core.Path.{_≡_, refl, sym, ap, _∙_}
-use mathlib.Core.Bool.{Bool, true, false, cond}
+use mathlib.Core.Bool.{true, false}
 use mathlib.Core.List.{List, [], _∷_, _++_}
 use native.Mathlib.Omega.{arith}
 use lib.Dec.{ltb}
-use lib.ListN.{length, getD, take, drop, length-take, length-append}
+use lib.ListN.{length, getD, take, drop, length-take}
 use borrow.Author.Tests.{ltb-true, ltb-false}
 use Rattle.laws.specs.Lists.{span}
 use Rattle.laws.specs.Bytes.{between}
 use Rattle.laws.specs.Spans.{endIn}
 use Rattle.laws.proofs.Bools.{by-test, and-left, and-right}
-use Rattle.laws.proofs.Parts.{between-last, between-none, length-between, take-between, behind-between, endIn-ge, endIn-le}
+use Rattle.laws.proofs.Parts.{between-last, length-between, take-between, behind-between, endIn-ge, endIn-le}
 use Rattle.reader.specs.Text.{isSpace}
 use Rattle.reader.specs.Pieces.{trimStart, consTrim, trimEnd, trimmed}
 use Rattle.words.specs.declared.Part.{Part}

@@ -1,9 +1,8 @@
 // Words, trimming and marks in a part of a line. A part is given by two positions: the bytes from the first up to the second.
 ghost use mathlib.Core.Path.{_≡_};
-ghost use mathlib.Core.Bool.{Bool, not, _&&_};
-ghost use Prim.Native.Nat.{ℕ, _≤_, _-_};
-ghost use lib.Dec.{ltb, eqb};
-ghost use lib.ListN.{length, getD};
+ghost use mathlib.Core.Bool.{_&&_};
+ghost use Prim.Native.Nat.{_≤_, _-_};
+ghost use lib.ListN.{length};
 ghost use Rattle.laws.specs.Spans.{endIn};
 ghost use Rattle.reader.specs.Text.{isSpace};
 ghost use Rattle.words.specs.Words.{notSpace, notByte, standsAt, standsBefore, trimmedEnd, Trimmed};
@@ -73,11 +72,11 @@ pub fn word_end(line: &[u8], a: usize, b: usize) -> usize
     requires { ⌜ b ≤ length (now line) ⌝ }
     ensures { λ r. ⌜ r ≡ endIn notSpace (now (line .entry)) a b ⌝ }
 {
-    let mut i = a;
-    while word_at(line, i, b) {
-        i += 1;
+    let mut j = a;
+    while word_at(line, j, b) {
+        j += 1;
     }
-    i
+    j
 }
 
 // Where the byte `c` stands first, from `a` on; `b` if it does not.
@@ -85,11 +84,11 @@ pub fn find_byte(line: &[u8], a: usize, b: usize, c: u8) -> usize
     requires { ⌜ b ≤ length (now line) ⌝ }
     ensures { λ r. ⌜ r ≡ endIn (notByte c) (now (line .entry)) a b ⌝ }
 {
-    let mut i = a;
-    while other_at(line, i, b, c) {
-        i += 1;
+    let mut k = a;
+    while other_at(line, k, b, c) {
+        k += 1;
     }
-    i
+    k
 }
 
 // Where the part ends without white space at its end.

@@ -1,12 +1,9 @@
+-- `lexemes::bar_line` meets its contract.
 use mathlib.Core.Path.{sym, _∙_}
 use Rattle.lexemes.proofs.Bar.{no-bar, bar-read}
 use borrow.Author.Needs.{needs}
 use Rattle.lexemes.proofs.bar_line.Statement.{statement}
 use Rattle.lexemes.proofs.bar_line.Tie as tie
-use Rattle.lexemes.proofs.bar_line.Reads as reads
-use Rattle.lexemes.proofs.bar_line.Lts as lts
-use Rattle.marks.proofs.parse_barline.Reads as parse-barline-reads
-use Rattle.numbers.proofs.byte_at.Reads as byte-at-reads
 
 parse-barline-requires : tie.Need-parse-barline-requires
 parse-barline-requires c κs = search needs

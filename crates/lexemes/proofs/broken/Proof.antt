@@ -1,10 +1,8 @@
+-- `lexemes::broken` meets its contract.
 use Rattle.lexemes.proofs.Closed.{too-many, not-too-many}
 use borrow.Author.Needs.{needs}
 use Rattle.lexemes.proofs.broken.Statement.{statement}
 use Rattle.lexemes.proofs.broken.Tie as tie
-use Rattle.lexemes.proofs.broken.Reads as reads
-use Rattle.lexemes.proofs.broken.Lts as lts
-use Rattle.runs.proofs.run_end.Reads as run-end-reads
 
 add-run-end : tie.Need-add-run-end
 add-run-end c = search needs

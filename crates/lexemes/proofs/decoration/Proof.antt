@@ -1,12 +1,10 @@
+-- `lexemes::decoration` meets its contract.
 use Rattle.reader.specs.Token.{decoration, skipped, taken}
 use Rattle.lexemes.specs.Lexemes.{lexemeFor}
 use Rattle.lexemes.proofs.Closed.{closed, unclosed}
 use borrow.Author.Needs.{needs}
 use Rattle.lexemes.proofs.decoration.Statement.{statement}
 use Rattle.lexemes.proofs.decoration.Tie as tie
-use Rattle.lexemes.proofs.decoration.Reads as reads
-use Rattle.lexemes.proofs.decoration.Lts as lts
-use Rattle.runs.proofs.find.Reads as find-reads
 
 add-find : tie.Need-add-find
 add-find c = search needs

@@ -1,13 +1,9 @@
-use mathlib.Core.Path.{_≡_, refl, sym, ap, _∙_}
+-- `lexemes::note` meets its contract.
+use mathlib.Core.Path.{sym, _∙_}
 use Rattle.lexemes.proofs.Sounding.{note-ends, note-other, note-letter}
 use borrow.Author.Needs.{needs}
 use Rattle.lexemes.proofs.note.Statement.{statement}
 use Rattle.lexemes.proofs.note.Tie as tie
-use Rattle.lexemes.proofs.note.Reads as reads
-use Rattle.lexemes.proofs.note.Lts as lts
-use Rattle.lexemes.proofs.note_from_letter.Reads as note-from-letter-reads
-use Rattle.pitches.proofs.accidental_before.Reads as accidental-before-reads
-use Rattle.pitches.proofs.is_letter.Reads as is-letter-reads
 
 accidental-before-requires : tie.Need-accidental-before-requires
 accidental-before-requires c κs = search needs

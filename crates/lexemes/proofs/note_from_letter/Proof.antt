@@ -1,14 +1,9 @@
-use mathlib.Core.Path.{_≡_, refl, sym, ap, _∙_}
+-- `lexemes::note_from_letter` meets its contract.
+use mathlib.Core.Path.{sym, _∙_}
 use Rattle.lexemes.proofs.Sounding.{letter-out, letter-in}
 use borrow.Author.Needs.{needs}
 use Rattle.lexemes.proofs.note_from_letter.Statement.{statement}
 use Rattle.lexemes.proofs.note_from_letter.Tie as tie
-use Rattle.lexemes.proofs.note_from_letter.Reads as reads
-use Rattle.lexemes.proofs.note_from_letter.Lts as lts
-use Rattle.lengths.proofs.parse_duration_suffix.Reads as parse-duration-suffix-reads
-use Rattle.pitches.proofs.abc_note_char.Reads as abc-note-char-reads
-use Rattle.pitches.proofs.octave_marks.Reads as octave-marks-reads
-use Rattle.runs.proofs.note_annotations.Reads as note-annotations-reads
 
 shared-slice-read-abc-note-char : tie.Need-shared-slice-read-abc-note-char
 shared-slice-read-abc-note-char c = search needs

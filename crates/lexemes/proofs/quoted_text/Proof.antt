@@ -1,4 +1,5 @@
-use mathlib.Core.Path.{_≡_, refl, sym, ap, _∙_}
+-- `lexemes::quoted_text` meets its contract.
+use mathlib.Core.Path.{_≡_}
 use native.Mathlib.Omega.{arith}
 use Prim.Native.Nat.{_+_}
 use lib.ListN.{length, drop, length-drop}
@@ -9,9 +10,6 @@ use Rattle.lexemes.proofs.Closed.{closed, unclosed}
 use borrow.Author.Needs.{needs}
 use Rattle.lexemes.proofs.quoted_text.Statement.{statement}
 use Rattle.lexemes.proofs.quoted_text.Tie as tie
-use Rattle.lexemes.proofs.quoted_text.Reads as reads
-use Rattle.lexemes.proofs.quoted_text.Lts as lts
-use Rattle.runs.proofs.find.Reads as find-reads
 
 add-find : tie.Need-add-find
 add-find c = search needs

@@ -1,5 +1,6 @@
+-- `lexemes::rest` meets its contract.
 use Prim.Native.Nat.{suc, _+_}
-use mathlib.Core.Path.{_≡_, refl, sym, ap, _∙_}
+use mathlib.Core.Path.{_≡_}
 use native.Mathlib.Omega.{arith}
 use lib.ListN.{drop}
 use Rattle.reader.specs.Lengths.{lengthOf}
@@ -7,9 +8,6 @@ use Rattle.lengths.specs.Values.{suffixAt}
 use borrow.Author.Needs.{needs}
 use Rattle.lexemes.proofs.rest.Statement.{statement}
 use Rattle.lexemes.proofs.rest.Tie as tie
-use Rattle.lexemes.proofs.rest.Reads as reads
-use Rattle.lexemes.proofs.rest.Lts as lts
-use Rattle.lengths.proofs.parse_duration_suffix.Reads as parse-duration-suffix-reads
 
 add-parse-duration-suffix : tie.Need-add-parse-duration-suffix
 add-parse-duration-suffix c = search needs

@@ -1,11 +1,9 @@
+-- `lexemes::tuplet_or_slur` meets its contract.
 use mathlib.Core.Path.{sym, _∙_}
 use Rattle.lexemes.proofs.Ratio.{slur-instead, tuplet-read}
 use borrow.Author.Needs.{needs}
 use Rattle.lexemes.proofs.tuplet_or_slur.Statement.{statement}
 use Rattle.lexemes.proofs.tuplet_or_slur.Tie as tie
-use Rattle.lexemes.proofs.tuplet_or_slur.Reads as reads
-use Rattle.lexemes.proofs.tuplet_or_slur.Lts as lts
-use Rattle.marks.proofs.parse_abc_tuplet.Reads as parse-abc-tuplet-reads
 
 parse-abc-tuplet-requires : tie.Need-parse-abc-tuplet-requires
 parse-abc-tuplet-requires c κs = search needs

@@ -1,11 +1,9 @@
+-- `lexemes::volta` meets its contract.
 use mathlib.Core.Path.{sym, _∙_}
 use Rattle.lexemes.proofs.Ending.{no-passes, passes-read}
 use borrow.Author.Needs.{needs}
 use Rattle.lexemes.proofs.volta.Statement.{statement}
 use Rattle.lexemes.proofs.volta.Tie as tie
-use Rattle.lexemes.proofs.volta.Reads as reads
-use Rattle.lexemes.proofs.volta.Lts as lts
-use Rattle.passes.proofs.parse_passes.Reads as parse-passes-reads
 
 add-parse-passes : tie.Need-add-parse-passes
 add-parse-passes c = search needs

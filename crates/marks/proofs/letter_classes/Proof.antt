@@ -1,11 +1,10 @@
+-- `marks::letter_classes` meets its contract. The rule of all 128 entries is one computation.
 use mathlib.Core.Path.{refl}
 use Rattle.reader.specs.Tokens.{classOf, classIn, classes}
 use Rattle.marks.specs.Classes.{classCode, classesFrom, classTable}
 use borrow.Author.Needs.{needs}
 use Rattle.marks.proofs.letter_classes.Statement.{statement}
 use Rattle.marks.proofs.letter_classes.Tie as tie
-use Rattle.marks.proofs.letter_classes.Reads as reads
-use Rattle.marks.proofs.letter_classes.Lts as lts
 
 array-write-t : tie.Need-array-write-t
 array-write-t c = search needs

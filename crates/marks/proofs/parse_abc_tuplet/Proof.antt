@@ -1,10 +1,11 @@
-use Prim.Native.Nat.{ℕ, _+_, _-_, _^_, _≤_, _<_}
-use mathlib.Core.Path.{_≡_, refl, sym, ap, _∙_}
-use mathlib.Core.Option.{Option, none, some}
+-- `marks::parse_abc_tuplet` meets its contract.
+use Prim.Native.Nat.{ℕ, _+_, _-_}
+use mathlib.Core.Path.{_≡_, refl, sym, _∙_}
+use mathlib.Core.Option.{some}
 use mathlib.Core.List.{List}
 use native.Mathlib.Omega.{arith}
 use lib.Dec.{eqb}
-use lib.ListN.{length, getD, drop}
+use lib.ListN.{getD, drop}
 use borrow.Author.Tests.{eq-eqb}
 use Rattle.laws.specs.Spans.{endOf}
 use Rattle.laws.proofs.Spans.{run-within}
@@ -14,11 +15,6 @@ use Rattle.marks.proofs.Ratios.{positive-le, number-none, number-some, 
 use borrow.Author.Needs.{needs}
 use Rattle.marks.proofs.parse_abc_tuplet.Statement.{statement}
 use Rattle.marks.proofs.parse_abc_tuplet.Tie as tie
-use Rattle.marks.proofs.parse_abc_tuplet.Reads as reads
-use Rattle.marks.proofs.parse_abc_tuplet.Lts as lts
-use Rattle.marks.proofs.positive.Reads as positive-reads
-use Rattle.marks.proofs.usual_normal.Reads as usual-normal-reads
-use Rattle.numbers.proofs.byte_at.Reads as byte-at-reads
 
 add-positive : tie.Need-add-positive
 add-positive c = search needs

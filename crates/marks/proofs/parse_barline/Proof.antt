@@ -1,19 +1,14 @@
-use Prim.Native.Nat.{ℕ, _+_}
-use mathlib.Core.Path.{_≡_, refl, sym, ap, _∙_}
-use mathlib.Core.List.{List, _∷_}
+-- `marks::parse_barline` meets its contract.
+use Prim.Native.Nat.{_+_}
+use mathlib.Core.Path.{_≡_, refl, sym, _∙_}
+use mathlib.Core.List.{_∷_}
 use lib.ListN.{getD, drop}
-use Rattle.standard.specs.Bars.{symbolAt, barSymbols}
 use Rattle.standard.specs.Bytes.{first}
 use Rattle.runs.proofs.Places.{drop-here, first-at}
-use Rattle.marks.specs.Bars.{barFor}
 use Rattle.marks.proofs.Symbols.{start-symbol, double-symbol, final-symbol, normal-symbol, end-symbol, both-symbol, colon-symbol, other-symbol, other-than}
 use borrow.Author.Needs.{needs}
 use Rattle.marks.proofs.parse_barline.Statement.{statement}
 use Rattle.marks.proofs.parse_barline.Tie as tie
-use Rattle.marks.proofs.parse_barline.Reads as reads
-use Rattle.marks.proofs.parse_barline.Lts as lts
-use Rattle.marks.proofs.read_bar.Reads as read-bar-reads
-use Rattle.numbers.proofs.byte_at.Reads as byte-at-reads
 
 shared-slice-read-first : tie.Need-shared-slice-read-first
 shared-slice-read-first c = search needs

@@ -1,4 +1,5 @@
-use mathlib.Core.Path.{_≡_, refl, sym, ap, _∙_}
+-- `marks::positive` meets its contract.
+use mathlib.Core.Path.{_≡_, sym, ap}
 use lib.ListN.{drop}
 use Rattle.numbers.specs.Digits.{numberAt, written}
 use Rattle.numbers.specs.declared.Read.{Read}
@@ -9,9 +10,6 @@ use Rattle.marks.proofs.Ratios.{no-digits, past-top, is-zero, is-value}
 use borrow.Author.Needs.{needs}
 use Rattle.marks.proofs.positive.Statement.{statement}
 use Rattle.marks.proofs.positive.Tie as tie
-use Rattle.marks.proofs.positive.Reads as reads
-use Rattle.marks.proofs.positive.Lts as lts
-use Rattle.numbers.proofs.read_number.Reads as read-number-reads
 
 read-number-requires : tie.Need-read-number-requires
 read-number-requires c κs = search needs

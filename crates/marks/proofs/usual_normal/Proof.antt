@@ -1,12 +1,10 @@
-use native.Mathlib.Omega.{arith}
-use borrow.Author.Tests.{eq-eqb, ne-eqb}
+-- `marks::usual_normal` meets its contract.
+use borrow.Author.Tests.{ne-eqb}
 use Rattle.standard.specs.Tuplets.{usualNormal}
 use Rattle.reader.specs.Tuplets.{normalFor, orOneLess}
 use borrow.Author.Needs.{needs}
 use Rattle.marks.proofs.usual_normal.Statement.{statement}
 use Rattle.marks.proofs.usual_normal.Tie as tie
-use Rattle.marks.proofs.usual_normal.Reads as reads
-use Rattle.marks.proofs.usual_normal.Lts as lts
 
 sub-result : tie.Need-sub-result
 sub-result c = search needs

@@ -1,9 +1,7 @@
+-- `passes::first_of` meets its contract.
 use borrow.Author.Tests.{eq-eqb, ne-eqb}
-use borrow.Author.Needs.{needs}
 use Rattle.passes.proofs.first_of.Statement.{statement}
 use Rattle.passes.proofs.first_of.Tie as tie
-use Rattle.passes.proofs.first_of.Reads as reads
-use Rattle.passes.proofs.first_of.Lts as lts
 
 returns : tie.Need-returns
 returns c = rw (eq-eqb _ 0 (c .if1 .taken))

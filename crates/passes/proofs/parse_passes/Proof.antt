@@ -1,24 +1,18 @@
-use Prim.Native.Nat.{ℕ, _+_, _-_, _≤_, _<_}
-use mathlib.Core.Path.{_≡_, refl, sym, ap, _∙_}
-use mathlib.Core.List.{List}
+-- `passes::parse_passes` meets its contract. The loop's invariant is `Passing`; the measure is what is left of the line.
+use Prim.Native.Nat.{_-_, _<_}
+use mathlib.Core.Path.{_≡_, refl, sym, _∙_}
 use native.Mathlib.Omega.{arith}
 use lib.Dec.{eqb}
-use lib.ListN.{length, getD, drop}
+use lib.ListN.{length, getD}
 use borrow.Author.Tests.{eq-eqb}
 use Rattle.laws.specs.Spans.{endOf}
-use Rattle.laws.proofs.Spans.{run-within, end-ge}
+use Rattle.laws.proofs.Spans.{run-within}
 use Rattle.passes.specs.Passes.{isItemByte, itemAt}
 use Rattle.passes.proofs.Items.{Took, took, nothing-none}
 use Rattle.passes.proofs.Reading.{Passing, passing-start, passing-none, passing-fits, passing-last, passing-on}
 use borrow.Author.Needs.{needs}
 use Rattle.passes.proofs.parse_passes.Statement.{statement}
 use Rattle.passes.proofs.parse_passes.Tie as tie
-use Rattle.passes.proofs.parse_passes.Reads as reads
-use Rattle.passes.proofs.parse_passes.Lts as lts
-use Rattle.numbers.proofs.byte_at.Reads as byte-at-reads
-use Rattle.passes.proofs.first_of.Reads as first-of-reads
-use Rattle.passes.proofs.pass_item.Reads as pass-item-reads
-use Rattle.passes.proofs.range_bits.Reads as range-bits-reads
 
 abbrev Inv-loop : tie.InvT-loop
 Inv-loop line at first₀ bits₀ low₀ i₀ first bits low i = Passing line at first bits low i

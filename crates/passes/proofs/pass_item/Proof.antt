@@ -1,10 +1,11 @@
-use Prim.Native.Nat.{ℕ, _+_, _-_, _≤_, _<_}
-use mathlib.Core.Path.{_≡_, refl, sym, ap, _∙_}
-use mathlib.Core.Option.{Option, none, some}
+-- `passes::pass_item` meets its contract.
+use Prim.Native.Nat.{ℕ, _+_, _-_, _≤_}
+use mathlib.Core.Path.{_≡_, refl, sym, _∙_}
+use mathlib.Core.Option.{some}
 use mathlib.Core.List.{List}
 use native.Mathlib.Omega.{arith}
 use lib.Dec.{eqb}
-use lib.ListN.{length, getD, drop}
+use lib.ListN.{getD, drop}
 use borrow.Author.Tests.{eq-eqb}
 use Rattle.laws.specs.Spans.{run, endOf}
 use Rattle.laws.proofs.Spans.{run-within}
@@ -14,10 +15,6 @@ use Rattle.passes.proofs.Items.{number-none, number-some, no-first, low
 use borrow.Author.Needs.{needs}
 use Rattle.passes.proofs.pass_item.Statement.{statement}
 use Rattle.passes.proofs.pass_item.Tie as tie
-use Rattle.passes.proofs.pass_item.Reads as reads
-use Rattle.passes.proofs.pass_item.Lts as lts
-use Rattle.numbers.proofs.byte_at.Reads as byte-at-reads
-use Rattle.passes.proofs.pass_number.Reads as pass-number-reads
 
 pass-number-requires : tie.Need-pass-number-requires
 pass-number-requires c κs = search needs
@@ -94,7 +91,8 @@ returns-5 c =
     let q = c .before .before in
     let e = q .before .before .before in
     let p = of-to q in
-    low-second (text p) (place p) (bound p) _ (first p .1) _ (first p .0) (e .before .before .if1 .left) (hyphen e) _ (second q .1) _ (second q .0) _ (c .if3 .taken)
+    let l : q .to .given .0 .0 ≤ p .from .given .0 .0 = omega (arith, c .if3 .taken) in
+    low-second (text p) (place p) (bound p) _ (first p .1) _ (first p .0) (e .before .before .if1 .left) (hyphen e) _ (second q .1) _ (second q .0) _ l
 
 byte-at-requires-2 : tie.Need-byte-at-requires-2
 byte-at-requires-2 c κs = search needs

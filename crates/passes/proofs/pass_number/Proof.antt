@@ -1,4 +1,5 @@
-use mathlib.Core.Path.{_≡_, refl, sym, ap, _∙_}
+-- `passes::pass_number` meets its contract.
+use mathlib.Core.Path.{_≡_, sym, ap, _∙_}
 use native.Mathlib.Omega.{arith}
 use lib.ListN.{drop}
 use Rattle.laws.specs.Spans.{run}
@@ -11,10 +12,6 @@ use Rattle.passes.proofs.Items.{zero-leads, number-by}
 use borrow.Author.Needs.{needs}
 use Rattle.passes.proofs.pass_number.Statement.{statement}
 use Rattle.passes.proofs.pass_number.Tie as tie
-use Rattle.passes.proofs.pass_number.Reads as reads
-use Rattle.passes.proofs.pass_number.Lts as lts
-use Rattle.numbers.proofs.byte_at.Reads as byte-at-reads
-use Rattle.numbers.proofs.read_number.Reads as read-number-reads
 
 byte-at-requires : tie.Need-byte-at-requires
 byte-at-requires c κs = search needs

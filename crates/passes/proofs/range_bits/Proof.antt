@@ -1,9 +1,8 @@
+-- `passes::range_bits` meets its contract.
 use Rattle.passes.proofs.Bits.{shifts-le, shifts-bits}
 use borrow.Author.Needs.{needs}
 use Rattle.passes.proofs.range_bits.Statement.{statement}
 use Rattle.passes.proofs.range_bits.Tie as tie
-use Rattle.passes.proofs.range_bits.Reads as reads
-use Rattle.passes.proofs.range_bits.Lts as lts
 
 shl-result : tie.Need-shl-result
 shl-result c = search needs

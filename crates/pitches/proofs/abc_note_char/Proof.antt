@@ -1,10 +1,9 @@
+-- `pitches::abc_note_char` meets its contract.
 use borrow.Author.Tests.{lt-ltb, le-ltb}
 use Rattle.standard.specs.Pitches.{stepOf, letterOctave}
 use borrow.Author.Needs.{needs}
 use Rattle.pitches.proofs.abc_note_char.Statement.{statement}
 use Rattle.pitches.proofs.abc_note_char.Tie as tie
-use Rattle.pitches.proofs.abc_note_char.Reads as reads
-use Rattle.pitches.proofs.abc_note_char.Lts as lts
 
 add-step : tie.Need-add-step
 add-step c = search needs

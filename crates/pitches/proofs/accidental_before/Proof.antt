@@ -1,8 +1,8 @@
-use mathlib.Core.Path.{_≡_, refl, sym, ap, _∙_}
+-- `pitches::accidental_before` meets its contract.
+use mathlib.Core.Path.{refl, sym, ap, _∙_}
 use native.Mathlib.Omega.{arith}
 use native.Mathlib.Nat.{add-zero}
 use lib.Dec.{eqb}
-use lib.ListN.{length, getD}
 use borrow.Author.Tests.{eq-eqb}
 use Rattle.laws.proofs.Spans.{run-within}
 use Rattle.pitches.specs.Pitches.{beforeFor}
@@ -10,10 +10,6 @@ use Rattle.pitches.proofs.Accidentals.{before-up, before-down, before-n
 use borrow.Author.Needs.{needs}
 use Rattle.pitches.proofs.accidental_before.Statement.{statement}
 use Rattle.pitches.proofs.accidental_before.Tie as tie
-use Rattle.pitches.proofs.accidental_before.Reads as reads
-use Rattle.pitches.proofs.accidental_before.Lts as lts
-use Rattle.numbers.proofs.byte_at.Reads as byte-at-reads
-use Rattle.pitches.proofs.signs.Reads as signs-reads
 
 byte-at-requires : tie.Need-byte-at-requires
 byte-at-requires c κs = search needs

@@ -1,12 +1,9 @@
-use mathlib.Core.Path.{_≡_, refl, sym, ap, _∙_}
+-- `pitches::chord_letter` meets its contract.
+use mathlib.Core.Path.{sym, _∙_}
 use Rattle.pitches.proofs.InChord.{letter-refused, letter-read}
 use borrow.Author.Needs.{needs}
 use Rattle.pitches.proofs.chord_letter.Statement.{statement}
 use Rattle.pitches.proofs.chord_letter.Tie as tie
-use Rattle.pitches.proofs.chord_letter.Reads as reads
-use Rattle.pitches.proofs.chord_letter.Lts as lts
-use Rattle.pitches.proofs.abc_note_char.Reads as abc-note-char-reads
-use Rattle.pitches.proofs.octave_marks.Reads as octave-marks-reads
 
 shared-slice-read-abc-note-char : tie.Need-shared-slice-read-abc-note-char
 shared-slice-read-abc-note-char c = search needs

@@ -1,5 +1,6 @@
+-- `pitches::chord_sign` meets its contract.
 use Prim.Native.Nat.{_+_}
-use mathlib.Core.Path.{_≡_, refl, sym, ap, _∙_}
+use mathlib.Core.Path.{refl, sym, _∙_}
 use native.Mathlib.Omega.{arith}
 use lib.Dec.{eqb}
 use borrow.Author.Tests.{eq-eqb}
@@ -8,11 +9,6 @@ use Rattle.pitches.proofs.InChord.{sign-first-quarter, sign-first, sign
 use borrow.Author.Needs.{needs}
 use Rattle.pitches.proofs.chord_sign.Statement.{statement}
 use Rattle.pitches.proofs.chord_sign.Tie as tie
-use Rattle.pitches.proofs.chord_sign.Reads as reads
-use Rattle.pitches.proofs.chord_sign.Lts as lts
-use Rattle.numbers.proofs.byte_at.Reads as byte-at-reads
-use Rattle.pitches.proofs.moved.Reads as moved-reads
-use Rattle.pitches.proofs.quarter_tone.Reads as quarter-tone-reads
 
 enum-told : tie.Need-enum-told
 enum-told c = search needs

@@ -1,11 +1,9 @@
-use mathlib.Core.Path.{sym, _∙_}
+-- `pitches::is_letter` meets its contract.
+use mathlib.Core.Path.{sym}
 use borrow.Author.Tests.{le-leb, lt-leb}
 use Rattle.pitches.proofs.Letters.{small-letter, capital-letter}
-use borrow.Author.Needs.{needs}
 use Rattle.pitches.proofs.is_letter.Statement.{statement}
 use Rattle.pitches.proofs.is_letter.Tie as tie
-use Rattle.pitches.proofs.is_letter.Reads as reads
-use Rattle.pitches.proofs.is_letter.Lts as lts
 
 returns : tie.Need-returns
 returns c = sym (small-letter _ (c .if1 .taken))

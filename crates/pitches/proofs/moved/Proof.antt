@@ -1,9 +1,8 @@
+-- `pitches::moved` meets its contract.
 use native.Mathlib.Omega.{arith}
 use borrow.Author.Needs.{needs}
 use Rattle.pitches.proofs.moved.Statement.{statement}
 use Rattle.pitches.proofs.moved.Tie as tie
-use Rattle.pitches.proofs.moved.Reads as reads
-use Rattle.pitches.proofs.moved.Lts as lts
 
 sub-if2 : tie.Need-sub-if2
 sub-if2 c = search needs

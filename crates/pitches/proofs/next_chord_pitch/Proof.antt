@@ -1,7 +1,8 @@
-use Prim.Native.Nat.{_+_, _-_, _≤_, _<_}
-use mathlib.Core.Path.{_≡_, refl, sym, ap, _∙_}
+-- `pitches::next_chord_pitch` meets its contract. The loop's invariant: what is met from i on, with the accidental that waits, is what is met from `at` on; the measure is what is left of the line.
+use Prim.Native.Nat.{_+_, _-_}
+use mathlib.Core.Path.{_≡_, refl, sym, _∙_}
 use mathlib.Core.Bool.{true, false}
-use mathlib.Core.Option.{Option, none}
+use mathlib.Core.Option.{none}
 use native.Mathlib.Omega.{arith}
 use lib.ListN.{length, drop}
 use Rattle.pitches.specs.Pitches.{markOf}
@@ -10,11 +11,6 @@ use Rattle.pitches.proofs.Walk.{mark-back, sign-takes, met-close, met-e
 use borrow.Author.Needs.{needs}
 use Rattle.pitches.proofs.next_chord_pitch.Statement.{statement}
 use Rattle.pitches.proofs.next_chord_pitch.Tie as tie
-use Rattle.pitches.proofs.next_chord_pitch.Reads as reads
-use Rattle.pitches.proofs.next_chord_pitch.Lts as lts
-use Rattle.pitches.proofs.chord_letter.Reads as chord-letter-reads
-use Rattle.pitches.proofs.chord_sign.Reads as chord-sign-reads
-use Rattle.pitches.proofs.is_letter.Reads as is-letter-reads
 
 abbrev Inv-loop : tie.InvT-loop
 Inv-loop line at waits₀ i₀ waits i = metFor i (pitchMet 0 (markOf waits) (drop i line)) ≡ metFor at (pitchMet 0 none (drop at line))

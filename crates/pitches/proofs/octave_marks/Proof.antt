@@ -1,12 +1,10 @@
+-- `pitches::octave_marks` meets its contract.
 use native.Mathlib.Omega.{arith}
 use Prim.Native.Nat.{_≤_}
 use Rattle.pitches.proofs.Octaves.{marks-low, marks-high, marks-at}
 use borrow.Author.Needs.{needs}
 use Rattle.pitches.proofs.octave_marks.Statement.{statement}
 use Rattle.pitches.proofs.octave_marks.Tie as tie
-use Rattle.pitches.proofs.octave_marks.Reads as reads
-use Rattle.pitches.proofs.octave_marks.Lts as lts
-use Rattle.runs.proofs.run_end.Reads as run-end-reads
 
 run-end-requires : tie.Need-run-end-requires
 run-end-requires c κs = search needs

@@ -1,16 +1,13 @@
-use Prim.Native.Nat.{_+_, _-_, _≤_, _<_}
-use mathlib.Core.Path.{_≡_, refl, sym, ap, _∙_}
-use mathlib.Core.Option.{Option, none}
+-- `pitches::parse_abc_chord` meets its contract. The loop's invariant is `Counting`; the measure is what is left of the line.
+use Prim.Native.Nat.{_+_, _-_, _<_}
+use mathlib.Core.Path.{sym, _∙_}
+use mathlib.Core.Option.{none}
 use native.Mathlib.Omega.{arith}
 use lib.ListN.{length}
 use Rattle.pitches.proofs.Walk.{Counting, counting-start, counting-over, counting-out, counting-one, met-end}
 use borrow.Author.Needs.{needs}
 use Rattle.pitches.proofs.parse_abc_chord.Statement.{statement}
 use Rattle.pitches.proofs.parse_abc_chord.Tie as tie
-use Rattle.pitches.proofs.parse_abc_chord.Reads as reads
-use Rattle.pitches.proofs.parse_abc_chord.Lts as lts
-use Rattle.pitches.proofs.next_chord_pitch.Reads as next-chord-pitch-reads
-use Rattle.pitches.proofs.past.Reads as past-reads
 
 abbrev Inv-loop : tie.InvT-loop
 Inv-loop line at close count₀ i₀ count i = Counting line at count i

@@ -1,10 +1,9 @@
+-- `pitches::past` meets its contract.
 use borrow.Author.Tests.{lt-ltb, le-ltb}
 use Rattle.pitches.specs.Chords.{closedAt}
 use borrow.Author.Needs.{needs}
 use Rattle.pitches.proofs.past.Statement.{statement}
 use Rattle.pitches.proofs.past.Tie as tie
-use Rattle.pitches.proofs.past.Reads as reads
-use Rattle.pitches.proofs.past.Lts as lts
 
 add-result : tie.Need-add-result
 add-result c = search needs

@@ -1,8 +1,6 @@
-use borrow.Author.Needs.{needs}
+-- `pitches::quarter_tone` meets its contract.
 use Rattle.pitches.proofs.quarter_tone.Statement.{statement}
 use Rattle.pitches.proofs.quarter_tone.Tie as tie
-use Rattle.pitches.proofs.quarter_tone.Reads as reads
-use Rattle.pitches.proofs.quarter_tone.Lts as lts
 
 returns : tie.Need-returns
 returns c = rw (c .if1 .taken)

@@ -1,20 +1,15 @@
-use mathlib.Core.Path.{_≡_, refl, sym, ap, _∙_}
+-- `pitches::signs` meets its contract.
+use mathlib.Core.Path.{_≡_, refl, sym, _∙_}
 use mathlib.Core.Logic.{⊎-elim}
 use native.Mathlib.Omega.{arith}
 use lib.Dec.{eqb}
-use lib.ListN.{length, getD}
+use lib.ListN.{getD}
 use borrow.Author.Tests.{eq-eqb, eqb-true, eqb-false}
 use Rattle.laws.proofs.Spans.{run-within}
 use Rattle.pitches.proofs.Accidentals.{signs-quarter, signs-many, signs-plain}
 use borrow.Author.Needs.{needs}
 use Rattle.pitches.proofs.signs.Statement.{statement}
 use Rattle.pitches.proofs.signs.Tie as tie
-use Rattle.pitches.proofs.signs.Reads as reads
-use Rattle.pitches.proofs.signs.Lts as lts
-use Rattle.numbers.proofs.byte_at.Reads as byte-at-reads
-use Rattle.pitches.proofs.moved.Reads as moved-reads
-use Rattle.pitches.proofs.quarter_tone.Reads as quarter-tone-reads
-use Rattle.runs.proofs.run_end.Reads as run-end-reads
 
 run-end-requires : tie.Need-run-end-requires
 run-end-requires c κs = search needs

@@ -1,23 +1,20 @@
-use Prim.Native.Nat.{_≤_, _+_, _-_}
+-- `runs::find` meets its contract. The loop's invariant: the search from k on ends where that from `from` on ends; the measure is what is left of the part.
+use Prim.Native.Nat.{_-_}
 use mathlib.Core.Path.{_≡_, refl, sym, ap, _∙_}
 use mathlib.Core.Bool.{not}
-use native.Mathlib.Omega.{arith}
 use lib.Dec.{eqb}
-use lib.ListN.{length}
 use borrow.Author.Tests.{eq-eqb, ne-eqb}
 use Rattle.laws.specs.Spans.{endIn}
 use Rattle.laws.proofs.Parts.{endIn-more, endIn-stop, endIn-over}
 use borrow.Author.Needs.{needs}
 use Rattle.runs.proofs.find.Statement.{statement}
 use Rattle.runs.proofs.find.Tie as tie
-use Rattle.runs.proofs.find.Reads as reads
-use Rattle.runs.proofs.find.Lts as lts
 
 abbrev Inv-loop : tie.InvT-loop
-Inv-loop line from to b i₀ i = endIn (λ c. not (eqb c b)) line i to ≡ endIn (λ c. not (eqb c b)) line from to
+Inv-loop line from to b k₀ k = endIn (λ c. not (eqb c b)) line k to ≡ endIn (λ c. not (eqb c b)) line from to
 
 abbrev μ-loop : tie.MeasureT-loop
-μ-loop line from to b i₀ i = to - i
+μ-loop line from to b k₀ k = to - k
 
 loop-holds : tie.Need-loop-holds Inv-loop μ-loop
 loop-holds c = refl
@@ -30,10 +27,10 @@ returns c =
     let l = c .before .before .before in
     let h = c .before .before .loop-test .taken in
     let b = l .before .args .b in
-    sym (endIn-stop (λ x. not (eqb x b)) (l .before .args .line .now) (l .loop .i) (l .before .args .to) h (l .before .pre) (ap not (eq-eqb _ _ (c .if1 .taken)))) ∙ l .loop .inv
+    sym (endIn-stop (λ x. not (eqb x b)) (l .before .args .line .now) (l .loop .k) (l .before .args .to) h (l .before .pre) (ap not (eq-eqb _ _ (c .if1 .taken)))) ∙ l .loop .inv
 
-add-i : tie.Need-add-i Inv-loop μ-loop
-add-i c = search needs
+add-k : tie.Need-add-k Inv-loop μ-loop
+add-k c = search needs
 
 loop-less : tie.Need-loop-less Inv-loop μ-loop
 loop-less c = search needs
@@ -43,13 +40,13 @@ loop-again c =
     let l = c .before .before .before in
     let h = c .before .before .loop-test .taken in
     let b = l .before .args .b in
-    sym (endIn-more (λ x. not (eqb x b)) (l .before .args .line .now) (l .loop .i) (l .before .args .to) h (l .before .pre) (ap not (ne-eqb _ _ (c .if1 .left)))) ∙ l .loop .inv
+    sym (endIn-more (λ x. not (eqb x b)) (l .before .args .line .now) (l .loop .k) (l .before .args .to) h (l .before .pre) (ap not (ne-eqb _ _ (c .if1 .left)))) ∙ l .loop .inv
 
 returns-2 : tie.Need-returns-2 Inv-loop μ-loop
 returns-2 c =
     let l = c .before in
     let b = l .before .args .b in
-    sym (endIn-over (λ x. not (eqb x b)) (l .before .args .line .now) (l .loop .i) (l .before .args .to) (c .loop-test .left)) ∙ l .loop .inv
+    sym (endIn-over (λ x. not (eqb x b)) (l .before .args .line .now) (l .loop .k) (l .before .args .to) (c .loop-test .left)) ∙ l .loop .inv
 
 pub find-spec : {M : Type 1} → statement M
 find-spec =
@@ -60,7 +57,7 @@ find-spec =
     loop-holds
     shared-slice-read-if1
     returns
-    add-i
+    add-k
     loop-less
     loop-again
     returns-2)

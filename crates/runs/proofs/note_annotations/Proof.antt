@@ -1,19 +1,16 @@
-use Prim.Native.Nat.{_≤_, _+_, _-_}
-use mathlib.Core.Path.{_≡_, refl, sym, ap, _∙_}
-use native.Mathlib.Omega.{arith}
+-- `runs::note_annotations` meets its contract. The loop's invariant is `Marking`; the measure is what is left of the line.
+use Prim.Native.Nat.{_-_}
 use lib.ListN.{length}
 use Rattle.runs.proofs.Behinds.{Marking, marking-start, marking-tie, marking-slur, marking-other, marking-end}
 use borrow.Author.Needs.{needs}
 use Rattle.runs.proofs.note_annotations.Statement.{statement}
 use Rattle.runs.proofs.note_annotations.Tie as tie
-use Rattle.runs.proofs.note_annotations.Reads as reads
-use Rattle.runs.proofs.note_annotations.Lts as lts
 
 abbrev Inv-loop : tie.InvT-loop
-Inv-loop line at tie₀ slur₀ i₀ tie slur i = Marking line at tie slur i
+Inv-loop line at tie₀ slur₀ cursor₀ tie slur cursor = Marking line at tie slur cursor
 
 abbrev μ-loop : tie.MeasureT-loop
-μ-loop line at tie₀ slur₀ i₀ tie slur i = length line - i
+μ-loop line at tie₀ slur₀ cursor₀ tie slur cursor = length line - cursor
 
 loop-holds : tie.Need-loop-holds Inv-loop μ-loop
 loop-holds c = marking-start _ _
@@ -21,8 +18,8 @@ loop-holds c = marking-start _ _
 shared-slice-read-marker : tie.Need-shared-slice-read-marker Inv-loop μ-loop
 shared-slice-read-marker c = search needs
 
-add-i : tie.Need-add-i Inv-loop μ-loop
-add-i c = search needs
+add-cursor : tie.Need-add-cursor Inv-loop μ-loop
+add-cursor c = search needs
 
 loop-less : tie.Need-loop-less Inv-loop μ-loop
 loop-less c = search needs
@@ -30,8 +27,8 @@ loop-less c = search needs
 loop-again : tie.Need-loop-again Inv-loop μ-loop
 loop-again c = marking-tie _ _ _ _ _ (c .before .before .before .loop .inv) (c .before .before .loop-test .taken) (c .if1 .taken)
 
-add-i-2 : tie.Need-add-i-2 Inv-loop μ-loop
-add-i-2 c = search needs
+add-cursor-2 : tie.Need-add-cursor-2 Inv-loop μ-loop
+add-cursor-2 c = search needs
 
 loop-less-2 : tie.Need-loop-less-2 Inv-loop μ-loop
 loop-less-2 c = search needs
@@ -53,10 +50,10 @@ note-annotations-spec =
     μ-loop
     loop-holds
     shared-slice-read-marker
-    add-i
+    add-cursor
     loop-less
     loop-again
-    add-i-2
+    add-cursor-2
     loop-less-2
     loop-again-2
     returns

@@ -1,6 +1,6 @@
-use Prim.Native.Nat.{_≤_, _+_, _-_}
+-- `runs::run_end` meets its contract. The loop's invariant: the run from i on ends where that from `at` on ends; the measure is what is left of the line.
+use Prim.Native.Nat.{_-_}
 use mathlib.Core.Path.{_≡_, refl, sym, _∙_}
-use native.Mathlib.Omega.{arith}
 use lib.Dec.{eqb}
 use lib.ListN.{length}
 use borrow.Author.Tests.{eq-eqb, ne-eqb}
@@ -9,8 +9,6 @@ use Rattle.laws.proofs.Spans.{end-more, end-stop, end-past}
 use borrow.Author.Needs.{needs}
 use Rattle.runs.proofs.run_end.Statement.{statement}
 use Rattle.runs.proofs.run_end.Tie as tie
-use Rattle.runs.proofs.run_end.Reads as reads
-use Rattle.runs.proofs.run_end.Lts as lts
 
 abbrev Inv-loop : tie.InvT-loop
 Inv-loop line at b i₀ i = endOf (λ c. eqb c b) line i ≡ endOf (λ c. eqb c b) line at

@@ -1,5 +1,7 @@
 -- `texts::is_named` meets its contract: a text as long as the name begins with it where it is the name.
-use mathlib.Core.Path.{sym, _∙_}
+use mathlib.Core.Path.{_≡_, sym, _∙_}
+use native.Mathlib.Omega.{arith}
+use lib.ListN.{length}
 use Rattle.laws.specs.Bytes.{between}
 use Rattle.laws.proofs.Lists.{eqText-length}
 use mathlib.Core.List.{map}
@@ -14,14 +16,20 @@ sub-if1 c = search needs
 
 returns : tie.Need-returns
 returns c =
-    sym (eqText-length (c .before .before .before .args .name .now) (map lower (between (c .before .before .before .args .line .now) (c .before .before .before .args .a) (c .before .before .before .args .b))) (λ e. c .if1 .taken (sym (length-lower (c .before .before .before .args .line .now) (c .before .before .before .args .a) (c .before .before .before .args .b) (c .before .before .before .pre .1)) ∙ sym e)))
+    let text = map lower (between (c .before .before .before .args .line .now) (c .before .before .before .args .i) (c .before .before .before .args .e)) in
+    let name = c .before .before .before .args .name .now in
+    let n : length name ≡ length text → ⊥ = λ e. omega (arith, length-lower (c .before .before .before .args .line .now) (c .before .before .before .args .i) (c .before .before .before .args .e) (c .before .before .before .pre .1)) in
+    sym (eqText-length name text n)
 
 says-requires : tie.Need-says-requires
 says-requires c κs = search needs
 
 returns-2 : tie.Need-returns-2
 returns-2 c =
-    c .says .ensures ∙ starts-whole (c .before .before .before .before .args .name .now) (map lower (between (c .before .before .before .before .args .line .now) (c .before .before .before .before .args .a) (c .before .before .before .before .args .b))) (length-lower (c .before .before .before .before .args .line .now) (c .before .before .before .before .args .a) (c .before .before .before .before .args .b) (c .before .before .before .before .pre .1) ∙ c .before .if1 .left)
+    let text = map lower (between (c .before .before .before .before .args .line .now) (c .before .before .before .before .args .i) (c .before .before .before .before .args .e)) in
+    let name = c .before .before .before .before .args .name .now in
+    let same : length text ≡ length name = omega (arith, length-lower (c .before .before .before .before .args .line .now) (c .before .before .before .before .args .i) (c .before .before .before .before .args .e) (c .before .before .before .before .pre .1)) in
+    c .says .ensures ∙ starts-whole name text same
 
 pub is-named-spec : {M : Type 1} → statement M
 is-named-spec = tie.close (tie.spec sub-if1 returns says-requires returns-2)

@@ -1,4 +1,4 @@
--- `words::find_byte` meets its contract. The loop's invariant: the bytes of the kind end, from i on, where they end from a on.
+-- `words::find_byte` meets its contract. The loop's invariant: the bytes of the kind end, from k on, where they end from a on.
 use Prim.Native.Nat.{_-_, _<_}
 use mathlib.Core.Path.{_≡_, refl, sym, _∙_}
 use native.Mathlib.Omega.{arith}
@@ -9,14 +9,14 @@ use Rattle.words.proofs.find_byte.Statement.{statement}
 use Rattle.words.proofs.find_byte.Tie as tie
 
 abbrev Inv-loop : tie.InvT-loop
-Inv-loop line a b c i₀ i = endIn (notByte c) line i b ≡ endIn (notByte c) line a b
+Inv-loop line a b c k₀ k = endIn (notByte c) line k b ≡ endIn (notByte c) line a b
 
 abbrev μ-loop : tie.MeasureT-loop
-μ-loop line a b c i₀ i = b - i
+μ-loop line a b c k₀ k = b - k
 
 -- a byte of the kind stands within the part
-within : (c : tie.Then1 Inv-loop μ-loop) → c .before .before .loop .i < c .before .before .before .before .args .b
-within c = stands-lt (notByte (c .before .before .before .before .args .c)) (c .before .before .before .before .args .line .now) (c .before .before .loop .i) (c .before .before .before .before .args .b) (sym (c .before .other-at .ensures) ∙ c .if1 .taken)
+within : (c : tie.Then1 Inv-loop μ-loop) → c .before .before .loop .k < c .before .before .before .before .args .b
+within c = stands-lt (notByte (c .before .before .before .before .args .c)) (c .before .before .before .before .args .line .now) (c .before .before .loop .k) (c .before .before .before .before .args .b) (sym (c .before .other-at .ensures) ∙ c .if1 .taken)
 
 loop-holds : tie.Need-loop-holds Inv-loop μ-loop
 loop-holds c = refl
@@ -24,19 +24,19 @@ loop-holds c = refl
 other-at-requires : tie.Need-other-at-requires Inv-loop μ-loop
 other-at-requires c κs = c .before .before .pre
 
-add-i : tie.Need-add-i Inv-loop μ-loop
-add-i c = omega (arith, within c)
+add-k : tie.Need-add-k Inv-loop μ-loop
+add-k c = omega (arith, within c)
 
 loop-less : tie.Need-loop-less Inv-loop μ-loop
 loop-less c = omega (arith, within c)
 
 loop-again : tie.Need-loop-again Inv-loop μ-loop
-loop-again c = sym (stands-on (notByte (c .before .before .before .before .args .c)) (c .before .before .before .before .args .line .now) (c .before .before .loop .i) (c .before .before .before .before .args .b) (c .before .before .before .before .pre) (sym (c .before .other-at .ensures) ∙ c .if1 .taken)) ∙ c .before .before .loop .inv
+loop-again c = sym (stands-on (notByte (c .before .before .before .before .args .c)) (c .before .before .before .before .args .line .now) (c .before .before .loop .k) (c .before .before .before .before .args .b) (c .before .before .before .before .pre) (sym (c .before .other-at .ensures) ∙ c .if1 .taken)) ∙ c .before .before .loop .inv
 
 returns : tie.Need-returns Inv-loop μ-loop
-returns c = sym (stands-off (notByte (c .before .before .before .before .args .c)) (c .before .before .before .before .args .line .now) (c .before .before .loop .i) (c .before .before .before .before .args .b) (c .before .before .before .before .pre) (sym (c .before .other-at .ensures) ∙ c .if1 .left)) ∙ c .before .before .loop .inv
+returns c = sym (stands-off (notByte (c .before .before .before .before .args .c)) (c .before .before .before .before .args .line .now) (c .before .before .loop .k) (c .before .before .before .before .args .b) (c .before .before .before .before .pre) (sym (c .before .other-at .ensures) ∙ c .if1 .left)) ∙ c .before .before .loop .inv
 
 pub find-byte-spec : {M : Type 1} → statement M
 find-byte-spec =
     tie.close
-    (tie.spec Inv-loop μ-loop loop-holds other-at-requires add-i loop-less loop-again returns)
+    (tie.spec Inv-loop μ-loop loop-holds other-at-requires add-k loop-less loop-again returns)

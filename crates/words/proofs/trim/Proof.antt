@@ -1,4 +1,6 @@
 -- `words::trim` meets its contract: `trims-both` says what the two positions come to.
+use Prim.Native.Nat.{_≤_}
+use native.Mathlib.Omega.{arith}
 use Rattle.laws.proofs.Parts.{endIn-le}
 use Rattle.reader.specs.Text.{isSpace}
 use Rattle.words.proofs.Trims.{trims-both}
@@ -11,7 +13,8 @@ word-start-requires c κs = c .before .pre .1
 trim-end-requires : tie.Need-trim-end-requires
 trim-end-requires c κs =
     let a = c .before .before .args in
-    (rw (c .word-start .ensures) (endIn-le isSpace (a .line .now) (a .a) (a .b) (c .before .before .pre .0)), c .before .before .pre .1)
+    let le : c .word-start .result ≤ a .b = rw (c .word-start .ensures) (endIn-le isSpace (a .line .now) (a .a) (a .b) (c .before .before .pre .0)) in
+    (omega arith, c .before .before .pre .1)
 
 returns : tie.Need-returns
 returns c =

@@ -1,7 +1,6 @@
 -- `words::trim_end` meets its contract. The loop's invariant: the text up to e has the end of the whole.
 use Prim.Native.Nat.{_-_, _<_}
-use mathlib.Core.Path.{_≡_, refl, sym, _∙_}
-use native.Mathlib.Nat.{le-refl}
+use mathlib.Core.Path.{refl, sym, _∙_}
 use native.Mathlib.Omega.{arith}
 use Rattle.words.proofs.Trims.{trims-lt, Trimming, trimming-on, trimming-off}
 use Rattle.words.proofs.trim_end.Statement.{statement}
@@ -18,7 +17,7 @@ within : (c : tie.Then1 Inv-loop μ-loop) → c .before .before .before .before 
 within c = trims-lt (c .before .before .before .before .args .line .now) (c .before .before .before .before .args .a) (c .before .before .loop .e) (sym (c .before .space-before .ensures) ∙ c .if1 .taken)
 
 loop-holds : tie.Need-loop-holds Inv-loop μ-loop
-loop-holds c = record { low = c .before .pre .0; high = le-refl _; same = refl }
+loop-holds c = record { low = omega arith; high = omega arith; same = refl }
 
 space-before-requires : tie.Need-space-before-requires Inv-loop μ-loop
 space-before-requires c κs = omega (arith, c .loop .inv .high, c .before .before .pre .1)

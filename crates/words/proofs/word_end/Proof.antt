@@ -1,4 +1,4 @@
--- `words::word_end` meets its contract. The loop's invariant: the bytes of the kind end, from i on, where they end from a on.
+-- `words::word_end` meets its contract. The loop's invariant: the bytes of the kind end, from j on, where they end from a on.
 use Prim.Native.Nat.{_-_, _<_}
 use mathlib.Core.Path.{_≡_, refl, sym, _∙_}
 use native.Mathlib.Omega.{arith}
@@ -9,14 +9,14 @@ use Rattle.words.proofs.word_end.Statement.{statement}
 use Rattle.words.proofs.word_end.Tie as tie
 
 abbrev Inv-loop : tie.InvT-loop
-Inv-loop line a b i₀ i = endIn notSpace line i b ≡ endIn notSpace line a b
+Inv-loop line a b j₀ j = endIn notSpace line j b ≡ endIn notSpace line a b
 
 abbrev μ-loop : tie.MeasureT-loop
-μ-loop line a b i₀ i = b - i
+μ-loop line a b j₀ j = b - j
 
 -- a byte of the kind stands within the part
-within : (c : tie.Then1 Inv-loop μ-loop) → c .before .before .loop .i < c .before .before .before .before .args .b
-within c = stands-lt notSpace (c .before .before .before .before .args .line .now) (c .before .before .loop .i) (c .before .before .before .before .args .b) (sym (c .before .word-at .ensures) ∙ c .if1 .taken)
+within : (c : tie.Then1 Inv-loop μ-loop) → c .before .before .loop .j < c .before .before .before .before .args .b
+within c = stands-lt notSpace (c .before .before .before .before .args .line .now) (c .before .before .loop .j) (c .before .before .before .before .args .b) (sym (c .before .word-at .ensures) ∙ c .if1 .taken)
 
 loop-holds : tie.Need-loop-holds Inv-loop μ-loop
 loop-holds c = refl
@@ -24,19 +24,19 @@ loop-holds c = refl
 word-at-requires : tie.Need-word-at-requires Inv-loop μ-loop
 word-at-requires c κs = c .before .before .pre
 
-add-i : tie.Need-add-i Inv-loop μ-loop
-add-i c = omega (arith, within c)
+add-j : tie.Need-add-j Inv-loop μ-loop
+add-j c = omega (arith, within c)
 
 loop-less : tie.Need-loop-less Inv-loop μ-loop
 loop-less c = omega (arith, within c)
 
 loop-again : tie.Need-loop-again Inv-loop μ-loop
-loop-again c = sym (stands-on notSpace (c .before .before .before .before .args .line .now) (c .before .before .loop .i) (c .before .before .before .before .args .b) (c .before .before .before .before .pre) (sym (c .before .word-at .ensures) ∙ c .if1 .taken)) ∙ c .before .before .loop .inv
+loop-again c = sym (stands-on notSpace (c .before .before .before .before .args .line .now) (c .before .before .loop .j) (c .before .before .before .before .args .b) (c .before .before .before .before .pre) (sym (c .before .word-at .ensures) ∙ c .if1 .taken)) ∙ c .before .before .loop .inv
 
 returns : tie.Need-returns Inv-loop μ-loop
-returns c = sym (stands-off notSpace (c .before .before .before .before .args .line .now) (c .before .before .loop .i) (c .before .before .before .before .args .b) (c .before .before .before .before .pre) (sym (c .before .word-at .ensures) ∙ c .if1 .left)) ∙ c .before .before .loop .inv
+returns c = sym (stands-off notSpace (c .before .before .before .before .args .line .now) (c .before .before .loop .j) (c .before .before .before .before .args .b) (c .before .before .before .before .pre) (sym (c .before .word-at .ensures) ∙ c .if1 .left)) ∙ c .before .before .loop .inv
 
 pub word-end-spec : {M : Type 1} → statement M
 word-end-spec =
     tie.close
-    (tie.spec Inv-loop μ-loop loop-holds word-at-requires add-i loop-less loop-again returns)
+    (tie.spec Inv-loop μ-loop loop-holds word-at-requires add-j loop-less loop-again returns)

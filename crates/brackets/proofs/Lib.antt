@@ -1,0 +1,3 @@
+mod Inlines
+mod Chorded
+mod Opened

@@ -1,0 +1,61 @@
+-- `lyric_words::hyphens_end` meets its contract.
+use borrow.Author.Needs.{needs}
+use mathlib.Core.Path.{_≡_, refl, sym, ap, _∙_}
+use Prim.Native.Nat.{ℕ, _+_, _-_, _≤_, _<_}
+use native.Mathlib.Omega.{arith}
+use borrow.Author.Tests.{eq-eqb, ne-eqb}
+use Rattle.laws.specs.Spans.{endIn}
+use Rattle.laws.proofs.Parts.{endIn-more, endIn-stop, endIn-over}
+use Rattle.lyric_words.specs.Words.{isHyphen}
+use Rattle.lyric_words.proofs.hyphens_end.Statement.{statement}
+use Rattle.lyric_words.proofs.hyphens_end.Tie as tie
+
+abbrev Inv-loop : tie.InvT-loop
+Inv-loop text at end i₀ i = (i ≤ end) × (endIn isHyphen text i end ≡ endIn isHyphen text at end)
+
+abbrev μ-loop : tie.MeasureT-loop
+μ-loop text at end i₀ i = end - i
+
+loop-holds : tie.Need-loop-holds Inv-loop μ-loop
+loop-holds c = (search needs, refl)
+
+shared-slice-read-if1 : tie.Need-shared-slice-read-if1 Inv-loop μ-loop
+shared-slice-read-if1 c = search needs
+
+returns : tie.Need-returns Inv-loop μ-loop
+returns c =
+    let a = c .before .before .before .before .args in
+    let l = c .before .before .before .loop in
+    sym (endIn-stop isHyphen (a .text .now) (l .i) (a .end) (c .before .before .loop-test .taken) (c .before .before .before .before .pre .1) (ne-eqb _ _ (c .if1 .taken))) ∙ l .inv .1
+
+add-i : tie.Need-add-i Inv-loop μ-loop
+add-i c = search needs
+
+loop-less : tie.Need-loop-less Inv-loop μ-loop
+loop-less c = search needs
+
+loop-again : tie.Need-loop-again Inv-loop μ-loop
+loop-again c =
+    let a = c .before .before .before .before .args in
+    let l = c .before .before .before .loop in
+    (search needs, sym (endIn-more isHyphen (a .text .now) (l .i) (a .end) (c .before .before .loop-test .taken) (c .before .before .before .before .pre .1) (eq-eqb _ _ (c .if1 .left))) ∙ l .inv .1)
+
+returns-2 : tie.Need-returns-2 Inv-loop μ-loop
+returns-2 c =
+    let a = c .before .before .args in
+    let l = c .before .loop in
+    sym (endIn-over isHyphen (a .text .now) (l .i) (a .end) (c .loop-test .left)) ∙ l .inv .1
+
+pub hyphens-end-spec : {M : Type 1} → statement M
+hyphens-end-spec =
+    tie.close
+    (tie.spec
+    Inv-loop
+    μ-loop
+    loop-holds
+    shared-slice-read-if1
+    returns
+    add-i
+    loop-less
+    loop-again
+    returns-2)

@@ -1,0 +1,45 @@
+-- `lyrics::sing_hold` meets its contract.
+use borrow.Author.Needs.{needs}
+use mathlib.Core.Path.{_≡_, refl, sym, ap, _∙_}
+use Prim.Native.Nat.{ℕ, _+_, _-_, _*_, _≤_, _<_, _^_}
+use native.Mathlib.Omega.{arith}
+use Rattle.lyrics.proofs.Singing.{sung-hold-first, sung-hold}
+use Rattle.lyrics.proofs.sing_hold.Statement.{statement}
+use Rattle.lyrics.proofs.sing_hold.Tie as tie
+
+returns : tie.Need-returns
+returns c =
+    let a = c .before .before .args in
+    sung-hold-first (a .scratch .now) (a .sheet) (a .line) (a .taken) (c .before .before .pre .0 .kept) (c .if1 .taken)
+
+add-mark : tie.Need-add-mark
+add-mark c = search needs
+
+sub-mark : tie.Need-sub-mark
+sub-mark c = search needs
+
+mark-requires : tie.Need-mark-requires
+mark-requires c κs = (c .before .before .before .before .pre .0, omega arith, omega arith)
+
+add-t10 : tie.Need-add-t10
+add-t10 c = search needs
+
+same-length : tie.Need-same-length
+same-length c = search needs
+
+returns-2 : tie.Need-returns-2
+returns-2 c =
+    let a = c .before .before .before .before .before .before .before .args in
+    sung-hold (a .scratch .now) _ (a .sheet) (a .line) (a .taken) _ (c .before .before .before .before .before .if1 .left) (c .before .before .mark .ensures)
+
+pub sing-hold-spec : {M : Type 1} → statement M
+sing-hold-spec =
+    tie.close
+    (tie.spec
+    returns
+    add-mark
+    sub-mark
+    mark-requires
+    add-t10
+    same-length
+    returns-2)

@@ -1,0 +1,61 @@
+-- `lyrics::sing_item` meets its contract.
+use borrow.Author.Needs.{needs}
+use mathlib.Core.Path.{_≡_, refl, sym, ap, _∙_}
+use Prim.Native.Nat.{ℕ, _+_, _-_, _*_, _≤_, _<_, _^_}
+use native.Mathlib.Omega.{arith}
+use Rattle.lyrics.proofs.Applying.{other-kind, other-part, line-fits, line-item}
+use Rattle.lyrics.proofs.sing_item.Statement.{statement}
+use Rattle.lyrics.proofs.sing_item.Tie as tie
+
+get-item-requires : tie.Need-get-item-requires
+get-item-requires c κs =
+    let p = c .before .before .before .pre in
+    omega (arith, p .before-heads, p .kept .apart, p .kept .inside)
+
+same-length : tie.Need-same-length
+same-length c = search needs
+
+returns : tie.Need-returns
+returns c =
+    let a = c .before .before .before .before .before .before .args in
+    other-kind (a .text .now) (a .scratch .now) (a .part) (a .i) (a .sheet) _ (c .before .before .get-item .ensures) (c .before .before .before .before .before .before .pre .kept) (c .if1 .taken)
+
+same-length-2 : tie.Need-same-length-2
+same-length-2 c = search needs
+
+returns-2 : tie.Need-returns-2
+returns-2 c =
+    let a = c .before .before .before .before .before .before .before .before .args in
+    other-part (a .text .now) (a .scratch .now) (a .part) (a .i) (a .sheet) _ (c .before .before .before .before .get-item .ensures) (c .before .before .before .before .before .before .before .before .pre .kept) (c .if2 .taken)
+
+get-line-requires : tie.Need-get-line-requires
+get-line-requires c κs =
+    let p = c .before .before .before .before .before .before .before .before .before .pre in
+    omega (arith, p .before-heads, p .kept .apart, p .kept .inside)
+
+sing-line-requires : tie.Need-sing-line-requires
+sing-line-requires c κs =
+    let a = c .before .before .before .before .before .before .before .before .before .before .before .args in
+    line-fits (a .text .now) (a .scratch .now) (a .part) (a .i) (a .sheet) (c .before .before .before .before .before .before .before .get-item .result) (c .before .before .before .before .before .before .before .get-item .ensures) (c .before .before .before .before .before .if1 .left) (c .before .before .before .if2 .left) (c .before .get-line .result) (c .before .get-line .ensures) (c .before .before .before .before .before .before .before .before .before .before .before .pre)
+
+same-length-3 : tie.Need-same-length-3
+same-length-3 c = search needs
+
+returns-3 : tie.Need-returns-3
+returns-3 c =
+    let a = c .before .before .before .before .before .before .before .before .before .before .before .before .before .before .args in
+    line-item (a .text .now) (a .scratch .now) (a .part) (a .i) (a .sheet) (c .before .before .before .before .before .before .before .before .before .before .get-item .result) (c .before .before .before .before .before .before .before .before .before .before .get-item .ensures) (c .before .before .before .before .before .before .before .before .if1 .left) (c .before .before .before .before .before .before .if2 .left) (c .before .before .before .before .get-line .result) (c .before .before .before .before .get-line .ensures) _ _ (c .before .before .sing-line .ensures)
+
+pub sing-item-spec : {M : Type 1} → statement M
+sing-item-spec =
+    tie.close
+    (tie.spec
+    get-item-requires
+    same-length
+    returns
+    same-length-2
+    returns-2
+    get-line-requires
+    sing-line-requires
+    same-length-3
+    returns-3)

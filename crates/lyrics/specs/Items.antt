@@ -1,0 +1,80 @@
+-- THE LYRIC LINES OF A PART, among the items of the line table.
+use Prim.Native.Nat.{ℕ, _+_, _*_, _≤_, _<_, _^_}
+use mathlib.Core.Path.{_≡_}
+use mathlib.Core.Bool.{Bool, _&&_}
+use mathlib.Core.List.{List, [], _∷_, map}
+use lib.Dec.{eqb}
+use lib.ListN.{length}
+use Rattle.laws.specs.Lists.{keep, sum}
+use Rattle.laws.specs.Bytes.{part, between, rows}
+use Rattle.reader.specs.State as reader
+use Rattle.reader.specs.Lyrics.{Syllable, sungBy}
+use Rattle.table.specs.declared.Row as items
+use Rattle.table.specs.Rows.{decItem, itemsFrom, itemBytes}
+use Rattle.lyrics.specs.declared.Sheet.{Sheet}
+use Rattle.lyrics.specs.declared.Line.{Line}
+use Rattle.lyrics.specs.Sheet.{withCount, Kept, Outside, syllablesIn}
+use Rattle.lyrics.specs.Lines.{rowsFor}
+
+-- an item that is a lyric line of the part
+unfoldable pub isLine : ℕ → items.Row → Bool
+isLine p r = eqb (r .kind) 5 && eqb (r .part) p
+
+-- its line: the first note stands where a music line has its unit, the verse in b
+unfoldable pub lineIn : List ℕ → items.Row → reader.Sung
+lineIn text r = record { start = r .unit; verse = r .b; text = between text (r .at) (r .end) }
+
+-- item i
+abbrev pub itemAt : List ℕ → ℕ → items.Row
+itemAt s i = decItem (part s (itemsFrom + itemBytes * i) itemBytes)
+
+-- the line of an item, if it is one
+unfoldable pub lineOf : List ℕ → ℕ → items.Row → List reader.Sung
+lineOf text p r = map (lineIn text) (keep (isLine p) (r ∷ []))
+
+-- those among the first n items
+unfoldable pub linesIn : List ℕ → List ℕ → ℕ → ℕ → List reader.Sung
+linesIn text s p n = map (lineIn text) (keep (isLine p) (rows decItem itemBytes s itemsFrom n))
+
+-- how many rows lines can need
+unfoldable pub rowsOf : List reader.Sung → ℕ
+rowsOf ls = sum (λ (l : reader.Sung). rowsFor (length (l .text))) ls
+
+-- a line's fields are those of its item; its place was read before
+pub record LineFrom (q : items.Row) (at end : ℕ) (l : Line) : Type 0 where
+  pub start : l .start ≡ q .unit
+  pub verse : l .verse ≡ q .b
+  pub low : l .at ≡ at
+  pub high : l .end ≡ end
+  pub near : l .start < 2 ^ 32
+
+-- item i stands before the tables, and there is room for its rows
+pub record ItemFits (text s : List ℕ) (p i : ℕ) (h : Sheet) : Type 0 where
+  pub kept : Kept s h
+  pub before-heads : itemsFrom + itemBytes * i + itemBytes ≤ h .heads
+  pub short : length text < 2 ^ 32
+  pub inside : h .log + 16 * (h .count + rowsOf (lineOf text p (itemAt s i))) ≤ length s
+  pub few : h .count + rowsOf (lineOf text p (itemAt s i)) < 2 ^ 32
+
+-- item i was sung, if it is a line of the part; n rows are now written
+pub record ItemSung (text s t : List ℕ) (p i : ℕ) (h : Sheet) (n : ℕ) : Type 0 where
+  pub kept : Kept t (withCount h n)
+  pub sung : syllablesIn text t (withCount h n) ≡ sungBy (lineOf text p (itemAt s i)) (syllablesIn text s h)
+  pub more : h .count ≤ n
+  pub room : n ≤ h .count + rowsOf (lineOf text p (itemAt s i))
+  pub outside : Outside s t (h .heads) (h .log + 16 * n)
+
+-- the n items stand before the tables, these apart, and there is room
+pub record Fits (text s : List ℕ) (n p : ℕ) (h : Sheet) : Type 0 where
+  pub before-heads : itemsFrom + itemBytes * n ≤ h .heads
+  pub apart : h .heads + 4 * h .sounded ≤ h .log
+  pub short : length text < 2 ^ 32
+  pub inside : h .log + 16 * rowsOf (linesIn text s p n) ≤ length s
+  pub few : rowsOf (linesIn text s p n) < 2 ^ 32
+
+-- all lyric lines of the part were sung, to notes that had the syllables `notes`; c rows are written
+pub record AllSung (text s t : List ℕ) (n p : ℕ) (h : Sheet) (notes : List (List Syllable)) (c : ℕ) : Type 0 where
+  pub kept : Kept t (withCount h c)
+  pub sung : syllablesIn text t (withCount h c) ≡ sungBy (linesIn text s p n) notes
+  pub room : c ≤ rowsOf (linesIn text s p n)
+  pub outside : Outside s t (h .heads) (h .log + 16 * c)

@@ -1,0 +1,145 @@
+-- The pitches of a chord token are those that `next_chord_pitch` reads behind its `[`, one by one (`next-pitch` of crate pitches).
+use Prim.Native.Nat.{ℕ, suc, _+_}
+use mathlib.Core.Path.{_≡_, refl, sym, ap, _∙_}
+use mathlib.Core.Bool.{Bool, true, false, not}
+use mathlib.Core.Option.{Option, none, some}
+use mathlib.Core.List.{List, [], _∷_}
+use native.Mathlib.Omega.{arith}
+use lib.Dec.{ltb}
+use lib.ListN.{length, take, drop}
+use lib.Seq.{drop-drop}
+use Rattle.laws.specs.Lists.{span}
+use Rattle.laws.proofs.Bools.{by-test}
+use Rattle.standard.specs.Bytes.{is, isDigit, first}
+use Rattle.standard.specs.Bars.{Symbol, barSymbols, symbolAt}
+use Rattle.standard.specs.Pitches.{Written, isLetter}
+use Rattle.reader.specs.Lengths.{Length}
+use Rattle.reader.specs.Pieces.{pieces, mark}
+use Rattle.reader.specs.Fields.{unitInline, middleWord}
+use Rattle.reader.specs.Pitches.{Before, octaveOf, accidentalOf, chordOf}
+use Rattle.reader.specs.Token.{Token, space, overlay, quoted, broken, tuplet, slur, graceOpen, graceClose, decoration, barline, volta, unit, meter, key, field, chord, rest, note, nothing, skipped, refused, Taken, taken}
+use Rattle.reader.specs.Tuplets.{tupletOf, orSlur}
+use Rattle.reader.specs.Barlines.{barlineAs, barlineOf}
+use Rattle.reader.specs.PassLists.{isPassByte, passList, voltaAs, voltaOf}
+use Rattle.reader.specs.Inline.{unitToken, keyToken, fieldToken, isInline, inlineAt}
+use Rattle.reader.specs.Sounds.{chordTaken, chordAt, restAs, noteAs, noteAfter, noteOf}
+use Rattle.reader.specs.Tokens.{closedBy, brokenOf, bracketOf, Class, white, ampersand, quote, more, less, paren, braceOpen, braceClose, bang, plus, bars, bracket, pitched, none-of-these, resting, classOf, tokenAs, tokenOf}
+use Rattle.lexemes.proofs.Ratio.{Form, form}
+use Rattle.standard.specs.Notes.{Behind}
+
+-- a chord's pitches
+unfoldable pitchesIn : Token → Option (List Written)
+pitchesIn space = none
+pitchesIn overlay = none
+pitchesIn quoted = none
+pitchesIn (broken up n) = none
+pitchesIn (tuplet t) = none
+pitchesIn slur = none
+pitchesIn graceOpen = none
+pitchesIn graceClose = none
+pitchesIn decoration = none
+pitchesIn (barline b o) = none
+pitchesIn (volta ps) = none
+pitchesIn (unit u) = none
+pitchesIn (meter m) = none
+pitchesIn (key k) = none
+pitchesIn field = none
+pitchesIn (chord ps l b) = some ps
+pitchesIn (rest k l) = none
+pitchesIn (note p l b) = none
+pitchesIn nothing = none
+pitchesIn skipped = none
+pitchesIn (refused n) = none
+
+-- no other token is a chord
+closed-none : (p : ℕ → Bool) (t : Token) (s : List ℕ) (o : Taken) → pitchesIn t ≡ none → pitchesIn (o .token) ≡ none → pitchesIn (closedBy p t s o .token) ≡ none
+unfolding closedBy
+closed-none p t s o a b = by-test (ltb (span (λ c. not (p c)) s) (length s)) (λ e. rw (e, closedBy) a) (λ e. rw (e, closedBy) b)
+
+broken-none : (up : Bool) (n : ℕ) (s : List ℕ) → pitchesIn (brokenOf up n s .token) ≡ none
+unfolding brokenOf pitchesIn
+broken-none up n s = by-test (ltb 255 n) (λ e. rw (e, brokenOf)) (λ e. rw (e, brokenOf))
+
+slur-none : (o : Option Taken) → Form o → pitchesIn (orSlur o .token) ≡ none
+unfolding orSlur Form pitchesIn
+slur-none none f = refl
+slur-none (some t) f = ap pitchesIn (f .is-it)
+
+bar-none : (s : List ℕ) (o : Option Symbol) → pitchesIn (barlineAs s o .token) ≡ none
+unfolding barlineAs pitchesIn
+bar-none s none = refl
+bar-none s (some x) = refl
+
+volta-none : (n : ℕ) (s : List ℕ) (o : Option (List ℕ)) → pitchesIn (voltaAs n s o .token) ≡ none
+unfolding voltaAs pitchesIn
+volta-none n s none = refl
+volta-none n s (some ps) = refl
+
+unit-none : (o : Option ℕ) → pitchesIn (unitToken o) ≡ none
+unfolding unitToken pitchesIn
+unit-none none = refl
+unit-none (some u) = refl
+
+key-none : (s : List ℕ) → pitchesIn (keyToken s) ≡ none
+unfolding keyToken pitchesIn
+key-none s = by-test (middleWord s) (λ e. rw (e, keyToken)) (λ e. rw (e, keyToken))
+
+field-none : (s : List ℕ) → pitchesIn (fieldToken s) ≡ none
+unfolding fieldToken pitchesIn
+field-none s =
+    by-test (is ":" (first (drop 1 s)))
+    (λ e. rw (e, fieldToken)
+    (by-test (is "L" (first s))
+    (λ f. rw f (unit-none (unitInline (drop 2 s))))
+    (λ f. rw f (by-test (is "M" (first s)) (λ g. rw g) (λ g. rw g (by-test (is "K" (first s)) (λ h. rw h (key-none (drop 2 s))) (λ h. rw h)))))))
+    (λ e. rw (e, fieldToken))
+
+note-none : (a : Before) (s : List ℕ) → pitchesIn (noteAfter a s .token) ≡ none
+unfolding noteAfter noteAs pitchesIn
+note-none a [] = refl
+note-none a (c ∷ s) =
+    by-test (isLetter c)
+    (λ e. rw (e, noteAfter) (by-test (octaveOf c s .fine) (λ f. rw (f, noteAs)) (λ f. rw (f, noteAs))))
+    (λ e. rw (e, noteAfter))
+
+chord-some : (n : ℕ) (s : List ℕ) (o : Option (List Written)) (ps : List Written) → pitchesIn (chordTaken n s o .token) ≡ some ps → o ≡ some ps
+unfolding chordTaken pitchesIn
+chord-some n s none ps e = e
+chord-some n s (some []) ps e = let z : _≡_ {A = ℕ} 0 1 = cc in absurd (omega arith)
+chord-some n s (some (p ∷ qs)) ps e = e
+
+-- none is not some
+never : {P : Type 0} (t : Token) (ps : List Written) → pitchesIn t ≡ none → pitchesIn t ≡ some ps → P
+never t ps a b = let z : _≡_ {A = ℕ} 0 1 = cc in absurd (omega arith)
+
+of-bracket : (s : List ℕ) (ps : List Written) → pitchesIn (bracketOf s .token) ≡ some ps → chordOf 0 none s ≡ some ps
+unfolding bracketOf voltaOf inlineAt chordAt
+of-bracket s ps e =
+    by-test (isDigit (first s))
+    (λ d. never (voltaOf s .token) ps (volta-none (span isPassByte s) s (passList 0 (pieces (mark (is ",")) 0 (take (span isPassByte s) s)))) (rw (d, bracketOf) at e))
+    (λ d. by-test (isInline s)
+    (λ i. never (inlineAt s .token) ps (field-none (take (span (λ c. not (is "]" c)) s) s)) (rw i at (rw (d, bracketOf) at e)))
+    (λ i. chord-some _ _ (chordOf 0 none s) ps (rw i at (rw (d, bracketOf) at e))))
+
+of-class : (x : Class) (s : List ℕ) (ps : List Written) → pitchesIn (tokenAs x s .token) ≡ some ps → chordOf 0 none (drop 1 s) ≡ some ps
+unfolding tokenAs barlineOf noteOf restAs pitchesIn
+of-class white s ps e = never space ps refl e
+of-class ampersand s ps e = never overlay ps refl e
+of-class quote s ps e = never (closedBy (is "\"") quoted (drop 1 s) (taken quoted (length s)) .token) ps (closed-none (is "\"") quoted (drop 1 s) (taken quoted (length s)) refl refl) e
+of-class more s ps e = never (brokenOf true (suc (span (is ">") (drop 1 s))) s .token) ps (broken-none true (suc (span (is ">") (drop 1 s))) s) e
+of-class less s ps e = never (brokenOf false (suc (span (is "<") (drop 1 s))) s .token) ps (broken-none false (suc (span (is "<") (drop 1 s))) s) e
+of-class paren s ps e = never (orSlur (tupletOf (drop 1 s)) .token) ps (slur-none (tupletOf (drop 1 s)) (form (drop 1 s))) e
+of-class braceOpen s ps e = never graceOpen ps refl e
+of-class braceClose s ps e = never graceClose ps refl e
+of-class bang s ps e = never (closedBy (is "!") decoration (drop 1 s) (taken skipped 1) .token) ps (closed-none (is "!") decoration (drop 1 s) (taken skipped 1) refl refl) e
+of-class plus s ps e = never (closedBy (is "+") decoration (drop 1 s) (taken skipped 1) .token) ps (closed-none (is "+") decoration (drop 1 s) (taken skipped 1) refl refl) e
+of-class bars s ps e = never (barlineAs s (symbolAt barSymbols s) .token) ps (bar-none s (symbolAt barSymbols s)) e
+of-class bracket s ps e = of-bracket (drop 1 s) ps e
+of-class pitched s ps e = never (noteAfter (accidentalOf s) (drop (accidentalOf s .used) s) .token) ps (note-none (accidentalOf s) (drop (accidentalOf s .used) s)) e
+of-class none-of-these s ps e = never skipped ps refl e
+of-class (resting k) s ps e = never (restAs k (drop 1 s) .token) ps refl e
+
+-- THE LAW
+pub chord-pitches : (line : List ℕ) (at : ℕ) (ps : List Written) (l : Length) (b : Behind) → tokenOf (drop at line) .token ≡ chord ps l b → chordOf 0 none (drop (at + 1) line) ≡ some ps
+unfolding tokenOf pitchesIn
+chord-pitches line at ps l b e = ap (chordOf 0 none) (sym (drop-drop 1 at line)) ∙ of-class (classOf (first (drop at line))) (drop at line) ps (ap pitchesIn e)

@@ -1,0 +1,2 @@
+mod Dispatch
+pub mod Chords
