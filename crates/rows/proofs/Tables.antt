@@ -1,19 +1,22 @@
 -- LAWS OF TABLES, for rows of any width: none, one more, one changed, a byte or a number read back, and what a write elsewhere leaves.
-use Prim.Native.Nat.{ℕ, zero, suc, _+_, _*_, _≤_, _<_}
-use mathlib.Core.Path.{_≡_, refl, sym, ap, subst, _∙_}
+use Prim.Native.Nat.{ℕ, zero, suc, _+_, _-_, _*_, _≤_, _<_}
+use mathlib.Core.Path.{_≡_, refl, sym, ap, _∙_}
 use mathlib.Core.List.{List, [], _∷_, _++_}
 use native.Mathlib.Nat.{mul-suc, mul-zero, zero-add, not-suc-le-zero, le-of-suc-le-suc}
 use native.Mathlib.Omega.{arith}
-use lib.ListN.{length, getD, set, length-append, length-set}
-use lib.Seq.{drop-append-add, take-at}
+use lib.ListN.{length, take, drop, getD, set, length-append}
+use lib.Seq.{drop-append-add, drop-drop, take-at, take-take}
 use Rattle.laws.specs.Bytes.{part, splice, encAll, u32At}
 use Rattle.laws.specs.Lists.{alterAt}
 use Rattle.laws.proofs.Lists.{alterAt-set, length-alterAt}
-use Rattle.laws.proofs.Parts.{part-part, part-add, part-none, getD-part}
+use Rattle.laws.proofs.Parts.{part-part, part-add, part-none, part-front, part-back, getD-part}
 use Rattle.laws.proofs.Numbers.{littleAt-part}
 use Rattle.laws.proofs.Rows.{row-in, encAll-none, encAll-cons, encAll-snoc}
-use Rattle.laws.proofs.Splices.{part-same, part-below, part-above, part-around, splice-append-left, splice-append-right}
-use Rattle.rows.specs.Table.{Table}
+use Rattle.laws.proofs.Splices.{length-spliced, take-splice, drop-splice-past, part-same, part-below, part-above, part-around, splice-append-left, splice-append-right}
+use Rattle.rows.specs.Table.{Table, Only}
+
+drop-more : (a b : ℕ) (l : List ℕ) → a ≤ b → drop (b - a) (drop a l) ≡ drop b l
+drop-more a b l h = let e : a + (b - a) ≡ b = omega arith in drop-drop (b - a) a l ∙ ap (λ (k : ℕ). drop k l) e
 
 -- WHAT A WRITE ELSEWHERE LEAVES
 module _ {R : Type 0} {enc : R → List ℕ} {w : ℕ} {s : List ℕ} {at : ℕ} {xs : List R} (t : Table enc w s at xs) where
@@ -95,3 +98,39 @@ module _ {R : Type 0} (enc : R → List ℕ) (w : ℕ) (wide : (x : R) → lengt
               ∙ encoded-set xs i f bs (g (getD xs i d)) d h k q
               ∙ ap (encAll enc) (sym (alterAt-set i g xs d));
         }
+
+-- WRITES BETWEEN TWO PLACES
+-- none
+pub only-none : (lo hi : ℕ) (s : List ℕ) → Only lo hi s s
+only-none lo hi s = record { same-length = refl; front = refl; back = refl }
+
+-- one
+pub only-splice : (lo hi : ℕ) (s s′ : List ℕ) (at : ℕ) (bs : List ℕ) → s′ ≡ splice s at bs → lo ≤ at → at + length bs ≤ hi → Only lo hi s s′
+only-splice lo hi s s′ at bs e l h =
+    record {
+      same-length = length-spliced s s′ at bs e;
+      front = ap (take lo) e ∙ take-splice lo s at bs l;
+      back = ap (drop hi) e ∙ drop-splice-past hi s at bs h;
+    }
+
+-- one after the other
+pub only-then : {lo hi : ℕ} {s t u : List ℕ} → Only lo hi s t → Only lo hi t u → Only lo hi s u
+only-then p q = record { same-length = q .same-length ∙ p .same-length; front = q .front ∙ p .front; back = q .back ∙ p .back }
+
+-- between places further apart
+pub only-wider : {lo hi : ℕ} {s t : List ℕ} → Only lo hi s t → (lo′ hi′ : ℕ) → lo′ ≤ lo → hi ≤ hi′ → Only lo′ hi′ s t
+only-wider {lo} {hi} {s} {t} p lo′ hi′ l h =
+    record {
+      same-length = p .same-length;
+      front = sym (take-take lo′ lo t l) ∙ ap (take lo′) (p .front) ∙ take-take lo′ lo s l;
+      back = sym (drop-more hi hi′ t h) ∙ ap (drop (hi′ - hi)) (p .back) ∙ drop-more hi hi′ s h;
+    }
+
+module _ {R : Type 0} {enc : R → List ℕ} {w : ℕ} {s s′ : List ℕ} {at : ℕ} {xs : List R} {lo hi : ℕ} (t : Table enc w s at xs) (o : Only lo hi s s′) where
+  -- a table before them
+  pub table-front : at + w * length xs ≤ lo → Table enc w s′ at xs
+  table-front h = table-same t s′ (part-front s′ s lo at (w * length xs) (o .front) h)
+
+  -- a table behind them
+  pub table-back : hi ≤ at → Table enc w s′ at xs
+  table-back h = table-same t s′ (part-back s′ s hi at (w * length xs) (o .back) h)
