@@ -1,35 +1,34 @@
 -- CLOSING: what the code reads of a head and writes into it, and the passes over all heads.
 use Prim.Native.Nat.{ℕ, zero, suc, _+_, _-_, _*_, _^_, _≤_, _<_}
 use mathlib.Core.Path.{_≡_, refl, sym, ap, subst, _∙_}
-use mathlib.Core.Bool.{Bool, true, false, cond, _||_}
+use mathlib.Core.Bool.{true, false, cond, _||_}
 use mathlib.Core.Option.{Option, none, some}
-use mathlib.Core.List.{List, [], _∷_, _++_, append-assoc, append-nil}
-use native.Mathlib.Nat.{add-zero, zero-add, mul-zero}
+use mathlib.Core.List.{List, [], _∷_, _++_, append-assoc}
+use native.Mathlib.Nat.{zero-add}
 use native.Mathlib.Omega.{arith}
 use lib.Dec.{eqb}
-use borrow.Author.Tests.{eqb-true, ne-eqb, eq-eqb}
-use lib.ListN.{length, getD, take, drop, length-append}
-use lib.Seq.{drop-drop}
-use Rattle.laws.specs.Lists.{All}
-use Rattle.laws.specs.Bytes.{part, splice, encAll, little, le32, u32At}
+use lib.ListN.{length, getD, length-append}
+use Rattle.laws.specs.Lists.{All, sum}
+use Rattle.laws.specs.Bytes.{part, splice, little, le32, u32At}
 use Rattle.laws.proofs.Bools.{by-test, both-true, or-right, cond-true, cond-false, cond-ap}
 use Rattle.laws.proofs.Lists.{All-right}
 use Rattle.laws.proofs.Numbers.{length-little, little-bytes, little-littleAt, littleAt-own}
 use Rattle.laws.proofs.Parts.{part-all}
-use Rattle.laws.proofs.Splices.{take-splice, drop-splice-past}
 use Rattle.standard.specs.Bars.{Barline, normal, repeatStart, repeatEnd, repeatBoth, double, final, endsEnding}
 use Rattle.standard.specs.Keys.{Key}
-use Rattle.reader.specs.State.{Volta, noVolta, voltaBegins, voltaEnds, voltaAlone}
+use Rattle.reader.specs.State.{Note, Volta, noVolta, voltaBegins, voltaEnds, voltaAlone}
 use Rattle.reader.specs.Voltas.{isStart}
 use Rattle.reader.specs.Codes.{barlineCode, voltaCode, modeCode}
 use Rattle.reader.specs.Records.{markBytes, passBits, signed8}
 use Rattle.layout.specs.Log.{Head, withVolta, withMark, isEmptyHead}
 use Rattle.layout.specs.Ends.{dropped, starts, lastThere, endsAt, close, markedBy, marked}
+use Rattle.layout.specs.Sections.{notesIn}
+use Rattle.layout.proofs.Counts.{Fits}
 use Rattle.rows.specs.Table.{Table}
 use Rattle.heads.specs.Heads.{headRow, noNotes}
 use Rattle.heads.proofs.Heads.{length-head, head-mark, head-empty}
 use Rattle.ends.specs.declared.Span.{Span}
-use Rattle.ends.specs.Spans.{Small, Stands, Kept, SpanIs, closedHead, spanAfter}
+use Rattle.ends.specs.Spans.{Small, Stands, SpanIs, closedHead, spanAfter}
 use Rattle.ends.proofs.Zipped.{row-here, byte-here, u32-here, set-here, table-front}
 
 -- BYTES OF A HEAD
@@ -143,21 +142,6 @@ next-by s at n i a (x ∷ b) m h k e c q =
 pub ends-next : (s : List ℕ) (at n i : ℕ) (a b : List Head) (m : Head) → Stands s at n i a m b → (i + 1 ≡ n → ⊥) → endsEnding (m .right) ≡ false → (c : ℕ) → c ≡ getD s (at + 28 * i + 50) 0
     → eqb c 1 ≡ endsAt m b
 ends-next s at n i a b m h k e c q = next-by s at n i a b m h k e c q
-
--- WHAT IS LEFT ALONE
-pub kept-same : (lo hi : ℕ) (s : List ℕ) → Kept lo hi s s
-kept-same lo hi s = record { below = refl; above = refl }
-
-pub kept-write : {lo hi : ℕ} {s t : List ℕ} (k : ℕ) (bs : List ℕ) → t ≡ splice s k bs → lo ≤ k → k + length bs ≤ hi → Kept lo hi s t
-kept-write {lo} {hi} {s} k bs e l h = record { below = ap (take lo) e ∙ take-splice lo s k bs l; above = ap (drop hi) e ∙ drop-splice-past hi s k bs h }
-
-pub kept-on : {lo hi : ℕ} {s t u : List ℕ} → Kept lo hi s t → Kept lo hi t u → Kept lo hi s u
-kept-on p q = record { below = q .below ∙ p .below; above = q .above ∙ p .above }
-
-pub kept-wider : {lo hi : ℕ} {s t : List ℕ} → Kept lo hi s t → (hi′ : ℕ) → hi ≤ hi′ → Kept lo hi′ s t
-kept-wider {lo} {hi} {s} {t} p hi′ h =
-    let e : hi + (hi′ - hi) ≡ hi′ = omega arith in
-    record { below = p .below; above = subst (λ (k : ℕ). drop k t ≡ drop k s) e (sym (drop-drop (hi′ - hi) hi t) ∙ ap (drop (hi′ - hi)) (p .above) ∙ drop-drop (hi′ - hi) hi s) }
 
 -- one measure
 pub close-step : (o : Option (List ℕ)) (m : Head) (b : List Head) → close o (m ∷ b) ≡ closedHead o m b ∷ close (spanAfter o m b) b
@@ -373,3 +357,28 @@ module _ {s : List ℕ} {at : ℕ} (n : ℕ) where
       let q = last-of heads (n - 1) (omega arith) in
       let more : 0 < length (q .front) = omega (arith, q .count) in
       drops-as s at heads heads n (ap dropped (q .whole) ∙ dropped-last (q .front) (q .end) more ∙ cond-false _ _ _ (sym (empty-end heads q t small) ∙ e) ∙ sym (q .whole)) (sym h) t
+
+-- WHAT CALLERS NEED
+-- a count is at most all of them
+pub count-le : (cs : List ℕ) (v : ℕ) → getD cs v 0 ≤ sum (λ n. n) cs
+count-le [] v = omega arith
+count-le (c ∷ cs) zero = omega arith
+count-le (c ∷ cs) (suc v) = omega (arith, count-le cs v)
+
+small-by : (heads : List Head) → All (λ (m : Head). length (m .counts) ≡ 4) heads → sum notesIn heads < 2 ^ 32 → All Small heads
+unfolding notesIn
+small-by [] four h = tt
+small-by (m ∷ b) four h = (record { four = four .0; small = λ v l. omega (arith, count-le (m .counts) v) }, small-by b (four .1) (omega arith))
+
+-- the counts of heads that fit a log fit four bytes
+pub fits-small : (heads : List Head) (log : List (ℕ × Note)) → Fits heads log → length log < 2 ^ 32 → All Small heads
+fits-small heads log f h = small-by heads (f .four-counts) (omega (arith, f .all-notes))
+
+-- as many heads as were left
+pub length-end : (header : Key) (heads : List Head) → length (marked header (close none (dropped heads))) ≡ length (dropped heads)
+unfolding marked
+length-end header heads = length-marked (close none (dropped heads)) ∙ length-close none (dropped heads)
+  where
+    length-marked : (l : List Head) → length (marked header l) ≡ length l
+    length-marked [] = refl
+    length-marked (m ∷ l) = refl

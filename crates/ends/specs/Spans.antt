@@ -1,11 +1,10 @@
 -- CLOSING ENDINGS (layout's `close`) one measure at a time, and what the code keeps meanwhile.
 use Prim.Native.Nat.{ℕ, _+_, _<_, _^_}
 use mathlib.Core.Path.{_≡_}
-use mathlib.Core.Bool.{Bool, true, false}
+use mathlib.Core.Bool.{true, false}
 use mathlib.Core.Option.{Option, none, some}
-use mathlib.Core.List.{List, [], _∷_, _++_}
-use lib.ListN.{length, take, drop, getD}
-use Rattle.laws.specs.Lists.{All}
+use mathlib.Core.List.{List, _∷_, _++_}
+use lib.ListN.{length, getD}
 use Rattle.laws.specs.Bytes.{le32}
 use Rattle.reader.specs.State.{voltaEnds, voltaAlone}
 use Rattle.reader.specs.Records.{passBits}
@@ -25,11 +24,6 @@ pub record Stands (s : List ℕ) (at n i : ℕ) (a : List Head) (m : Head) (b : 
   pub table : Table headRow 28 s at (a ++ (m ∷ b))
   pub here : length a ≡ i
   pub all : length a + (length b + 1) ≡ n
-
--- t is s but for what stands from lo up to hi
-pub record Kept (lo hi : ℕ) (s t : List ℕ) : Type 0 where
-  pub below : take lo t ≡ take lo s
-  pub above : drop hi t ≡ drop hi s
 
 -- the ending that is open before a measure, as the code keeps it
 abbrev pub SpanIs : Span → Option (List ℕ) → Type 0

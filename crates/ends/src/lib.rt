@@ -5,18 +5,17 @@ ghost use mathlib.Core.Bool.{true, false};
 ghost use mathlib.Core.Option.{Option, none};
 ghost use mathlib.Core.List.{List, [], _∷_, _++_};
 ghost use Prim.Native.Nat.{ℕ, _+_, _*_, _≤_, _<_};
-ghost use lib.ListN.{length, take, drop};
+ghost use lib.ListN.{length};
 ghost use Rattle.laws.specs.Lists.{All};
 ghost use Rattle.laws.specs.Bytes.{splice, le32};
 ghost use Rattle.standard.specs.Bars.{Barline, endsEnding};
-ghost use Rattle.standard.specs.Keys.{Key};
 ghost use Rattle.reader.specs.Codes.{barlineCode, modeCode};
 ghost use Rattle.reader.specs.Records.{signed8};
 ghost use Rattle.layout.specs.Log.{Head};
 ghost use Rattle.layout.specs.Ends.{dropped, endsAt, close, marked};
-ghost use Rattle.rows.specs.Table.{Table};
+ghost use Rattle.rows.specs.Table.{Table, Only};
 ghost use Rattle.heads.specs.Heads.{headRow};
-ghost use Rattle.ends.specs.Spans.{Stands, Kept, SpanIs, closedHead, spanAfter, Small};
+ghost use Rattle.ends.specs.Spans.{Stands, SpanIs, closedHead, spanAfter, Small};
 
 // Whether an ending is open, and its first pass and its passes as bits.
 pub struct Span {
@@ -86,7 +85,7 @@ fn put_volta(store: &mut [u8], place: usize, code: u8, first: u8, passes: u32)
 // One measure with an ending open before it.
 fn close_open(store: &mut [u8], at: usize, n: usize, i: usize, span: Span) -> Span
     requires { ⌜ (at + 28 * n ≤ length (now store)) × (i < n) × (span .begun ≡ true) ⌝ }
-    ensures { λ _. ⌜ Kept at (at + 28 * n) (now (store .entry)) (now (store .exit)) ⌝ }
+    ensures { λ _. ⌜ Only at (at + 28 * n) (now (store .entry)) (now (store .exit)) ⌝ }
     ensures { λ r. ⌜ ((a b : List Head) (m : Head) (o : Option (List ℕ)) → Stands (now (store .entry)) at n i a m b → SpanIs span o → Table headRow 28 (now (store .exit)) at (a ++ (closedHead o m b ∷ b)) × SpanIs r (spanAfter o m b)) ⌝ }
 {
     if ends_at(store, at, n, i) {
@@ -103,7 +102,7 @@ fn close_open(store: &mut [u8], at: usize, n: usize, i: usize, span: Span) -> Sp
 // One measure with no ending open before it.
 fn close_none(store: &mut [u8], at: usize, n: usize, i: usize, span: Span) -> Span
     requires { ⌜ (at + 28 * n ≤ length (now store)) × (i < n) × (span .begun ≡ false) ⌝ }
-    ensures { λ _. ⌜ Kept at (at + 28 * n) (now (store .entry)) (now (store .exit)) ⌝ }
+    ensures { λ _. ⌜ Only at (at + 28 * n) (now (store .entry)) (now (store .exit)) ⌝ }
     ensures { λ r. ⌜ ((a b : List Head) (m : Head) (o : Option (List ℕ)) → Stands (now (store .entry)) at n i a m b → SpanIs span o → Table headRow 28 (now (store .exit)) at (a ++ (closedHead o m b ∷ b)) × SpanIs r (spanAfter o m b)) ⌝ }
 {
     let place = at + 28 * i;
@@ -124,7 +123,7 @@ fn close_none(store: &mut [u8], at: usize, n: usize, i: usize, span: Span) -> Sp
 // One measure.
 fn close_at(store: &mut [u8], at: usize, n: usize, i: usize, span: Span) -> Span
     requires { ⌜ (at + 28 * n ≤ length (now store)) × (i < n) ⌝ }
-    ensures { λ _. ⌜ Kept at (at + 28 * n) (now (store .entry)) (now (store .exit)) ⌝ }
+    ensures { λ _. ⌜ Only at (at + 28 * n) (now (store .entry)) (now (store .exit)) ⌝ }
     ensures { λ r. ⌜ ((a b : List Head) (m : Head) (o : Option (List ℕ)) → Stands (now (store .entry)) at n i a m b → SpanIs span o → Table headRow 28 (now (store .exit)) at (a ++ (closedHead o m b ∷ b)) × SpanIs r (spanAfter o m b)) ⌝ }
 {
     if span.begun {
@@ -137,7 +136,7 @@ fn close_at(store: &mut [u8], at: usize, n: usize, i: usize, span: Span) -> Span
 // Each ending is closed at its first measure whose right barline ends it, before the next start; else at the last there.
 pub fn close_abc_volta_spans(store: &mut [u8], at: usize, n: usize)
     requires { ⌜ at + 28 * n ≤ length (now store) ⌝ }
-    ensures { λ _. ⌜ Kept at (at + 28 * n) (now (store .entry)) (now (store .exit)) ⌝ }
+    ensures { λ _. ⌜ Only at (at + 28 * n) (now (store .entry)) (now (store .exit)) ⌝ }
     ensures { λ _. ⌜ ((heads : List Head) → Table headRow 28 (now (store .entry)) at heads → length heads ≡ n → Table headRow 28 (now (store .exit)) at (close none heads)) ⌝ }
 {
     let mut span = Span {
@@ -157,7 +156,7 @@ pub fn close_abc_volta_spans(store: &mut [u8], at: usize, n: usize)
 // The header's key on the first head, if that has none.
 pub fn mark_first(store: &mut [u8], at: usize, n: usize, fifths: u8, minor: bool)
     requires { ⌜ at + 28 * n ≤ length (now store) ⌝ }
-    ensures { λ _. ⌜ Kept at (at + 28 * n) (now (store .entry)) (now (store .exit)) ⌝ }
+    ensures { λ _. ⌜ Only at (at + 28 * n) (now (store .entry)) (now (store .exit)) ⌝ }
     ensures { λ _. ⌜ ((heads : List Head) → Table headRow 28 (now (store .entry)) at heads → length heads ≡ n → Table headRow 28 (now (store .exit)) at (marked (record { fifths = fifths; minor = minor }) heads)) ⌝ }
 {
     if n == 0 {
@@ -186,7 +185,7 @@ fn signed(n: u8) -> u8
 // THE WHOLE END: how many heads are left.
 pub fn end_part(store: &mut [u8], at: usize, n: usize, fifths: u8, minor: bool) -> usize
     requires { ⌜ at + 28 * n ≤ length (now store) ⌝ }
-    ensures { λ r. ⌜ (r ≤ n) × Kept at (at + 28 * n) (now (store .entry)) (now (store .exit)) ⌝ }
+    ensures { λ r. ⌜ (r ≤ n) × Only at (at + 28 * n) (now (store .entry)) (now (store .exit)) ⌝ }
     ensures { λ r. ⌜ ((heads : List Head) → Table headRow 28 (now (store .entry)) at heads → length heads ≡ n → All Small heads → (r ≡ length (dropped heads)) × Table headRow 28 (now (store .exit)) at (marked (record { fifths = fifths; minor = minor }) (close none (dropped heads)))) ⌝ }
 {
     let left = drop_empty(store, at, n);

@@ -1,16 +1,15 @@
 -- THE NOTES IN THE ORDER OF THE READING: what the rows give is layout's section.
 use Prim.Native.Nat.{ℕ, zero, suc, _+_, _-_, _*_, _%_, _^_, _≤_, _<_}
 use mathlib.Core.Path.{_≡_, refl, sym, ap, subst, _∙_}
-use mathlib.Core.Bool.{Bool, true, false, cond, _&&_}
-use mathlib.Core.List.{List, [], _∷_, _++_, map, append-nil, append-assoc}
+use mathlib.Core.Bool.{Bool, true, false, cond}
+use mathlib.Core.List.{List, [], _∷_, _++_, append-nil, append-assoc}
 use native.Mathlib.Nat.{add-zero}
 use native.Mathlib.Omega.{arith}
-use lib.Dec.{eqb, leb}
+use lib.Dec.{eqb}
 use borrow.Author.Tests.{eq-eqb, ne-eqb, le-leb, lt-leb}
 use lib.ListN.{length, getD, take, drop, length-append, length-take, length-drop, take-append-drop}
-use Rattle.laws.specs.Lists.{All, keep, cat, sum}
+use Rattle.laws.specs.Lists.{All, keep, sum}
 use Rattle.laws.specs.Bytes.{part, splice, encAll, little, le32, u32At}
-use Rattle.laws.proofs.Bools.{by-test}
 use Rattle.laws.proofs.Lists.{sum-append, All-left, All-right}
 use Rattle.laws.proofs.Parts.{length-part, getD-part, part-part}
 use Rattle.laws.proofs.Splices.{spliced-next}
@@ -18,7 +17,7 @@ use Rattle.laws.proofs.Numbers.{length-little, littleAt-part}
 use Rattle.laws.proofs.Rows.{encAll-none, encAll-cons, encAll-append}
 use Rattle.standard.specs.Notes.{NoteKind, sounded, rest, invisibleRest, barRest, invisibleBarRest, isSounded, beamable, Flags}
 use Rattle.reader.specs.State.{Note}
-use Rattle.reader.specs.Codes.{kindCode, beamCode, bit}
+use Rattle.reader.specs.Codes.{kindCode, bit}
 use Rattle.reader.specs.Records.{isUnbeamed, flagByte, noteBytes, section}
 use Rattle.layout.specs.Log.{Head}
 use Rattle.layout.specs.Sections.{headBytes, notesIn, ofVoice, byVoice, inOrder}
@@ -27,6 +26,7 @@ use Rattle.rows.specs.Encoded.{marksByte, rowBytes, noteRow}
 use Rattle.rows.proofs.Bytes.{length-note}
 use Rattle.heads.specs.Heads.{headRow}
 use Rattle.heads.proofs.Heads.{length-head, head-row, head-count}
+use Rattle.ends.proofs.Closing.{count-le}
 use Rattle.sections.specs.declared.Wrote.{Wrote}
 use Rattle.sections.specs.declared.Wrote.the-variants.{To, NoRoom}
 use Rattle.sections.specs.Writes.{WroteIs}
@@ -197,7 +197,7 @@ voice-out s v p (x ∷ xs) t =
     rw (byte-voice s p x row, note-out s p x row, ih) (kept-by v x xs (eqb (x .0) v) refl)
 
 -- byVoice, with the first voice before the others
-by-voice : (xs : List (ℕ × Note)) → byVoice xs ≡ ofVoice 0 xs ++ (ofVoice 1 xs ++ (ofVoice 2 xs ++ ofVoice 3 xs))
+pub by-voice : (xs : List (ℕ × Note)) → byVoice xs ≡ ofVoice 0 xs ++ (ofVoice 1 xs ++ (ofVoice 2 xs ++ ofVoice 3 xs))
 unfolding byVoice
 by-voice xs = append-assoc (ofVoice 0 xs ++ ofVoice 1 xs) (ofVoice 2 xs) (ofVoice 3 xs) ∙ append-assoc (ofVoice 0 xs) (ofVoice 1 xs) (ofVoice 2 xs ++ ofVoice 3 xs)
 
@@ -209,12 +209,7 @@ measure-out s p xs t =
     (sym (ap (encAll out) (by-voice xs) ∙ encAll-append out (ofVoice 0 xs) (ofVoice 1 xs ++ (ofVoice 2 xs ++ ofVoice 3 xs)) ∙ rw (encAll-append out (ofVoice 1 xs) (ofVoice 2 xs ++ ofVoice 3 xs), encAll-append out (ofVoice 2 xs) (ofVoice 3 xs))))
 
 -- ALL MEASURES
--- a count is at most all of them
-count-le : (cs : List ℕ) (v : ℕ) → getD cs v 0 ≤ sum (λ n. n) cs
-count-le [] v = omega arith
-count-le (c ∷ cs) zero = omega arith
-count-le (c ∷ cs) (suc v) = omega (arith, count-le cs v)
-
+-- a head's four counts
 four-sum : (cs : List ℕ) → length cs ≡ 4 → sum (λ n. n) cs ≡ getD cs 0 0 + getD cs 1 0 + getD cs 2 0 + getD cs 3 0
 four-sum [] h = absurd (omega arith)
 four-sum (a ∷ []) h = absurd (omega arith)
@@ -324,7 +319,8 @@ notes-total {s} {heads} {n} {notes} {count} {ms} {log} h =
     let f = h .fits in
     ap (total s heads) (sym (h .heads-count)) ∙ total-out s heads ms (h .heads-held) (f .four-counts) (omega (arith, f .all-notes, h .small, h .notes-count)) ∙ f .all-notes ∙ h .notes-count
 
-heads-bytes : (ms : List Head) → All (λ (m : Head). length (m .counts) ≡ 4) ms → encAll headRow ms ≡ encAll headBytes ms
+-- a table of headRow is one of headBytes
+pub heads-bytes : (ms : List Head) → All (λ (m : Head). length (m .counts) ≡ 4) ms → encAll headRow ms ≡ encAll headBytes ms
 unfolding encAll
 heads-bytes [] h = refl
 heads-bytes (m ∷ ms) h = λ i. head-row m (h .0) i ++ heads-bytes ms (h .1) i

@@ -3,7 +3,8 @@ use mathlib.Core.Path.{sym, _∙_}
 use mathlib.Core.Option.{none}
 use native.Mathlib.Omega.{arith}
 use Rattle.layout.specs.Ends.{dropped}
-use Rattle.ends.proofs.Closing.{kept-on, kept-wider, length-close}
+use Rattle.rows.proofs.Tables.{only-then, only-wider}
+use Rattle.ends.proofs.Closing.{length-close}
 use borrow.Author.Needs.{needs}
 use Rattle.ends.proofs.end_part.Statement.{statement}
 use Rattle.ends.proofs.end_part.Tie as tie
@@ -13,7 +14,7 @@ returns c =
     let d = c .before .before .before .before .before .before .before .before .drop-empty .ensures in
     let k = c .before .before .before .before .before .before .close-abc-volta-spans .ensures in
     let f = c .before .before .mark-first .ensures in (
-      (d .0, kept-on (kept-wider (k .0) _ (omega (arith, d .0))) (kept-wider (f .0) _ (omega (arith, d .0)))),
+      (d .0, only-then (only-wider (k .0) _ _ (omega arith) (omega (arith, d .0))) (only-wider (f .0) _ _ (omega arith) (omega (arith, d .0)))),
       λ heads t h small.
           let (n, u) = d .1 heads t h small in
           (n, f .1 _ (k .1 (dropped heads) u (sym n)) (length-close none (dropped heads) ∙ sym n)),

@@ -1,5 +1,4 @@
 -- `ends::ends_ending` meets its contract.
-use mathlib.Core.Path.{sym, ap, _∙_}
 use borrow.Author.Tests.{eq-eqb, ne-eqb}
 use Rattle.ends.proofs.Closing.{ends-code}
 use Rattle.ends.proofs.ends_ending.Statement.{statement}
