@@ -1,6 +1,6 @@
 -- `brokenLength` is what `brokenNote` does to a note's value and dots.
 use Prim.Native.Nat.{ℕ, _<_}
-use mathlib.Core.Path.{_≡_, ap}
+use mathlib.Core.Path.{_≡_, sym, ap, _∙_}
 use mathlib.Core.Bool.{Bool, true, false}
 use native.Mathlib.Omega.{arith}
 use borrow.Author.Tests.{eq-eqb, ne-eqb}
@@ -30,14 +30,20 @@ broken-proper true n (WholeBar d) p = tt
 broken-proper false n (Written v d) p = omega arith
 broken-proper false n (WholeBar d) p = tt
 
-pub broken-note : (up : Bool) (n : ℕ) (l : Length) (x : Note) → Proper l → valueIn x ≡ asValue l
+-- a written value is no whole bar
+abbrev pub NoBar : Length → Type 0
+NoBar (Written v d) = v ≡ 10 → ⊥
+NoBar (WholeBar d) = Unit {0}
+
+-- one note of a broken pair, in the length and in the note
+pub broken-note : (up : Bool) (n : ℕ) (l : Length) (x : Note) → NoBar l → valueIn x ≡ asValue l
     → brokenNote (record { up = up; times = n }) x ≡ writtenOn (asValue (brokenLength up n l)) x
 unfolding brokenNote halvedNote brokenLength dotted halved
 broken-note true n (Written v d) x p e = rw e
 broken-note true n (WholeBar d) x p e = rw e
 broken-note false n (Written v d) x p e =
     let k : x .value ≡ v = ap (λ (w : Value). w .value) e in
-    rw (ne-eqb (x .value) 10 (λ z. omega arith), halvedNote) (rw e)
+    rw (ne-eqb (x .value) 10 (λ z. p (sym k ∙ z)), halvedNote) (rw e)
 broken-note false n (WholeBar d) x p e =
     let k : x .value ≡ 10 = ap (λ (w : Value). w .value) e in
     rw (eq-eqb (x .value) 10 k, halvedNote) (ap (λ (w : Value). writtenOn w x) e)

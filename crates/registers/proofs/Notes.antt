@@ -18,7 +18,7 @@ use Rattle.layout.specs.Log.{beamedNew}
 use Rattle.lengths.specs.declared.Length.{Length}
 use Rattle.lengths.specs.declared.Length.the-variants.{Written, WholeBar}
 use Rattle.lengths.specs.Values.{asValue, brokenLength, written}
-use Rattle.lengths.proofs.Broken.{Proper, broken-note}
+use Rattle.lengths.proofs.Broken.{NoBar, broken-note}
 use Rattle.rows.specs.Encoded.{marksByte, rowFor}
 use Rattle.registers.specs.Notes.{beams, bitOf, marksOf, lengthIn, boundaryOf, withBeam, groupedRow, fewer, brokenRow, halvedRow, runAgain, beamedRow}
 use Rattle.registers.specs.States.{pendingFor, halfFor, runningFor}
@@ -46,7 +46,7 @@ fewer-is none = refl
 fewer-is (some t) = by-test (leb (t .left) 1) (λ e. rw e) (λ e. rw e)
 
 -- a length by its value and dots
-length-proper : (v d : ℕ) → Proper (lengthIn v d)
+length-proper : (v d : ℕ) → NoBar (lengthIn v d)
 unfolding lengthIn
 length-proper v d = by-test (eqb v 10) (λ e. rw e tt) (λ e. rw e (eqb-false v 10 e))
 
