@@ -300,6 +300,9 @@ ones : (xs : List (ℕ × Note)) → sum (λ x. 1) xs ≡ length xs
 ones [] = refl
 ones (x ∷ xs) = omega (arith, ones xs)
 
+pub length-by-voice : (xs : List (ℕ × Note)) → All (λ (x : ℕ × Note). x .0 < 4) xs → length (byVoice xs) ≡ length xs
+length-by-voice xs h = sym (ones (byVoice xs)) ∙ by-voice-sum (λ x. 1) xs h ∙ ones xs
+
 pub length-in-order : (ms : List Head) (log : List (ℕ × Note)) → sum notesIn ms ≡ length log → All (λ (x : ℕ × Note). x .0 < 4) log → length (inOrder ms log) ≡ length log
 length-in-order ms log e h = sym (ones (inOrder ms log)) ∙ in-order-sum (λ x. 1) ms log e h ∙ ones log
 
