@@ -40,13 +40,13 @@ abbrev pub sectionPrices : Prices
 sectionPrices =
     record { measure = measureWidth; note = noteWidth; pitch = pitchWidth; accidental = 0; syllable = lyricWidth; text = 1; byte = 23; kept = 5 }
 
--- the tables of a scratch store, by their rows: 28 bytes for each byte of a line
+-- the tables of a scratch store, by their rows (a note's 16 and the 4 of its lyric head): 28 bytes for each byte of a line
 abbrev pub tablePrices : Prices
-tablePrices = record { measure = 32; note = 16; pitch = 8; accidental = 8; syllable = 20; text = 0; byte = 28; kept = 4 }
+tablePrices = record { measure = 28; note = 20; pitch = 5; accidental = 8; syllable = 16; text = 0; byte = 28; kept = 3 }
 
 -- a row of the line table
 abbrev pub rowPrice : ℕ
-rowPrice = 24
+rowPrice = 16
 
 -- what each byte of the text pays for the line table and one part's tables
 abbrev pub textPays : ℕ
