@@ -236,7 +236,7 @@ ends-held {t} {s} {s′} {r} b opens l n places heads′ room h q e f =
     }
 
 -- other counts of scopes
-stored-as : {t : Tables} {c c′ : Counts} {s : List ℕ} {hs : List Head} {log : _} {ps : _} → Stored t c s hs log ps → c′ .heads ≡ c .heads → c′ .notes ≡ c .notes → c′ .pitches ≡ c .pitches → Stored t c′ s hs log ps
+pub stored-as : {t : Tables} {c c′ : Counts} {s : List ℕ} {hs : List Head} {log : _} {ps : _} → Stored t c s hs log ps → c′ .heads ≡ c .heads → c′ .notes ≡ c .notes → c′ .pitches ≡ c .pitches → Stored t c′ s hs log ps
 stored-as h e f g =
     record {
       heads-table = h .heads-table;
