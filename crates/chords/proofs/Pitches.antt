@@ -1,18 +1,18 @@
 -- The pitches of a chord, as lists: one more behind others; each step is one of seven.
 use Prim.Native.Nat.{ℕ, zero, suc, _+_, _<_}
-use mathlib.Core.Path.{_≡_, refl, sym, ap, subst, _∙_}
-use mathlib.Core.Bool.{Bool, true, false, _||_}
+use mathlib.Core.Path.{_≡_, refl, ap, subst}
+use mathlib.Core.Bool.{_||_}
 use mathlib.Core.Option.{Option, none, some}
 use mathlib.Core.List.{List, [], _∷_, _++_}
 use native.Mathlib.Omega.{arith}
-use lib.ListN.{length, drop}
+use lib.ListN.{length}
 use Rattle.laws.specs.Lists.{All}
 use Rattle.laws.proofs.Bools.{by-test}
 use Rattle.standard.specs.Bytes.{is}
 use Rattle.standard.specs.Keys.{Key}
 use Rattle.standard.specs.Pitches.{Accidental, Written, Pitch, isLetter, stepOf}
 use Rattle.reader.specs.Pitches.{natural, quarterTone, added, isQuarter, Octave, octaveOf, consPitch, chordOf, Scope, soundOf, scopeAfter, soundsOf, scopeAfterAll}
-use Rattle.chords.specs.Chords.{marks, marked, pitchesOr, chordIn, ChordAt}
+use Rattle.chords.specs.Chords.{marked}
 
 -- ONE MORE behind others
 pub sounds-more : (k : Key) (sc : Scope) (ws : List Written) (w : Written) → soundsOf k sc (ws ++ (w ∷ [])) ≡ soundsOf k sc ws ++ (soundOf k (scopeAfterAll sc ws) w ∷ [])
@@ -67,11 +67,3 @@ chord-low (suc k) a (c ∷ s) = chord-low k a s
 pub first-low : (s : List ℕ) (w : Written) (ws : List Written) → chordOf 0 none s ≡ some (w ∷ ws) → w .step < 7
 unfolding Low
 first-low s w ws e = subst Low e (chord-low 0 none s) .0
-
--- BY THE DEFINITION'S LIST, for a caller
-pub chord-in : (line : List ℕ) (place : ℕ) (ws : List Written) → chordOf 0 none (drop place line) ≡ some ws → chordIn line place ≡ ws
-unfolding pitchesOr
-chord-in line place ws e = ap pitchesOr e
-
-pub chord-at : (line : List ℕ) (place count : ℕ) (ws : List Written) → chordOf 0 none (drop place line) ≡ some ws → count ≡ length ws → ChordAt line place count
-chord-at line place count ws e k = let i = chord-in line place ws e in record { fine = e ∙ ap some (sym i); count-is = k ∙ ap length (sym i) }

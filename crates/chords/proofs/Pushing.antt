@@ -1,5 +1,5 @@
 -- A chord's pitches, one by one, and its row.
-use Prim.Native.Nat.{ℕ, zero, suc, _+_, _*_, _^_, _≤_, _<_}
+use Prim.Native.Nat.{ℕ, zero, suc, _+_, _≤_, _<_}
 use mathlib.Core.Path.{_≡_, refl, sym, ap, subst, _∙_}
 use mathlib.Core.Bool.{Bool}
 use mathlib.Core.Option.{Option, none, some}
@@ -7,35 +7,31 @@ use mathlib.Core.List.{List, [], _∷_, _++_, append-assoc, append-nil}
 use native.Mathlib.Omega.{arith}
 use lib.ListN.{length, getD, drop, length-append}
 use Rattle.laws.specs.Lists.{alterAt}
-use Rattle.laws.proofs.Lists.{alterAt-set, alterAt-alterAt, getD-alterAt, length-alterAt}
+use Rattle.laws.proofs.Lists.{alterAt-alterAt, getD-alterAt, length-alterAt}
 use Rattle.standard.specs.Pitches as standard
 use Rattle.standard.specs.Pitches.{Written}
 use Rattle.standard.specs.Lengths.{Value}
-use Rattle.standard.specs.Notes.{Behind, pendingAfter}
-use Rattle.reader.specs.Lengths as reader
-use Rattle.reader.specs.Lengths.{valueOf}
+use Rattle.standard.specs.Notes.{pendingAfter}
 use Rattle.reader.specs.Pitches.{chordOf, Scope, soundOf, scopeAfter, soundsOf, scopeAfterAll}
 use Rattle.reader.specs.Part.{soundNote}
 use Rattle.layout.specs.Log.{LogState, setScopes, setPending, append, onSound}
 use Rattle.layout.proofs.Lines.{Standing}
 use Rattle.lengths.specs.declared.Length.{Length}
-use Rattle.lengths.specs.Values.{asValue}
 use Rattle.pitches.specs.declared.Pitch.{Pitch}
-use Rattle.pitches.specs.declared.Met.{Met}
 use Rattle.pitches.specs.declared.Met.the-variants as met-as
 use Rattle.pitches.specs.Pitches.{markFor, pitchFor}
 use Rattle.pitches.specs.Chords.{pitchMet, metFor}
-use Rattle.pitches.proofs.Walk.{mark-back, Next, next-pitch}
+use Rattle.pitches.proofs.Walk.{mark-back, next-pitch}
 use Rattle.rows.proofs.Tables.{only-none, only-then}
 use Rattle.scopes.specs.Resolving.{signs, writtenOf}
 use Rattle.registers.specs.declared.Counts.{Counts}
 use Rattle.registers.specs.declared.Tables.{Tables}
 use Rattle.registers.specs.declared.Registers.{Registers}
-use Rattle.held.specs.Held.{Room, Held, Holding, Grows, Does}
+use Rattle.held.specs.Held.{Room, Held, Holding}
 use Rattle.sounds.specs.Sounds.{Pushable, Pushes, Soundable, Sounds}
 use Rattle.sounds.proofs.Sounding.{standing-scopes}
 use Rattle.chords.specs.Chords.{marks, marked, chordIn, ChordAt, PushesAll, ChordsAs}
-use Rattle.chords.proofs.Pitches.{sounds-more, scope-more, marked-both, length-sounds, first-low, chord-in}
+use Rattle.chords.proofs.Pitches.{sounds-more, scope-more, marked-both, length-sounds, first-low}
 
 -- A PITCH in the code's type, and back
 written-back : (w : Written) → writtenOf (pitchFor w) ≡ w
@@ -75,12 +71,6 @@ pushed-none t s r =
 -- ONE MORE
 module _ {t : Tables} {s s₁ s₂ : List ℕ} {r r₁ r₂ : Registers} {ws : List Written} (w : Written) (a : PushesAll t s r s₁ r₁ ws) (b : Pushes t s₁ r₁ s₂ r₂ (pitchFor w)) where
   module _ (l : LogState) (st : Standing l) (h : Held t s r [] l) where
-    o : ℕ
-    o = l .line .overlay
-
-    sc : Scope
-    sc = getD (l .scopes) (l .line .overlay) []
-
     there : getD (scopesAfter l ws) (l .line .overlay) [] ≡ scopeAfterAll (getD (l .scopes) (l .line .overlay) []) ws
     there =
         getD-alterAt (l .line .overlay) (λ old. scopeAfterAll (getD (l .scopes) (l .line .overlay) []) ws) (l .scopes) [] (omega (arith, st .overlay-4, st .scopes-4))
@@ -137,8 +127,7 @@ pub record Turn (line : List ℕ) (rest : List Written) (p : Pitch) (next : ℕ)
   pub low : first .step < 7
   pub to-come : chordOf 0 none (drop next line) ≡ some behind
 
-module _ (line : List ℕ) (t : Tables) (s : List ℕ) (r : Registers) (place count : ℕ) (c : ChordAt line place count) (s′ : List ℕ) (r′ : Registers) (i n : ℕ)
-    (p : Pushing line t s r place s′ r′ i n) where
+module _ {line : List ℕ} {t : Tables} {s s′ : List ℕ} {r r′ : Registers} {place count i n : ℕ} (c : ChordAt line place count) (p : Pushing line t s r place s′ r′ i n) where
   left-are : count ≡ n + length (p .rest)
   left-are = c .count-is ∙ ap length (p .all-are) ∙ length-append (p .done) (p .rest) ∙ ap (λ (k : ℕ). k + length (p .rest)) (sym (p .count-is))
 
@@ -164,8 +153,8 @@ module _ (line : List ℕ) (t : Tables) (s : List ℕ) (r : Registers) (place co
     meets f = some-left (λ w ws e. let x = next-pitch line i w ws (p .to-come ∙ ap some e) in f (pitchFor w) (x .next) (x .answer))
 
     -- it is the chord's next one
-    pub turn : (q : Pitch) (next : ℕ) → metFor i (pitchMet 0 none (drop i line)) ≡ met-as.Pitch q next → Turn line (p .rest) q next
-    turn q next m = some-left by
+    pub turn : {q : Pitch} {next : ℕ} → metFor i (pitchMet 0 none (drop i line)) ≡ met-as.Pitch q next → Turn line (p .rest) q next
+    turn {q} {next} m = some-left by
       where
         by : (w : Written) (ws : List Written) → p .rest ≡ w ∷ ws → Turn line (p .rest) q next
         by w ws e =
@@ -182,7 +171,7 @@ module _ (line : List ℕ) (t : Tables) (s : List ℕ) (r : Registers) (place co
               to-come = ap (λ (k : ℕ). chordOf 0 none (drop k line)) n′ ∙ x .rest;
             }
 
-  module _ (q : Pitch) (next : ℕ) (u : Turn line (p .rest) q next) where
+  module _ {q : Pitch} {next : ℕ} (u : Turn line (p .rest) q next) where
     whole : chordIn line place ≡ p .done ++ (u .first ∷ u .behind)
     whole = p .all-are ∙ ap (λ (ws : List Written). p .done ++ ws) (u .rest-is)
 
@@ -216,8 +205,8 @@ module _ (line : List ℕ) (t : Tables) (s : List ℕ) (r : Registers) (place co
     turn-low = subst (λ (x : Pitch). x .step < 7) (sym (u .pitch-is)) (u .low)
 
     -- it is pushed
-    pub turn-done : (s₂ : List ℕ) (r₂ : Registers) → Pushes t s′ r′ s₂ r₂ q → Pushing line t s r place s₂ r₂ next (n + 1)
-    turn-done s₂ r₂ b =
+    pub turn-done : {s₂ : List ℕ} {r₂ : Registers} → Pushes t s′ r′ s₂ r₂ q → Pushing line t s r place s₂ r₂ next (n + 1)
+    turn-done {s₂} {r₂} b =
         record {
           done = p .done ++ (u .first ∷ []);
           rest = u .behind;
@@ -228,51 +217,50 @@ module _ (line : List ℕ) (t : Tables) (s : List ℕ) (r : Registers) (place co
         }
 
 -- THE CHORD'S ROW
-module _ (t : Tables) (s : List ℕ) (r : Registers) (ws : List Written) where
-  -- room for the pitches
-  pub pitches-room : (k m : ℕ) → Room t (r .counts) (length s) 0 1 k m → Room t (r .counts) (length s) 0 0 k m
-  pitches-room k m room =
-      record { for-heads = room .for-heads; for-notes = omega (arith, room .for-notes); for-pitches = room .for-pitches; for-scopes = room .for-scopes; ends = room .ends; small = room .small }
+-- room for the pitches
+pub pitches-room : {t : Tables} {c : Counts} {n k m : ℕ} → Room t c n 0 1 k m → Room t c n 0 0 k m
+pitches-room room =
+    record { for-heads = room .for-heads; for-notes = omega (arith, room .for-notes); for-pitches = room .for-pitches; for-scopes = room .for-scopes; ends = room .ends; small = room .small }
 
-  module _ (s₁ : List ℕ) (r₁ : Registers) (a : PushesAll t s r s₁ r₁ ws) where
-    -- room for the row
-    pub chord-room : Room t (r .counts) (length s) 0 1 (length ws) (marked ws) → Room t (r₁ .counts) (length s₁) 0 1 0 0
-    chord-room room =
-        let g = a .grows in
-        record {
-          for-heads = omega (arith, room .for-heads, g);
-          for-notes = omega (arith, room .for-notes, g);
-          for-pitches = omega (arith, room .for-pitches, g);
-          for-scopes = omega (arith, room .for-scopes, g);
-          ends = omega (arith, room .ends, a .only .same-length);
-          small = room .small;
-        }
+module _ {t : Tables} {s s₁ : List ℕ} {r r₁ : Registers} {ws : List Written} (a : PushesAll t s r s₁ r₁ ws) where
+  -- room for the row
+  pub chord-room : Room t (r .counts) (length s) 0 1 (length ws) (marked ws) → Room t (r₁ .counts) (length s₁) 0 1 0 0
+  chord-room room =
+      let g = a .grows in
+      record {
+        for-heads = omega (arith, room .for-heads, g);
+        for-notes = omega (arith, room .for-notes, g);
+        for-pitches = omega (arith, room .for-pitches, g);
+        for-scopes = omega (arith, room .for-scopes, g);
+        ends = omega (arith, room .ends, a .only .same-length);
+        small = room .small;
+      }
 
-    pub chord-able : (count : ℕ) → count ≡ length ws → Holding t s r → Soundable t s₁ r₁ count
-    chord-able count e h =
-        let l = h .state in
-        let sc = getD (l .scopes) (l .line .overlay) [] in
-        record {
-          state = setScopes (scopesAfter l ws) l;
-          pitches = soundsOf (l .key) sc ws;
-          standing = standing-after l ws (h .standing);
-          count-is = e ∙ sym (length-sounds (l .key) sc ws);
-          held = a .holds l (h .standing) (h .held);
-        }
+  pub chord-able : {count : ℕ} → count ≡ length ws → Holding t s r → Soundable t s₁ r₁ count
+  chord-able e h =
+      let l = h .state in
+      let sc = getD (l .scopes) (l .line .overlay) [] in
+      record {
+        state = setScopes (scopesAfter l ws) l;
+        pitches = soundsOf (l .key) sc ws;
+        standing = standing-after l ws (h .standing);
+        count-is = e ∙ sym (length-sounds (l .key) sc ws);
+        held = a .holds l (h .standing) (h .held);
+      }
 
-    pub chords-as : (s₂ : List ℕ) (r₂ : Registers) (w : Length) (tie slur : Bool) (count : ℕ) → count ≡ length ws → Sounds t s₁ r₁ s₂ r₂ w tie slur count → ChordsAs t s r s₂ r₂ ws w tie slur
-    unfolding onSound
-    chords-as s₂ r₂ w tie slur count k b =
-        record {
-          only = only-then (a .only) (b .only);
-          grows =
-              let f = a .grows in
-              let g = b .grows in
-              record { more-heads = omega (arith, f, g); more-notes = omega (arith, f, g); more-pitches = omega (arith, f, g); more-scopes = omega (arith, f, g) };
-          holds =
-              λ l e len st i j v h.
-              let sc = getD (l .scopes) (l .line .overlay) [] in
-              let ps = soundsOf (l .key) sc ws in
-              subst (λ (u : Value). Held t s₂ r₂ [] (append (soundNote u (l .pending) e ps) (setScopes (scopesAfter l ws) (setPending (pendingAfter (l .pending) e) l)))) v
-              (b .holds (setScopes (scopesAfter l ws) l) e ps (standing-after l ws st) i j (k ∙ sym (length-sounds (l .key) sc ws)) (a .holds l st h));
-        }
+  pub chords-as : {s₂ : List ℕ} {r₂ : Registers} {w : Length} {tie slur : Bool} {count : ℕ} → count ≡ length ws → Sounds t s₁ r₁ s₂ r₂ w tie slur count → ChordsAs t s r s₂ r₂ ws w tie slur
+  unfolding onSound
+  chords-as {s₂} {r₂} k b =
+      record {
+        only = only-then (a .only) (b .only);
+        grows =
+            let f = a .grows in
+            let g = b .grows in
+            record { more-heads = omega (arith, f, g); more-notes = omega (arith, f, g); more-pitches = omega (arith, f, g); more-scopes = omega (arith, f, g) };
+        holds =
+            λ l e len st i j v h.
+            let sc = getD (l .scopes) (l .line .overlay) [] in
+            let ps = soundsOf (l .key) sc ws in
+            subst (λ (u : Value). Held t s₂ r₂ [] (append (soundNote u (l .pending) e ps) (setScopes (scopesAfter l ws) (setPending (pendingAfter (l .pending) e) l)))) v
+            (b .holds (setScopes (scopesAfter l ws) l) e ps (standing-after l ws st) i j (k ∙ sym (length-sounds (l .key) sc ws)) (a .holds l st h));
+      }
