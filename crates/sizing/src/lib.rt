@@ -24,19 +24,37 @@ pub struct Made {
 fn is_bar(c: u8) -> bool
     ensures { λ r. ⌜ r ≡ isBar c ⌝ }
 {
-    c == b'|' || c == b':'
+    if c == b'|' {
+        return true;
+    }
+    c == b':'
 }
 
 fn is_rest(c: u8) -> bool
     ensures { λ r. ⌜ r ≡ isRest c ⌝ }
 {
-    c == b'z' || c == b'x' || c == b'Z' || c == b'X'
+    if c == b'z' {
+        return true;
+    }
+    if c == b'x' {
+        return true;
+    }
+    if c == b'Z' {
+        return true;
+    }
+    c == b'X'
 }
 
 fn is_sign(c: u8) -> bool
     ensures { λ r. ⌜ r ≡ isSign c ⌝ }
 {
-    c == b'^' || c == b'_' || c == b'='
+    if c == b'^' {
+        return true;
+    }
+    if c == b'_' {
+        return true;
+    }
+    c == b'='
 }
 
 fn one(b: bool) -> usize
