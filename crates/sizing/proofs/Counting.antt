@@ -1,14 +1,14 @@
 -- Counting, byte by byte, line by line and item by item.
-use Prim.Native.Nat.{ℕ, zero, suc, _+_, _-_, _*_, _^_, _≤_, _<_, zero-le}
+use Prim.Native.Nat.{ℕ, zero, suc, _+_, _-_, _^_, _≤_, _<_}
 use mathlib.Core.Path.{_≡_, refl, sym, ap, _∙_}
 use mathlib.Core.Bool.{Bool, true, false, cond}
-use mathlib.Core.List.{List, [], _∷_, _++_, map, append-nil}
-use native.Mathlib.Nat.{add-zero, zero-add, add-assoc}
+use mathlib.Core.List.{List, [], _∷_, _++_, append-nil}
+use native.Mathlib.Nat.{add-zero, zero-add}
 use native.Mathlib.Omega.{arith}
 use lib.Dec.{eqb}
 use lib.ListN.{length, getD, take, drop, length-append, drop-of-length-le}
 use borrow.Author.Tests.{eq-eqb, ne-eqb}
-use Rattle.laws.specs.Lists.{keep, cat, sum}
+use Rattle.laws.specs.Lists.{keep, sum}
 use Rattle.laws.specs.Bytes.{part, between}
 use Rattle.laws.proofs.Bools.{by-test}
 use Rattle.laws.proofs.Lists.{drop-next, keep-le}
@@ -20,7 +20,7 @@ use Rattle.sizes.specs.Sizes.{isBar, isRest, isSign, bars, letters, rests, sign
 use Rattle.sizes.specs.Music.{musicIn, musicOf}
 use Rattle.sizes.proofs.Tokens.{bars-both, letters-both, rests-both, signs-both}
 use Rattle.table.specs.declared.Row.{Row}
-use Rattle.table.specs.Rows.{decItem, itemAs, itemIn, itemsIn, RowIs}
+use Rattle.table.specs.Rows.{itemAs, itemIn, itemsIn, RowIs}
 use Rattle.table.proofs.Rows.{items-get, length-items}
 use Rattle.lyrics.specs.Items.{itemAt}
 use Rattle.sizing.specs.declared.Made.{Made}

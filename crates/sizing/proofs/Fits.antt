@@ -1,7 +1,7 @@
 -- THE TABLES FIT: a byte of music pays 28 bytes and makes a measure of 28, or a note, its pitch and its lyric head (25), or a rest and the head that it may get
 -- (20), or an accidental (8). A byte of lyrics pays for a row of 16.
-use Prim.Native.Nat.{ℕ, zero, suc, _+_, _-_, _*_, _/_, _^_, _≤_, _<_, zero-le}
-use mathlib.Core.Path.{_≡_, refl, sym, ap, _∙_}
+use Prim.Native.Nat.{ℕ, _+_, _-_, _*_, _^_, _≤_, _<_}
+use mathlib.Core.Path.{_≡_, refl, ap, _∙_}
 use mathlib.Core.Bool.{Bool, true, false, cond, _&&_, _||_}
 use mathlib.Core.Logic.{_⊎_, inl, inr}
 use mathlib.Core.List.{List, [], _∷_, map}
@@ -12,21 +12,18 @@ use borrow.Author.Tests.{eqb-true}
 use Rattle.laws.specs.Lists.{keep, sum}
 use Rattle.laws.specs.Bytes.{between, rows}
 use Rattle.laws.proofs.Bools.{by-test, and-left, and-right, or-either}
-use Rattle.laws.proofs.Lists.{keep-yes, keep-no}
 use Rattle.standard.specs.Bytes.{is}
 use Rattle.standard.specs.Pitches.{isLetter}
-use Rattle.reader.specs.Scan.{Item}
 use Rattle.reader.specs.Steps.{mine}
-use Rattle.bounds.specs.Prices.{lyricBytes, itemBytes}
-use Rattle.sizes.specs.Sizes.{isBar, isRest, isSign, bars, letters, rests, signs, tones}
+use Rattle.bounds.specs.Prices.{lyricBytes}
+use Rattle.sizes.specs.Sizes.{isBar, isRest, isSign, bars, letters, rests, signs}
 use Rattle.table.specs.declared.Row.{Row}
 use Rattle.table.specs.Rows.{decItem, itemAs, itemIn, itemsIn}
 use Rattle.lyrics.specs.Items.{isLine, lineIn, linesIn, rowsOf}
 use Rattle.registers.specs.declared.Tables.{Tables}
-use Rattle.held.specs.Lines.{Rest}
 use Rattle.sizing.specs.declared.Made.{Made}
 use Rattle.sizing.specs.Counting.{madeOf, tablesAt}
-use Rattle.sizing.specs.Room.{PartRoom, musicAt, noRows, Sized}
+use Rattle.sizing.specs.Room.{PartRoom, musicAt, Sized}
 use Rattle.sizing.proofs.Counting.{bytes-in}
 
 -- A BYTE OF MUSIC

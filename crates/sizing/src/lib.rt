@@ -1,8 +1,8 @@
 // Where the tables of a part stand in scratch: one pass over the bytes of its music lines says how many rows each can need.
 ghost use mathlib.Core.Path.{_≡_};
 ghost use mathlib.Core.Bool.{cond};
-ghost use mathlib.Core.List.{List, [], _∷_};
-ghost use Prim.Native.Nat.{ℕ, _+_, _*_, _^_, _≤_, _<_};
+ghost use mathlib.Core.List.{[], _∷_};
+ghost use Prim.Native.Nat.{_+_, _*_, _^_, _≤_, _<_};
 ghost use lib.ListN.{length};
 ghost use Rattle.reader.specs.Steps.{mine};
 ghost use Rattle.sizes.specs.Sizes.{isBar, isRest, isSign};

@@ -1,6 +1,6 @@
 -- `sizing::made_by` meets its contract. The invariant: with the items to come it is what the part's music makes.
 use Prim.Native.Nat.{_+_, _-_, _≤_}
-use mathlib.Core.Path.{_≡_, refl}
+use mathlib.Core.Path.{_≡_}
 use native.Mathlib.Omega.{arith}
 use borrow.Author.Needs.{needs}
 use lib.ListN.{length, drop}

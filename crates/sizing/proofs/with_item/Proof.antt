@@ -1,6 +1,5 @@
 -- `sizing::with_item` meets its contract.
 use borrow.Author.Needs.{needs}
-use native.Mathlib.Omega.{arith}
 use Rattle.sizing.proofs.Counting.{other-kind, other-part, line-counted}
 use Rattle.sizing.proofs.with_item.Statement.{statement}
 use Rattle.sizing.proofs.with_item.Tie as tie

@@ -1,5 +1,5 @@
 -- `sizing::with_line` meets its contract. The invariant: with the bytes to come it is what the whole line makes.
-use Prim.Native.Nat.{_+_, _-_, _≤_}
+use Prim.Native.Nat.{_-_, _≤_}
 use mathlib.Core.Path.{_≡_, refl}
 use native.Mathlib.Omega.{arith}
 use borrow.Author.Needs.{needs}
