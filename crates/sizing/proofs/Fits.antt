@@ -16,10 +16,11 @@ use Rattle.standard.specs.Bytes.{is}
 use Rattle.standard.specs.Pitches.{isLetter}
 use Rattle.reader.specs.Steps.{mine}
 use Rattle.bounds.specs.Prices.{lyricBytes}
-use Rattle.sizes.specs.Sizes.{isBar, isRest, isSign, bars, letters, rests, signs}
+use Rattle.sizes.specs.Sizes.{isBar, isRest, isSign, bars, letters, rests, signs, tones}
 use Rattle.table.specs.declared.Row.{Row}
 use Rattle.table.specs.Rows.{decItem, itemAs, itemIn, itemsIn}
-use Rattle.lyrics.specs.Items.{isLine, lineIn, linesIn, rowsOf}
+use Rattle.lyrics.specs.declared.Sheet.{Sheet}
+use Rattle.lyrics.specs.Items.{isLine, lineIn, linesIn, rowsOf, Fits}
 use Rattle.registers.specs.declared.Tables.{Tables}
 use Rattle.sizing.specs.declared.Made.{Made}
 use Rattle.sizing.specs.Counting.{madeOf, tablesAt}
@@ -123,7 +124,6 @@ module _ (text s : List ℕ) (n p : ℕ) (room : PartRoom text s n p) where
       rw (f ∙ ap (tablesAt n) e)
       (let b = bytes-in (mine p (itemsIn text s n)) in
       let paid = music-paid (musicAt text s n p) in
-      let sung = rows-most text s p n in
       record {
         is = refl;
         behind-items = refl;
@@ -136,6 +136,19 @@ module _ (text s : List ℕ) (n p : ℕ) (room : PartRoom text s n p) where
               ends = omega (arith, room .fits, b, paid);
               small = omega (arith, room .small, b, paid);
             };
-        sheet = omega (arith, room .fits, b, paid, sung);
-        few = omega (arith, room .small, b, sung);
+        sheet = omega (arith, room .fits, b, paid);
+        few = omega (arith, room .small, b);
       })
+
+-- THE SHEET of the lyrics, once the part is read: scratch has the same items, and of its notes that sound there are no more than its music can make
+pub sheet-fits : (text s : List ℕ) (n p : ℕ) (t : Tables) → Sized text s n p t → length text ≤ 67108864 → (s′ : List ℕ) → itemsIn text s′ n ≡ itemsIn text s n → length s′ ≡ length s
+    → (h : Sheet) → h .heads ≡ t .scopes → h .log ≡ t .scopes + 4 * h .sounded → h .sounded ≤ tones (musicAt text s n p) → Fits text s′ n p h
+sheet-fits text s n p t z short s′ e l h at log most =
+    let few : rowsOf (linesIn text s′ p n) ≤ sum lyricBytes (mine p (itemsIn text s n)) = rw e at (rows-most text s′ p n) in
+    record {
+      before-heads = omega (arith, at, z .behind-items, z .rest .for-heads, z .rest .for-notes, z .rest .for-pitches);
+      apart = omega (arith, at, log);
+      short = omega (arith, short);
+      inside = omega (arith, log, most, l, few, z .sheet);
+      few = omega (arith, few, z .few);
+    }

@@ -5,11 +5,10 @@ use mathlib.Core.List.{List}
 use lib.ListN.{length}
 use Rattle.laws.specs.Lists.{sum}
 use Rattle.reader.specs.Steps.{mine}
-use Rattle.bounds.specs.Prices.{itemBytes}
+use Rattle.bounds.specs.Prices.{lyricBytes, itemBytes}
 use Rattle.sizes.specs.Sizes.{tones}
 use Rattle.sizes.specs.Music.{musicOf}
 use Rattle.table.specs.Rows.{itemsIn}
-use Rattle.lyrics.specs.Items.{linesIn, rowsOf}
 use Rattle.registers.specs.declared.Tables.{Tables}
 use Rattle.registers.specs.declared.Counts.{Counts}
 use Rattle.held.specs.Lines.{Rest}
@@ -28,11 +27,11 @@ musicAt text s n part = musicOf (mine part (itemsIn text s n))
 abbrev pub noRows : Counts
 noRows = record { heads = 0; notes = 0; pitches = 0; scopes = 0 }
 
--- THE TABLES have room for all that the part's music can make; and where the last one begins there is room for the lyrics: a head for each note and the
--- rows of all lyric lines
+-- THE TABLES have room for all that the part's music can make; and where the last one begins there is room for the lyrics: a head for each note and a row
+-- for each byte of the lyric lines (proofs/Fits.sheet-fits)
 pub record Sized (text s : List ℕ) (n part : ℕ) (t : Tables) : Type 0 where
   pub is : t ≡ tablesAt n (madeOf (musicAt text s n part))
   pub behind-items : t .heads ≡ 256 + 16 * n
   pub rest : Rest t noRows (length s) (musicAt text s n part)
-  pub sheet : t .scopes + 4 * tones (musicAt text s n part) + 16 * rowsOf (linesIn text s part n) ≤ length s
-  pub few : rowsOf (linesIn text s part n) < 2 ^ 32
+  pub sheet : t .scopes + 4 * tones (musicAt text s n part) + 16 * sum lyricBytes (mine part (itemsIn text s n)) ≤ length s
+  pub few : sum lyricBytes (mine part (itemsIn text s n)) < 2 ^ 32
