@@ -1,0 +1,3 @@
+pub mod Pays
+pub mod Tokens
+pub mod Lines
