@@ -1,3 +1,2 @@
-pub mod Pays
 pub mod Tokens
 pub mod Lines

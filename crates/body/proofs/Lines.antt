@@ -14,6 +14,8 @@ use Rattle.layout.specs.Log.{LogState, onToken, lineBegins, onLine}
 use Rattle.layout.proofs.Lines.{Between, InLine, in-line-begins, in-line-token, standing}
 use Rattle.bounds.proofs.TokenRanges.{token-fits}
 use Rattle.sizes.specs.Sizes.{bars, letters, rests, tones, signs}
+use Rattle.sizes.specs.Pays.{makes, Spends}
+use Rattle.sizes.proofs.Tokens.{token-spends}
 use Rattle.rows.specs.Table.{Only}
 use Rattle.rows.proofs.Tables.{only-none, only-then}
 use Rattle.registers.specs.declared.Tables.{Tables}
@@ -25,7 +27,6 @@ use Rattle.tokens.specs.declared.Tokenised.{Tokenised}
 use Rattle.tokens.specs.Tokens.{tokenisedFor}
 use Rattle.tokens.proofs.Chords.{chord-pitches}
 use Rattle.body.specs.Body.{Ready, Acts}
-use Rattle.body.proofs.Pays.{makes, Spends, token-spends}
 use Rattle.body.proofs.Tokens.{token-ready, token-does}
 
 -- a part is held in a line, with room for what these bytes can make

@@ -18,6 +18,7 @@ use Rattle.reader.specs.Token.{Token, space, overlay, quoted, broken, tuplet, s
 use Rattle.layout.specs.Log.{LogState, onToken, onSound}
 use Rattle.layout.proofs.Lines.{Standing}
 use Rattle.bounds.specs.Ranges.{TokenFits}
+use Rattle.sizes.specs.Pays.{marks, makes}
 use Rattle.pitches.specs.Pitches.{markFor, pitchFor}
 use Rattle.pitches.proofs.Walk.{mark-back}
 use Rattle.lengths.specs.Values.{asValue, lengthAs}
@@ -34,7 +35,6 @@ use Rattle.sounds.specs.Sounds.{restRow, Rests, NotesAs}
 use Rattle.tokens.specs.Tokens.{restLength, tokenFor}
 use Rattle.body.specs.Chords.{marked, pitchesOr, chordIn, ChordAt, ChordsAs}
 use Rattle.body.specs.Body.{Ready, Acts}
-use Rattle.body.proofs.Pays.{marks, makes}
 
 -- A TOKEN THAT DOES NOTHING
 pub does-nothing : (t : Tables) (s : List ℕ) (r : Registers) → Does t s r s r 0 0 0 0 (λ l. l)

@@ -1,11 +1,7 @@
-// A music line of a part: its tokens from left to right, each done to what is kept in scratch and registers (000, parse_body_line).
-ghost use mathlib.Core.Path.{_≡_};
-ghost use mathlib.Core.List.{List, []};
-ghost use Prim.Native.Nat.{ℕ};
+// A music line of a part: its tokens from left to right, each done to what scratch and registers hold (000, parse_body_line).
 ghost use lib.ListN.{length};
-ghost use Rattle.reader.specs.Token as token;
-ghost use Rattle.layout.specs.Log.{lineBegins, onLine, onToken};
-ghost use Rattle.held.specs.Held.{Room, Holding, Does};
+ghost use Rattle.layout.specs.Log.{onLine};
+ghost use Rattle.held.specs.Held.{Room, Holding};
 ghost use Rattle.held.specs.Lines.{Waits, Rest, Takes};
 ghost use Rattle.body.specs.Chords.{marked, chordIn, ChordAt, ChordsAs};
 ghost use Rattle.body.specs.Body.{Ready, Acts};
@@ -14,9 +10,20 @@ use registers::Registers;
 use registers::Tables;
 use tokens::Token;
 
-// STUBS
-fn on_space(r: Registers) -> Registers
-    ensures { λ x. ⌜ ((t : Tables) (s : List ℕ) → Does t s r s x 0 0 0 0 (λ l. onToken l token.space)) ⌝ }
+// STUB
+fn append_chord(
+    line: &[u8],
+    store: &mut [u8],
+    t: Tables,
+    r: Registers,
+    place: usize,
+    count: usize,
+    written: Length,
+    tie: bool,
+    slur: bool,
+) -> Registers
+    requires { ⌜ Room t (r .counts) (length (now store)) 0 1 (length (chordIn (now line) place)) (marked (chordIn (now line) place)) × Holding t (now store) r × ChordAt (now line) place count ⌝ }
+    ensures { λ x. ⌜ ChordsAs t (now (store .entry)) r (now (store .exit)) x (chordIn (now (line .entry)) place) written tie slur ⌝ }
 {
     r
 }
@@ -26,14 +33,47 @@ fn on_token(line: &[u8], store: &mut [u8], t: Tables, r: Registers, token: Token
     requires { ⌜ Ready (now line) t (now store) r token ⌝ }
     ensures { λ x. ⌜ Acts (now (line .entry)) t (now (store .entry)) r (now (store .exit)) x token ⌝ }
 {
-    r
-}
-
-fn begin_line(store: &mut [u8], t: Tables, r: Registers, unit: u32, top: u8, bottom: u8) -> Registers
-    requires { ⌜ Rest t (r .counts) (length (now store)) [] × Waits t (now store) r ⌝ }
-    ensures { λ x. ⌜ Takes t (now (store .entry)) r (now (store .exit)) x [] (lineBegins unit (top, bottom)) ⌝ }
-{
-    r
+    match token {
+        Token::Space => steps::on_space(r),
+        Token::Overlay => steps::on_overlay(r),
+        Token::Quoted => r,
+        Token::Broken { up, count } => rhythm::on_broken(store, t, r, up, count),
+        Token::Tuplet {
+            actual,
+            normal,
+            count,
+        } => steps::on_tuplet(r, actual, normal, count),
+        Token::Slur => steps::on_slur(r),
+        Token::GraceOpen => steps::on_grace_open(r),
+        Token::GraceClose => steps::on_grace_close(r),
+        Token::Decoration => r,
+        Token::Barline { right, left, opens } => bars::on_barline(store, t, r, right, left, opens),
+        Token::Volta { first, passes } => {
+            bars::on_volta(store, t, r, first, passes);
+            r
+        }
+        Token::Unit(unit) => steps::on_unit(r, unit),
+        Token::Meter { top, bottom } => bars::on_meter(store, t, r, top, bottom),
+        Token::Key { fifths, minor } => steps::on_key(store, t, r, fifths, minor),
+        Token::Field => r,
+        Token::Chord {
+            place,
+            count,
+            length,
+            tie,
+            slur,
+        } => append_chord(line, store, t, r, place, count, length, tie, slur),
+        Token::Rest { kind, length } => sounds::append_rest(store, t, r, kind, length),
+        Token::Note {
+            pitch,
+            length,
+            tie,
+            slur,
+        } => sounds::append_note(store, t, r, pitch, length, tie, slur),
+        Token::Nothing => rhythm::on_nothing(store, t, r),
+        Token::Skipped => r,
+        Token::Refused(_) => r,
+    }
 }
 
 // A music line, which begins with this unit and meter in force.
@@ -50,7 +90,7 @@ pub fn parse_body_line(
     ensures { λ x. ⌜ Takes t (now (store .entry)) r (now (store .exit)) x (now (line .entry)) (onLine unit (top, bottom) (now (line .entry))) ⌝ }
 {
     let classes = marks::letter_classes();
-    let mut x = begin_line(store, t, r, unit, top, bottom);
+    let mut x = steps::begin_line(store, t, r, unit, top, bottom);
     let mut at: usize = 0;
     while at < line.len() {
         let kept = x.line;

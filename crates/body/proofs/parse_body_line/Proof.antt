@@ -27,29 +27,29 @@ on-token-requires : tie.Need-on-token-requires Inv-loop μ-loop
 on-token-requires c κs =
     let a = c .before .before .before .before .before .before .before .before .before .before .before .before .before .args in
     let p = c .before .before .before .before .before .before .before .before .before .before .before .before .before .pre in
-    going-ready (begun (a .unit) (a .top, a .bottom) (c .before .before .before .before .before .before .before .before .begin-line .ensures) (p .0) (p .1)) (c .before .before .before .before .before .loop .inv) (c .before .before .before .before .loop-test .taken) _ (c .before .token-at .ensures)
+    going-ready (begun (a .unit) (a .top, a .bottom) (c .before .before .before .before .before .before .before .before .begin-line .ensures .0) (p .0) (p .1)) (c .before .before .before .before .before .loop .inv) (c .before .before .before .before .loop-test .taken) _ (c .before .token-at .ensures)
 
 loop-less : tie.Need-loop-less Inv-loop μ-loop
 loop-less c =
     let a = c .before .before .before .before .before .before .before .before .before .before .before .before .before .before .before .before .args in
     let p = c .before .before .before .before .before .before .before .before .before .before .before .before .before .before .before .before .pre in
     let i = c .before .before .before .before .before .before .before .before .loop .inv in
-    let q = going-past (begun (a .unit) (a .top, a .bottom) (c .before .before .before .before .before .before .before .before .before .before .before .begin-line .ensures) (p .0) (p .1)) i (c .before .before .before .before .before .before .before .loop-test .taken) _ (c .before .before .before .before .token-at .ensures) in
+    let q = going-past (begun (a .unit) (a .top, a .bottom) (c .before .before .before .before .before .before .before .before .before .before .before .begin-line .ensures .0) (p .0) (p .1)) i (c .before .before .before .before .before .before .before .loop-test .taken) _ (c .before .before .before .before .token-at .ensures) in
     omega (arith, q, c .before .before .before .before .before .before .before .loop-test .taken)
 
 loop-again : tie.Need-loop-again Inv-loop μ-loop
 loop-again c =
     let a = c .before .before .before .before .before .before .before .before .before .before .before .before .before .before .before .before .args in
     let p = c .before .before .before .before .before .before .before .before .before .before .before .before .before .before .before .before .pre in
-    going-turn (begun (a .unit) (a .top, a .bottom) (c .before .before .before .before .before .before .before .before .before .before .before .begin-line .ensures) (p .0) (p .1)) (c .before .before .before .before .before .before .before .before .loop .inv) (c .before .before .before .before .before .before .before .loop-test .taken) _ (c .before .before .before .before .token-at .ensures) _ _ (c .before .before .on-token .ensures)
+    going-turn (begun (a .unit) (a .top, a .bottom) (c .before .before .before .before .before .before .before .before .before .before .before .begin-line .ensures .0) (p .0) (p .1)) (c .before .before .before .before .before .before .before .before .loop .inv) (c .before .before .before .before .before .before .before .loop-test .taken) _ (c .before .before .before .before .token-at .ensures) _ _ (c .before .before .on-token .ensures)
 
 same-length : tie.Need-same-length Inv-loop μ-loop
-same-length c = c .before .loop .inv .only .same-length ∙ c .before .before .before .before .begin-line .ensures .only .same-length
+same-length c = c .before .loop .inv .only .same-length ∙ c .before .before .before .before .begin-line .ensures .0 .only .same-length
 
 returns : tie.Need-returns Inv-loop μ-loop
 returns c =
     let a = c .before .before .before .before .before .before .before .before .before .args in
-    line-takes (a .unit) (a .top, a .bottom) (c .before .before .before .before .begin-line .ensures) (c .before .loop .inv) (c .loop-test .left)
+    line-takes (a .unit) (a .top, a .bottom) (c .before .before .before .before .begin-line .ensures .0) (c .before .loop .inv) (c .loop-test .left)
 
 pub parse-body-line-spec : {M : Type 1} → statement M
 parse-body-line-spec =
