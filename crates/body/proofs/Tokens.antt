@@ -33,7 +33,7 @@ use Rattle.registers.specs.declared.Registers.{Registers}
 use Rattle.held.specs.Held.{Room, Held, Holding, Grows, Does}
 use Rattle.sounds.specs.Sounds.{restRow, Rests, NotesAs}
 use Rattle.tokens.specs.Tokens.{restLength, tokenFor}
-use Rattle.body.specs.Chords.{marked, pitchesOr, chordIn, ChordAt, ChordsAs}
+use Rattle.chords.specs.Chords.{marked, pitchesOr, chordIn, ChordAt, ChordsAs}
 use Rattle.body.specs.Body.{Ready, Acts}
 
 -- A TOKEN THAT DOES NOTHING

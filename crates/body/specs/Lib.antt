@@ -1,2 +1,1 @@
-pub mod Chords
 pub mod Body

@@ -1,32 +1,11 @@
 // A music line of a part: its tokens from left to right, each done to what scratch and registers hold (000, parse_body_line).
 ghost use lib.ListN.{length};
 ghost use Rattle.layout.specs.Log.{onLine};
-ghost use Rattle.held.specs.Held.{Room, Holding};
 ghost use Rattle.held.specs.Lines.{Waits, Rest, Takes};
-ghost use Rattle.body.specs.Chords.{marked, chordIn, ChordAt, ChordsAs};
 ghost use Rattle.body.specs.Body.{Ready, Acts};
-use lengths::Length;
 use registers::Registers;
 use registers::Tables;
 use tokens::Token;
-
-// STUB
-fn append_chord(
-    line: &[u8],
-    store: &mut [u8],
-    t: Tables,
-    r: Registers,
-    place: usize,
-    count: usize,
-    written: Length,
-    tie: bool,
-    slur: bool,
-) -> Registers
-    requires { ⌜ Room t (r .counts) (length (now store)) 0 1 (length (chordIn (now line) place)) (marked (chordIn (now line) place)) × Holding t (now store) r × ChordAt (now line) place count ⌝ }
-    ensures { λ x. ⌜ ChordsAs t (now (store .entry)) r (now (store .exit)) x (chordIn (now (line .entry)) place) written tie slur ⌝ }
-{
-    r
-}
 
 // What a token does. Quoted texts, decorations, other fields and bytes that mean nothing do nothing.
 fn on_token(line: &[u8], store: &mut [u8], t: Tables, r: Registers, token: Token) -> Registers
@@ -62,7 +41,7 @@ fn on_token(line: &[u8], store: &mut [u8], t: Tables, r: Registers, token: Token
             length,
             tie,
             slur,
-        } => append_chord(line, store, t, r, place, count, length, tie, slur),
+        } => chords::append_chord(line, store, t, r, place, count, length, tie, slur),
         Token::Rest { kind, length } => sounds::append_rest(store, t, r, kind, length),
         Token::Note {
             pitch,
