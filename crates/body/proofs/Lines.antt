@@ -1,6 +1,6 @@
 -- THE LOOP over the tokens of a line: what is still to come of the line does the rest to every part that was held where it began.
-use Prim.Native.Nat.{ℕ, _+_, _-_, _*_, _≤_, _<_, max}
-use mathlib.Core.Path.{_≡_, refl, sym, ap, subst, _∙_}
+use Prim.Native.Nat.{ℕ, _+_, _≤_, _<_, max}
+use mathlib.Core.Path.{_≡_, refl, sym, subst, _∙_}
 use mathlib.Core.List.{List, [], _∷_}
 use native.Mathlib.Omega.{arith}
 use lib.ListN.{length, drop, length-drop}
@@ -11,7 +11,7 @@ use Rattle.reader.specs.Tokens.{tokenOf, tokens}
 use Rattle.reader.proofs.TokenLaws.{fold-at, fold-end, takes-a-byte}
 use Rattle.reader.proofs.TokenBounds.{token-within}
 use Rattle.layout.specs.Log.{LogState, onToken, lineBegins, onLine}
-use Rattle.layout.proofs.Lines.{Between, InLine, in-line-begins, in-line-token, standing}
+use Rattle.layout.proofs.Lines.{InLine, in-line-begins, in-line-token, standing}
 use Rattle.bounds.proofs.TokenRanges.{token-fits}
 use Rattle.sizes.specs.Sizes.{bars, letters, rests, tones, signs}
 use Rattle.sizes.specs.Pays.{makes, Spends}
@@ -22,7 +22,7 @@ use Rattle.registers.specs.declared.Tables.{Tables}
 use Rattle.registers.specs.declared.Counts.{Counts}
 use Rattle.registers.specs.declared.Registers.{Registers}
 use Rattle.held.specs.Held.{Room, Held, Holding, Does}
-use Rattle.held.specs.Lines.{Waits, Rest, GrowsBy, Takes}
+use Rattle.held.specs.Lines.{Waits, Rest, Takes}
 use Rattle.tokens.specs.declared.Tokenised.{Tokenised}
 use Rattle.tokens.specs.Tokens.{tokenisedFor}
 use Rattle.tokens.proofs.Chords.{chord-pitches}
@@ -157,7 +157,7 @@ module _ {line : List ℕ} {t : Tables} {s₀ s : List ℕ} {r₀ r : Registers}
   pub going-ready : Ready line t s r (e .token)
   going-ready =
       subst (λ (x : Tokenised). Ready line t s r (x .token)) (sym k)
-      (token-ready line at tok (λ ws l b e. chord-pitches line at ws l b e) (token-fits (drop at line)) room holding)
+      (token-ready line at tok (chord-pitches line at) (token-fits (drop at line)) room holding)
 
   pub going-past : at < e .next
   going-past = rw k (omega (arith, some-byte (drop at line) (rw length-drop (omega arith))))
@@ -166,7 +166,7 @@ module _ {line : List ℕ} {t : Tables} {s₀ s : List ℕ} {r₀ r : Registers}
   going-turn s′ r′ a = subst (λ (x : Tokenised). Going line t s₀ r₀ s′ r′ (x .next)) (sym k) turned
     where
       does : Does t s r s′ r′ (makes tok .heads) (makes tok .notes) (makes tok .pitches) (makes tok .scopes) (λ l. onToken l tok)
-      does = token-does line at tok (λ ws l b e. chord-pitches line at ws l b e) (subst (λ (x : Tokenised). Acts line t s r s′ r′ (x .token)) k a)
+      does = token-does line at tok (chord-pitches line at) (subst (λ (x : Tokenised). Acts line t s r s′ r′ (x .token)) k a)
 
       turned : Going line t s₀ r₀ s′ r′ (at + used)
       turned =

@@ -1,7 +1,6 @@
 -- ONE TOKEN: what the code does for the definition's token is what that token does to a part.
-use Prim.Native.Nat.{ℕ, _+_, _≤_, _<_}
+use Prim.Native.Nat.{ℕ, _+_}
 use mathlib.Core.Path.{_≡_, refl, sym, ap, subst, _∙_}
-use mathlib.Core.Bool.{Bool}
 use mathlib.Core.Option.{Option, none, some}
 use mathlib.Core.List.{List, [], _∷_}
 use native.Mathlib.Omega.{arith}
@@ -13,27 +12,24 @@ use Rattle.standard.specs.Notes.{Behind}
 use Rattle.reader.specs.Lengths.{Length, valueOf}
 use Rattle.reader.specs.Codes.{kindCode, beamCode, bit}
 use Rattle.reader.specs.Pitches.{chordOf}
-use Rattle.reader.specs.Part.{restWith, restNote}
+use Rattle.reader.specs.Part.{restNote}
 use Rattle.reader.specs.Token.{Token, space, overlay, quoted, broken, tuplet, slur, graceOpen, graceClose, decoration, barline, volta, unit, meter, key, field, chord, rest, note, nothing, skipped, refused}
 use Rattle.layout.specs.Log.{LogState, onToken, onSound}
-use Rattle.layout.proofs.Lines.{Standing}
 use Rattle.bounds.specs.Ranges.{TokenFits}
 use Rattle.sizes.specs.Pays.{marks, makes}
 use Rattle.pitches.specs.Pitches.{markFor, pitchFor}
 use Rattle.pitches.proofs.Walk.{mark-back}
-use Rattle.lengths.specs.Values.{asValue, lengthAs}
-use Rattle.rows.specs.Table.{Only}
+use Rattle.lengths.specs.Values.{lengthAs}
 use Rattle.rows.specs.Encoded.{marksByte, rowFor}
 use Rattle.rows.proofs.Tables.{only-none}
 use Rattle.scopes.specs.Resolving.{signs, writtenOf}
 use Rattle.registers.specs.declared.Line as declared
 use Rattle.registers.specs.declared.Tables.{Tables}
-use Rattle.registers.specs.declared.Counts.{Counts}
 use Rattle.registers.specs.declared.Registers.{Registers}
 use Rattle.held.specs.Held.{Room, Held, Holding, Grows, Does}
-use Rattle.sounds.specs.Sounds.{restRow, Rests, NotesAs}
+use Rattle.sounds.specs.Sounds.{restRow}
 use Rattle.tokens.specs.Tokens.{restLength, tokenFor}
-use Rattle.chords.specs.Chords.{marked, pitchesOr, chordIn, ChordAt, ChordsAs}
+use Rattle.chords.specs.Chords.{marked, pitchesOr, chordIn, ChordsAs}
 use Rattle.body.specs.Body.{Ready, Acts}
 
 -- A TOKEN THAT DOES NOTHING
@@ -55,8 +51,8 @@ marks-are none = refl
 marks-are (some a) = refl
 
 -- a chord stands there
-abbrev pub Chord-at : List ℕ → ℕ → Token → Type 0
-Chord-at line at tok = (ws : List Written) (l : Length) (b : Behind) → tok ≡ chord ws l b → chordOf 0 none (drop (at + 1) line) ≡ some ws
+abbrev pub ChordStands : List ℕ → ℕ → Token → Type 0
+ChordStands line at tok = (ws : List Written) (l : Length) (b : Behind) → tok ≡ chord ws l b → chordOf 0 none (drop (at + 1) line) ≡ some ws
 
 -- a pitch of the code is the definition's
 written-back : (w : Written) → writtenOf (pitchFor w) ≡ w
@@ -86,7 +82,7 @@ chord-is line at ws e = ap pitchesOr e
 
 module _ (line : List ℕ) (at : ℕ) {t : Tables} {s : List ℕ} {r : Registers} where
   -- what the code's token asks for
-  pub token-ready : (tok : Token) → Chord-at line at tok → TokenFits tok
+  pub token-ready : (tok : Token) → ChordStands line at tok → TokenFits tok
       → Room t (r .counts) (length s) (makes tok .heads) (makes tok .notes) (makes tok .pitches) (makes tok .scopes) → Holding t s r → Ready line t s r (tokenFor at (r .line .unit) tok)
   unfolding tokenFor Ready TokenFits
   token-ready space c f room h = (room, h)
@@ -106,24 +102,22 @@ module _ (line : List ℕ) (at : ℕ) {t : Tables} {s : List ℕ} {r : Registers
   token-ready field c f room h = (room, h)
   token-ready (chord ws l b) c f room h =
       let e = c ws l b refl in
-      let w = chord-is line at ws e in
-      (
+      let w = chord-is line at ws e in (
         subst (λ (x : List Written). Room t (r .counts) (length s) 0 1 (length x) (marked x)) (sym w) room,
         h,
         record { fine = e ∙ ap some (sym w); count-is = ap length (sym w) },
       )
-  token-ready (rest k l) c f room h =
-      (
-        room,
-        record {
-          state = h .state;
-          note = restNote k (valueOf (r .line .unit) l);
-          standing = h .standing;
-          row-is = rest-row-is k (r .line .unit) l;
-          no-pitch = no-pitch k (valueOf (r .line .unit) l);
-          held = h .held;
-        },
-      )
+  token-ready (rest k l) c f room h = (
+    room,
+    record {
+      state = h .state;
+      note = restNote k (valueOf (r .line .unit) l);
+      standing = h .standing;
+      row-is = rest-row-is k (r .line .unit) l;
+      no-pitch = no-pitch k (valueOf (r .line .unit) l);
+      held = h .held;
+    },
+  )
   token-ready (note w l b) c f room h =
       (subst (λ (n : ℕ). Room t (r .counts) (length s) 0 1 1 n) (sym (marks-are (w .mark))) room, h, f .step-fits)
   token-ready nothing c f room h = (room, h)
@@ -131,7 +125,7 @@ module _ (line : List ℕ) (at : ℕ) {t : Tables} {s : List ℕ} {r : Registers
   token-ready (refused n) c f room h = (room, h)
 
   -- what it does is what the definition's token does
-  pub token-does : {s′ : List ℕ} {r′ : Registers} (tok : Token) → Chord-at line at tok → Acts line t s r s′ r′ (tokenFor at (r .line .unit) tok)
+  pub token-does : {s′ : List ℕ} {r′ : Registers} (tok : Token) → ChordStands line at tok → Acts line t s r s′ r′ (tokenFor at (r .line .unit) tok)
       → Does t s r s′ r′ (makes tok .heads) (makes tok .notes) (makes tok .pitches) (makes tok .scopes) (λ l. onToken l tok)
   unfolding tokenFor Acts onToken
   token-does space c a = a

@@ -1,5 +1,5 @@
 -- ONE TOKEN OF A MUSIC LINE, by the code's token: what must hold before it, and what it does to every part that is held.
-use Prim.Native.Nat.{ℕ, _+_, _<_}
+use Prim.Native.Nat.{ℕ, _<_}
 use mathlib.Core.Path.{_≡_}
 use mathlib.Core.List.{List}
 use lib.ListN.{length, getD}
@@ -19,32 +19,32 @@ use Rattle.sounds.specs.Sounds.{Restable, Rests, NotesAs}
 use Rattle.chords.specs.Chords.{marked, chordIn, ChordAt, ChordsAs}
 
 -- a part is held, with room for so many rows more
-abbrev pub Held-with : Tables → List ℕ → Registers → ℕ → ℕ → ℕ → ℕ → Type 0
-Held-with t s r heads notes pitches scopes = Room t (r .counts) (length s) heads notes pitches scopes × Holding t s r
+abbrev pub HeldWith : Tables → List ℕ → Registers → ℕ → ℕ → ℕ → ℕ → Type 0
+HeldWith t s r heads notes pitches scopes = Room t (r .counts) (length s) heads notes pitches scopes × Holding t s r
 
 unfoldable pub Ready : List ℕ → Tables → List ℕ → Registers → Token → Type 0
-Ready line t s r as-token.Space = Held-with t s r 0 0 0 0
-Ready line t s r as-token.Overlay = Held-with t s r 0 0 0 0
-Ready line t s r as-token.Quoted = Held-with t s r 0 0 0 0
-Ready line t s r (as-token.Broken up count) = Held-with t s r 0 0 0 0
-Ready line t s r (as-token.Tuplet actual normal count) = Held-with t s r 0 0 0 0
-Ready line t s r as-token.Slur = Held-with t s r 0 0 0 0
-Ready line t s r as-token.GraceOpen = Held-with t s r 0 0 0 0
-Ready line t s r as-token.GraceClose = Held-with t s r 0 0 0 0
-Ready line t s r as-token.Decoration = Held-with t s r 0 0 0 0
-Ready line t s r (as-token.Barline right left opens) = Held-with t s r 1 0 0 0
-Ready line t s r (as-token.Volta first passes) = Held-with t s r 0 0 0 0
-Ready line t s r (as-token.Unit unit) = Held-with t s r 0 0 0 0
-Ready line t s r (as-token.Meter top bottom) = Held-with t s r 0 0 0 0
-Ready line t s r (as-token.Key fifths minor) = Held-with t s r 0 0 0 0
-Ready line t s r as-token.Field = Held-with t s r 0 0 0 0
+Ready line t s r as-token.Space = HeldWith t s r 0 0 0 0
+Ready line t s r as-token.Overlay = HeldWith t s r 0 0 0 0
+Ready line t s r as-token.Quoted = HeldWith t s r 0 0 0 0
+Ready line t s r (as-token.Broken up count) = HeldWith t s r 0 0 0 0
+Ready line t s r (as-token.Tuplet actual normal count) = HeldWith t s r 0 0 0 0
+Ready line t s r as-token.Slur = HeldWith t s r 0 0 0 0
+Ready line t s r as-token.GraceOpen = HeldWith t s r 0 0 0 0
+Ready line t s r as-token.GraceClose = HeldWith t s r 0 0 0 0
+Ready line t s r as-token.Decoration = HeldWith t s r 0 0 0 0
+Ready line t s r (as-token.Barline right left opens) = HeldWith t s r 1 0 0 0
+Ready line t s r (as-token.Volta first passes) = HeldWith t s r 0 0 0 0
+Ready line t s r (as-token.Unit unit) = HeldWith t s r 0 0 0 0
+Ready line t s r (as-token.Meter top bottom) = HeldWith t s r 0 0 0 0
+Ready line t s r (as-token.Key fifths minor) = HeldWith t s r 0 0 0 0
+Ready line t s r as-token.Field = HeldWith t s r 0 0 0 0
 Ready line t s r (as-token.Chord place count written tie slur) =
     Room t (r .counts) (length s) 0 1 (length (chordIn line place)) (marked (chordIn line place)) × Holding t s r × ChordAt line place count
 Ready line t s r (as-token.Rest kind written) = Room t (r .counts) (length s) 0 1 0 0 × Restable t s r kind written
 Ready line t s r (as-token.Note pitch written tie slur) = Room t (r .counts) (length s) 0 1 1 (signs (pitch .mark)) × Holding t s r × (pitch .step < 7)
-Ready line t s r as-token.Nothing = Held-with t s r 0 0 0 0
-Ready line t s r as-token.Skipped = Held-with t s r 0 0 0 0
-Ready line t s r (as-token.Refused number) = Held-with t s r 0 0 0 0
+Ready line t s r as-token.Nothing = HeldWith t s r 0 0 0 0
+Ready line t s r as-token.Skipped = HeldWith t s r 0 0 0 0
+Ready line t s r (as-token.Refused number) = HeldWith t s r 0 0 0 0
 
 unfoldable pub Acts : List ℕ → Tables → List ℕ → Registers → List ℕ → Registers → Token → Type 0
 Acts line t s r s′ x as-token.Space = Does t s r s′ x 0 0 0 0 (λ l. onToken l token.space)
