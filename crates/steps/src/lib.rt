@@ -38,11 +38,11 @@ fn next_voice(voice: u8) -> u8
 pub fn on_overlay(r: Registers) -> Registers
     ensures { λ x. ⌜ ((t : Tables) (s : List ℕ) → Does t s r s x 0 0 0 0 (λ l. onToken l token.overlay)) ⌝ }
 {
-    let line = r.line;
-    let voice = next_voice(line.overlay);
+    let mut line = r.line;
+    line.overlay = next_voice(line.overlay);
+    line.run = 0;
     let mut x = r;
-    x.line.overlay = voice;
-    x.line.run = 0;
+    x.line = line;
     x
 }
 
