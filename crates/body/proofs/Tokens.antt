@@ -16,7 +16,7 @@ use Rattle.reader.specs.Part.{restNote}
 use Rattle.reader.specs.Token.{Token, space, overlay, quoted, broken, tuplet, slur, graceOpen, graceClose, decoration, barline, volta, unit, meter, key, field, chord, rest, note, nothing, skipped, refused}
 use Rattle.layout.specs.Log.{LogState, onToken, onSound}
 use Rattle.bounds.specs.Ranges.{TokenFits}
-use Rattle.sizes.specs.Pays.{marks, makes}
+use Rattle.sizes.specs.Pays.{marks, marked, makes}
 use Rattle.pitches.specs.Pitches.{markFor, pitchFor}
 use Rattle.pitches.proofs.Walk.{mark-back}
 use Rattle.lengths.specs.Values.{lengthAs}
@@ -29,7 +29,7 @@ use Rattle.registers.specs.declared.Registers.{Registers}
 use Rattle.held.specs.Held.{Room, Held, Holding, Grows, Does}
 use Rattle.sounds.specs.Sounds.{restRow}
 use Rattle.tokens.specs.Tokens.{restLength, tokenFor}
-use Rattle.chords.specs.Chords.{marked, pitchesOr, chordIn, ChordsAs}
+use Rattle.chords.specs.Chords.{pitchesOr, chordIn, ChordsAs}
 use Rattle.body.specs.Body.{Ready, Acts}
 
 -- A TOKEN THAT DOES NOTHING

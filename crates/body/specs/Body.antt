@@ -16,7 +16,8 @@ use Rattle.registers.specs.declared.Tables.{Tables}
 use Rattle.registers.specs.declared.Registers.{Registers}
 use Rattle.held.specs.Held.{Room, Holding, Does}
 use Rattle.sounds.specs.Sounds.{Restable, Rests, NotesAs}
-use Rattle.chords.specs.Chords.{marked, chordIn, ChordAt, ChordsAs}
+use Rattle.sizes.specs.Pays.{marked}
+use Rattle.chords.specs.Chords.{chordIn, ChordAt, ChordsAs}
 
 -- a part is held, with room for so many rows more
 abbrev pub HeldWith : Tables → List ℕ → Registers → ℕ → ℕ → ℕ → ℕ → Type 0

@@ -18,7 +18,8 @@ use Rattle.registers.specs.declared.Line.{Line}
 use Rattle.registers.specs.declared.Tables.{Tables}
 use Rattle.registers.specs.declared.Registers.{Registers}
 use Rattle.held.specs.Held.{Room, Holding, Does}
-use Rattle.chords.specs.Chords.{marked, pitchesOr, chordIn, ChordAt, ChordsAs}
+use Rattle.sizes.specs.Pays.{marked}
+use Rattle.chords.specs.Chords.{pitchesOr, chordIn, ChordAt, ChordsAs}
 
 module _ (line : List ℕ) (place : ℕ) (ws : List Written) (e : chordOf 0 none (drop place line) ≡ some ws) where
   pub chord-in : chordIn line place ≡ ws

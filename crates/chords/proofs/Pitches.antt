@@ -12,7 +12,7 @@ use Rattle.standard.specs.Bytes.{is}
 use Rattle.standard.specs.Keys.{Key}
 use Rattle.standard.specs.Pitches.{Accidental, Written, Pitch, isLetter, stepOf}
 use Rattle.reader.specs.Pitches.{natural, quarterTone, added, isQuarter, Octave, octaveOf, consPitch, chordOf, Scope, soundOf, scopeAfter, soundsOf, scopeAfterAll}
-use Rattle.chords.specs.Chords.{marked}
+use Rattle.sizes.specs.Pays.{marked}
 
 -- ONE MORE behind others
 pub sounds-more : (k : Key) (sc : Scope) (ws : List Written) (w : Written) → soundsOf k sc (ws ++ (w ∷ [])) ≡ soundsOf k sc ws ++ (soundOf k (scopeAfterAll sc ws) w ∷ [])

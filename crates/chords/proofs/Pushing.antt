@@ -30,7 +30,8 @@ use Rattle.registers.specs.declared.Registers.{Registers}
 use Rattle.held.specs.Held.{Room, Held, Holding}
 use Rattle.sounds.specs.Sounds.{Pushable, Pushes, Soundable, Sounds}
 use Rattle.sounds.proofs.Sounding.{standing-scopes}
-use Rattle.chords.specs.Chords.{marks, marked, chordIn, ChordAt, PushesAll, ChordsAs}
+use Rattle.sizes.specs.Pays.{marks, marked}
+use Rattle.chords.specs.Chords.{chordIn, ChordAt, PushesAll, ChordsAs}
 use Rattle.chords.proofs.Pitches.{sounds-more, scope-more, marked-both, length-sounds, first-low}
 
 -- A PITCH in the code's type, and back

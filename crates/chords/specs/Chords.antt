@@ -1,12 +1,12 @@
 -- CHORDS: a chord's pitches by its place in the line, and what a chord does to every part that is held.
-use Prim.Native.Nat.{ℕ, _+_}
+use Prim.Native.Nat.{ℕ}
 use mathlib.Core.Path.{_≡_}
 use mathlib.Core.Bool.{Bool}
 use mathlib.Core.Option.{Option, none, some}
-use mathlib.Core.List.{List, [], _∷_}
+use mathlib.Core.List.{List, []}
 use lib.ListN.{length, getD, drop}
 use Rattle.laws.specs.Lists.{alterAt}
-use Rattle.standard.specs.Pitches.{Accidental, Written}
+use Rattle.standard.specs.Pitches.{Written}
 use Rattle.standard.specs.Notes.{Behind}
 use Rattle.reader.specs.Lengths as reader
 use Rattle.reader.specs.Lengths.{valueOf}
@@ -15,20 +15,11 @@ use Rattle.layout.specs.Log.{LogState, setScopes, onSound}
 use Rattle.layout.proofs.Lines.{Standing}
 use Rattle.lengths.specs.declared.Length.{Length}
 use Rattle.lengths.specs.Values.{asValue}
+use Rattle.sizes.specs.Pays.{marked}
 use Rattle.rows.specs.Table.{Only}
 use Rattle.registers.specs.declared.Tables.{Tables}
 use Rattle.registers.specs.declared.Registers.{Registers}
 use Rattle.held.specs.Held.{Held, Grows}
-
--- one for an accidental that is written
-abbrev pub marks : Option Accidental → ℕ
-marks none = 0
-marks (some a) = 1
-
--- how many pitches have one
-abbrev pub marked : List Written → ℕ
-marked [] = 0
-marked (w ∷ ws) = marks (w .mark) + marked ws
 
 -- none where one is refused
 unfoldable pub pitchesOr : Option (List Written) → List Written

@@ -1,7 +1,8 @@
 // Chords: the pitches, read again from the line, are pushed one by one, then the chord's row is appended.
 ghost use lib.ListN.{length};
 ghost use Rattle.held.specs.Held.{Room, Holding};
-ghost use Rattle.chords.specs.Chords.{marked, chordIn, ChordAt, PushesAll, ChordsAs};
+ghost use Rattle.sizes.specs.Pays.{marked};
+ghost use Rattle.chords.specs.Chords.{chordIn, ChordAt, PushesAll, ChordsAs};
 use lengths::Length;
 use pitches::Met;
 use registers::Registers;
