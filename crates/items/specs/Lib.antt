@@ -1,0 +1,2 @@
+pub mod Music
+pub mod Items
