@@ -1,59 +1,45 @@
+-- `items::build_items` meets its contract.
+use Prim.Native.Nat.{_-_}
+use Rattle.items.proofs.Turns.{Going, going-start, going-ready, going-next, going-end}
+use native.Mathlib.Omega.{arith}
+use borrow.Author.Needs.{needs}
 use Rattle.items.proofs.build_items.Statement.{statement}
 use Rattle.items.proofs.build_items.Tie as tie
-use Rattle.items.proofs.build_items.Reads as reads
-use Rattle.items.proofs.build_items.Lts as lts
-use Rattle.items.proofs.begin_part.Reads as begin-part-reads
-use Rattle.items.proofs.take_item.Reads as take-item-reads
 
 abbrev Inv-loop : tie.InvT-loop
-Inv-loop text scratch₀ n part t fifths minor r₀ i₀ scratch r i = ?
+Inv-loop text scratch₀ n part t fifths minor r₀ i₀ scratch r i = Going text t (record { fifths = fifths; minor = minor }) part n scratch₀ scratch r i
 
 abbrev μ-loop : tie.MeasureT-loop
-μ-loop text scratch₀ n part t fifths minor r₀ i₀ scratch r i = ?
+μ-loop text scratch₀ n part t fifths minor r₀ i₀ scratch r i = n - i
 
--- src/lib.rt:300:9
-begin-part-requires : tie.Need-begin-part-requires Inv-loop μ-loop
-begin-part-requires c κs = ?
-
--- src/lib.rt:302:5
 loop-holds : tie.Need-loop-holds Inv-loop μ-loop
-loop-holds c = ?
+loop-holds c =
+    let a = c .before .before .before .args in
+    going-start (a .text .now) (a .t) (record { fifths = a .fifths; minor = a .minor }) (a .part) (a .n) (a .scratch .now) (c .before .before .before .pre .0) (c .before .before .before .pre .1) _ (c .begin-part .ensures)
 
--- src/lib.rt:303:9
 take-item-requires : tie.Need-take-item-requires Inv-loop μ-loop
-take-item-requires c κs = ?
+take-item-requires c κs =
+    let a = c .before .before .before .before .before .before .args in
+    let l = c .before .before .loop in
+    going-ready (a .text .now) (a .t) (record { fifths = a .fifths; minor = a .minor }) (a .part) (a .n) (a .scratch .now) (c .before .before .before .before .before .before .pre .0) (l .scratch) (l .r) (l .i) (l .inv) (c .before .loop-test .taken)
 
--- src/lib.rt:304:9
 add-i : tie.Need-add-i Inv-loop μ-loop
-add-i c = ?
+add-i c = omega (arith, c .before .before .before .before .loop-test .taken, c .before .before .before .before .before .before .before .before .before .fits .n)
 
--- src/lib.rt:302:5
 loop-less : tie.Need-loop-less Inv-loop μ-loop
-loop-less c = ?
+loop-less c = omega (arith, c .before .before .before .before .loop-test .taken)
 
--- src/lib.rt:302:5
 loop-again : tie.Need-loop-again Inv-loop μ-loop
-loop-again c = ?
+loop-again c =
+    let a = c .before .before .before .before .before .before .before .before .before .args in
+    let l = c .before .before .before .before .before .loop in
+    going-next (a .text .now) (a .t) (record { fifths = a .fifths; minor = a .minor }) (a .part) (a .n) (a .scratch .now) (c .before .before .before .before .before .before .before .before .before .pre .0) (l .scratch) (l .r) (l .i) (l .inv) (c .before .before .before .before .loop-test .taken) _ _ (c .before .before .take-item .ensures)
 
--- src/lib.rt:288:1
-same-length : tie.Need-same-length Inv-loop μ-loop
-same-length c = ?
-
--- src/lib.rt:288:1
 returns : tie.Need-returns Inv-loop μ-loop
-returns c = ?
+returns c =
+    let a = c .before .before .before .before .before .args in
+    let l = c .before .loop in
+    going-end (a .text .now) (a .t) (record { fifths = a .fifths; minor = a .minor }) (a .part) (a .n) (a .scratch .now) (c .before .before .before .before .before .pre .0) (l .scratch) (l .r) (l .i) (l .inv) (c .loop-test .left)
 
 pub build-items-spec : {M : Type 1} → statement M
-build-items-spec =
-    tie.close
-    (tie.spec
-    Inv-loop
-    μ-loop
-    begin-part-requires
-    loop-holds
-    take-item-requires
-    add-i
-    loop-less
-    loop-again
-    same-length
-    returns)
+build-items-spec = tie.close (tie.spec Inv-loop μ-loop (λ c κs. search needs) loop-holds take-item-requires add-i loop-less loop-again (λ c. c .before .loop .inv .only .same-length) returns)
