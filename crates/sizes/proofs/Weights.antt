@@ -4,7 +4,7 @@ use Prim.Native.Nat.{ℕ, zero, suc, _+_, _-_, _*_, _≤_, _<_, zero-le, suc-le-
 use mathlib.Core.Path.{_≡_, refl, ap, sym, _∙_}
 use mathlib.Core.Bool.{Bool, true, false, cond, not, _&&_, _||_, false≢true}
 use mathlib.Core.Option.{Option, none, some}
-use mathlib.Core.List.{List, [], _∷_, _++_}
+use mathlib.Core.List.{List, [], _∷_}
 use native.Mathlib.Nat.{not-suc-le-zero, mul-add, mul-suc}
 use native.Mathlib.Omega.{arith}
 use lib.Dec.{ltb, eqb}
@@ -12,7 +12,7 @@ use lib.ListN.{length, take, drop, take-append-drop}
 use lib.Seq.{take-add}
 use borrow.Author.Tests.{eqb-true}
 use Rattle.laws.specs.Lists.{span, sum, All}
-use Rattle.laws.proofs.Bools.{by-test, or-left, or-right, or-either}
+use Rattle.laws.proofs.Bools.{by-test, or-left, or-right}
 use Rattle.laws.proofs.Lists.{sum-append}
 use Rattle.laws.proofs.Spans.{span-yes, span-no}
 use Rattle.standard.specs.Bytes.{is, isDigit, first}
@@ -21,7 +21,7 @@ use Rattle.standard.specs.Pitches.{Accidental, Written, isLetter}
 use Rattle.reader.specs.Lengths.{lengthOf}
 use Rattle.reader.specs.Pieces.{pieces, mark}
 use Rattle.reader.specs.Pitches.{Octave, octaveFrom, octaveOf, Before, signs, accidentalOf, natural, quarterTone, added, isQuarter, consPitch, chordOf}
-use Rattle.reader.specs.Token.{Token, quoted, decoration, skipped, Taken, taken}
+use Rattle.reader.specs.Token.{quoted, decoration, skipped, Taken, taken}
 use Rattle.reader.specs.Barlines.{barlineAs, barlineOf}
 use Rattle.reader.specs.PassLists.{isPassByte, passList, voltaAs, voltaOf}
 use Rattle.reader.specs.Inline.{isInline, inlineAt}
@@ -29,7 +29,7 @@ use Rattle.reader.specs.Sounds.{behind, chordTaken, chordAt, restAs, noteAs, no
 use Rattle.reader.specs.Tokens.{bracketOf, Class, white, ampersand, quote, more, less, paren, braceOpen, braceClose, bang, plus, bars, bracket, pitched, none-of-these, resting, classes, classIn, classOf, tokenAs, tokenOf}
 use Rattle.reader.proofs.TokenLaws.{as-takes}
 use Rattle.sizes.specs.Sizes.{isBar, isRest, isSign}
-use Rattle.sizes.specs.Pays.{marks, marked, Rows, none-made, makes}
+use Rattle.sizes.specs.Pays.{marks, marked, Rows, makes}
 use Rattle.sizes.proofs.Free.{Makes-nothing, closed-free, broken-free, tuplet-free, volta-free, field-free}
 
 -- SUMS over a part of a list
