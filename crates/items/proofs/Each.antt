@@ -36,7 +36,8 @@ use Rattle.held.specs.Held.{Room, Stored, Held}
 use Rattle.held.specs.Lines.{Rest, Waits, GrowsBy, Takes}
 use Rattle.held.proofs.Appending.{someHead}
 use Rattle.bars.proofs.Heads.{open-held, open-only, no-scopes, stored-as}
-use Rattle.items.specs.Items.{begun, keyedAs, hearing}
+use Rattle.steps.specs.Steps.{hearing}
+use Rattle.items.specs.Items.{begun, keyedAs}
 use Rattle.items.proofs.Music.{grows-none, rest-room}
 
 -- THE BEGINNING

@@ -5,36 +5,18 @@ use mathlib.Core.Bool.{true, false}
 use mathlib.Core.List.{List, [], _∷_, _++_, map}
 use native.Mathlib.Omega.{arith}
 use lib.Dec.{eqb}
-use lib.ListN.{length, length-append}
-use Rattle.laws.specs.Lists.{keep, cat}
+use Rattle.laws.specs.Lists.{cat}
 use Rattle.laws.proofs.Bools.{by-test}
-use Rattle.laws.proofs.Lists.{keep-append, map-append, cat-append}
-use Rattle.standard.specs.Pitches.{isLetter}
+use Rattle.laws.proofs.Lists.{map-append, cat-append}
 use Rattle.reader.specs.Scan.{Item}
 use Rattle.reader.specs.Steps.{mine}
-use Rattle.sizes.specs.Sizes.{isBar, isRest, isSign, bars, letters, rests, signs}
+use Rattle.sizes.specs.Sizes.{bars, letters, rests, signs}
+use Rattle.sizes.specs.Music.{musicIn, musicOf}
+use Rattle.sizes.proofs.Tokens.{bars-both, letters-both, rests-both, signs-both}
 use Rattle.registers.specs.declared.Tables.{Tables}
 use Rattle.registers.specs.declared.Counts.{Counts}
 use Rattle.held.specs.Held.{Room}
 use Rattle.held.specs.Lines.{Rest, GrowsBy}
-use Rattle.items.specs.Music.{musicIn, musicOf}
-
--- what two runs of bytes can make
-bars-append : (a b : List ℕ) → bars (a ++ b) ≡ bars a + bars b
-unfolding bars
-bars-append a b = ap length (keep-append isBar a b) ∙ length-append (keep isBar a) (keep isBar b)
-
-letters-append : (a b : List ℕ) → letters (a ++ b) ≡ letters a + letters b
-unfolding letters
-letters-append a b = ap length (keep-append isLetter a b) ∙ length-append (keep isLetter a) (keep isLetter b)
-
-rests-append : (a b : List ℕ) → rests (a ++ b) ≡ rests a + rests b
-unfolding rests
-rests-append a b = ap length (keep-append isRest a b) ∙ length-append (keep isRest a) (keep isRest b)
-
-signs-append : (a b : List ℕ) → signs (a ++ b) ≡ signs a + signs b
-unfolding signs
-signs-append a b = ap length (keep-append isSign a b) ∙ length-append (keep isSign a) (keep isSign b)
 
 -- the music of two lists of items
 pub music-append : (xs ys : List Item) → musicOf (xs ++ ys) ≡ musicOf xs ++ musicOf ys
@@ -51,10 +33,10 @@ module _ {t : Tables} {c : Counts} {size : ℕ} (a b : List ℕ) (r : Rest t c s
   pub rest-first : Rest t c size a
   rest-first =
       record {
-        for-heads = omega (arith, r .for-heads, bars-append a b);
-        for-notes = omega (arith, r .for-notes, letters-append a b, rests-append a b);
-        for-pitches = omega (arith, r .for-pitches, letters-append a b);
-        for-scopes = omega (arith, r .for-scopes, signs-append a b);
+        for-heads = omega (arith, r .for-heads, bars-both a b);
+        for-notes = omega (arith, r .for-notes, letters-both a b, rests-both a b);
+        for-pitches = omega (arith, r .for-pitches, letters-both a b);
+        for-scopes = omega (arith, r .for-scopes, signs-both a b);
         ends = r .ends;
         small = r .small;
       }
@@ -63,10 +45,10 @@ module _ {t : Tables} {c : Counts} {size : ℕ} (a b : List ℕ) (r : Rest t c s
   pub rest-then : (c′ : Counts) (size′ : ℕ) → size′ ≡ size → GrowsBy c c′ a → Rest t c′ size′ b
   rest-then c′ size′ e g =
       record {
-        for-heads = omega (arith, r .for-heads, bars-append a b, g .more-heads);
-        for-notes = omega (arith, r .for-notes, letters-append a b, rests-append a b, g .more-notes);
-        for-pitches = omega (arith, r .for-pitches, letters-append a b, g .more-pitches);
-        for-scopes = omega (arith, r .for-scopes, signs-append a b, g .more-scopes);
+        for-heads = omega (arith, r .for-heads, bars-both a b, g .more-heads);
+        for-notes = omega (arith, r .for-notes, letters-both a b, rests-both a b, g .more-notes);
+        for-pitches = omega (arith, r .for-pitches, letters-both a b, g .more-pitches);
+        for-scopes = omega (arith, r .for-scopes, signs-both a b, g .more-scopes);
         ends = omega (arith, r .ends, e);
         small = r .small;
       }

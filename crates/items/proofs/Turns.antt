@@ -37,7 +37,7 @@ use Rattle.registers.specs.declared.Registers.{Registers}
 use Rattle.held.specs.Held.{Held}
 use Rattle.held.proofs.Appending.{room-same}
 use Rattle.held.specs.Lines.{Rest, Waits, GrowsBy, Takes}
-use Rattle.items.specs.Music.{musicIn, musicOf}
+use Rattle.sizes.specs.Music.{musicIn, musicOf}
 use Rattle.items.specs.Items.{begun, versed, rowFrom, lined, ownAt, Ready, Taken, after, Built}
 use Rattle.items.proofs.Music.{music-append, mine-append, rest-first, rest-then, rest-as, rest-room, grows-none}
 use Rattle.items.proofs.Each.{begun-held, addedBy, item-lines}

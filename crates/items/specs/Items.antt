@@ -13,6 +13,7 @@ use Rattle.reader.specs.Steps.{mine}
 use Rattle.layout.specs.Log.{LogState, newLog}
 use Rattle.layout.specs.Ends.{onItem}
 use Rattle.layout.proofs.Lines.{Between}
+use Rattle.sizes.specs.Music.{musicOf}
 use Rattle.table.specs.Rows.{itemsFrom, itemBytes, itemIn, itemsIn}
 use Rattle.lyrics.specs.Items.{itemAt, lineOf, linesIn}
 use Rattle.rows.specs.Table.{Only}
@@ -23,7 +24,6 @@ use Rattle.registers.specs.declared.Running.the-variants as running
 use Rattle.bars.specs.Bars.{nowhere}
 use Rattle.held.specs.Held.{Held}
 use Rattle.held.specs.Lines.{Rest, Waits, GrowsBy}
-use Rattle.items.specs.Music.{musicOf}
 
 -- THE REGISTERS before the first item
 abbrev pub begun : Registers
@@ -45,20 +45,6 @@ keyedAs r fifths minor =
     record {
       counts = r .counts;
       key = record { fifths = fifths; minor = minor; scopes = r .key .scopes };
-      last = r .last;
-      pending = r .pending;
-      line = r .line;
-      waiting = r .waiting;
-      group = r .group;
-      verses = r .verses;
-    }
-
--- with another key, in which no accidental is remembered
-abbrev pub hearing : Registers → ℕ → Bool → Registers
-hearing r fifths minor =
-    record {
-      counts = record { heads = r .counts .heads; notes = r .counts .notes; pitches = r .counts .pitches; scopes = 0 };
-      key = record { fifths = fifths; minor = minor; scopes = nowhere };
       last = r .last;
       pending = r .pending;
       line = r .line;

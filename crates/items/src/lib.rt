@@ -12,11 +12,11 @@ ghost use Rattle.reader.specs.Steps.{mine};
 ghost use Rattle.reader.specs.Part.{firstKey};
 ghost use Rattle.layout.specs.Log.{setKey, onLine};
 ghost use Rattle.layout.specs.Ends.{onItem};
+ghost use Rattle.sizes.specs.Music.{musicOf};
 ghost use Rattle.table.specs.Rows.{itemsIn, itemIn, RowIs};
 ghost use Rattle.lyrics.specs.Items.{itemAt};
 ghost use Rattle.held.specs.Lines.{Rest, Waits, Takes};
-ghost use Rattle.items.specs.Music.{musicOf};
-ghost use Rattle.items.specs.Items.{begun, keyedAs, hearing, versed, lined, Ready, Taken, Built};
+ghost use Rattle.items.specs.Items.{begun, keyedAs, versed, lined, Ready, Taken, Built};
 use registers::Counts;
 use registers::Group;
 use registers::Half;
@@ -30,22 +30,6 @@ use registers::Verses;
 use registers::Waiting;
 use scopes::AbcPartParseState;
 use table::Row;
-
-// A music line.
-fn parse_body_line(
-    line: &[u8],
-    store: &mut [u8],
-    t: Tables,
-    r: Registers,
-    unit: u32,
-    top: u8,
-    bottom: u8,
-) -> Registers
-    requires { ⌜ Rest t (r .counts) (length (now store)) (now line) × Waits t (now store) r ⌝ }
-    ensures { λ x. ⌜ Takes t (now (store .entry)) r (now (store .exit)) x (now (line .entry)) (onLine unit (top, bottom) (now (line .entry))) ⌝ }
-{
-    r
-}
 
 // A part before its first item: C major, 4/4, unit 1/8.
 pub fn begin_part() -> Registers
@@ -133,22 +117,6 @@ fn on_reset(r: Registers) -> Registers
     x
 }
 
-// The registers with another key, in which no accidental is remembered.
-fn hear(r: Registers, fifths: u8, minor: bool) -> Registers
-    ensures { λ x. ⌜ x ≡ hearing r fifths minor ⌝ }
-{
-    let none = [0u32; 4];
-    let key = AbcPartParseState {
-        fifths,
-        minor,
-        scopes: none,
-    };
-    let mut x = r;
-    x.counts.scopes = 0;
-    x.key = key;
-    x
-}
-
 // A K line of the body: it marks the open measure. Where there is none, the header's key is heard.
 fn on_key(
     store: &mut [u8],
@@ -164,7 +132,7 @@ fn on_key(
 {
     let counts = r.counts;
     if counts.heads == 0 {
-        return hear(r, fifths, minor);
+        return steps::hear(r, fifths, minor);
     }
     let i = (counts.heads - 1) as usize;
     heads::set_mark(
@@ -174,7 +142,7 @@ fn on_key(
         ends::mode_code(mode),
         ends::signed(sharps),
     );
-    hear(r, sharps, mode)
+    steps::hear(r, sharps, mode)
 }
 
 // An M line of the body, on the open measure, if there is one.
@@ -255,7 +223,7 @@ fn on_item(
     }
     let at = row.at;
     let end = row.end;
-    parse_body_line(
+    body::parse_body_line(
         &text[at..end],
         store,
         t,
