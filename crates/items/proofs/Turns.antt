@@ -272,8 +272,12 @@ after-more header text s p i =
     ∙ ap (foldl (onItem header) newLog) (mine-append p (itemsIn text s i) (itemIn text (itemAt s i) ∷ []))
     ∙ foldl-append (onItem header) newLog (mine p (itemsIn text s i)) (ownAt text p s i)
 
--- lines of rows before a place
-lines-front : (text s s′ : List ℕ) (p i m : ℕ) → take m s′ ≡ take m s → itemsFrom + itemBytes * i ≤ m → linesIn text s′ p i ≡ linesIn text s p i
+-- what stands before a place that is not written
+pub items-front : (text s s′ : List ℕ) (n m : ℕ) → take m s′ ≡ take m s → itemsFrom + itemBytes * n ≤ m → itemsIn text s′ n ≡ itemsIn text s n
+unfolding itemsIn
+items-front text s s′ n m e h = ap (map (itemIn text)) (rows-front decItem itemBytes s s′ m itemsFrom n e h)
+
+pub lines-front : (text s s′ : List ℕ) (p i m : ℕ) → take m s′ ≡ take m s → itemsFrom + itemBytes * i ≤ m → linesIn text s′ p i ≡ linesIn text s p i
 unfolding linesIn
 lines-front text s s′ p i m e h = ap (λ (rs : List Row). map (lineIn text) (keep (isLine p) rs)) (rows-front decItem itemBytes s s′ m itemsFrom i e h)
 
