@@ -1,92 +1,42 @@
+-- `sung::write_sections` meets its contract.
+use native.Mathlib.Omega.{arith}
+use Rattle.sections.proofs.Writes.{told, in-store, next-to, next-none, none}
+use Rattle.lyrics.specs.Sheet.{syllablesIn}
+use Rattle.sung.proofs.Out.{sections-say}
 use borrow.Author.Needs.{needs}
 use Rattle.sung.proofs.write_sections.Statement.{statement}
 use Rattle.sung.proofs.write_sections.Tie as tie
-use Rattle.sung.proofs.write_sections.Reads as reads
-use Rattle.sung.proofs.write_sections.Lts as lts
-use Rattle.sung.proofs.write_section.Reads as write-section-reads
-use Rattle.sung.proofs.write_with_lyrics.Reads as write-with-lyrics-reads
 
--- src/lib.rt:213:25
-write-with-lyrics-requires : tie.Need-write-with-lyrics-requires
-write-with-lyrics-requires c κs = search needs
+-- the first have no room
 
--- src/lib.rt:213:19
-enum-known-at : tie.Need-enum-known-at
-enum-known-at c = search needs
-
--- src/lib.rt:225:9
-enum-told : tie.Need-enum-told
-enum-told c = search needs
-
--- src/lib.rt:225:9
-same-length : tie.Need-same-length
-same-length c = search needs
-
--- src/lib.rt:225:9
 returns : tie.Need-returns
-returns c = ?
+returns c =
+    let a = c .before .before .before .before .before .before .before .before .before .args in
+    sections-say (a .store .now) (a .heads) (a .n) (a .notes) (a .count) (a .pitches) (a .sounds) (syllablesIn (a .text .now) (a .store .now) (a .sheet)) (none (told (c .before .before .before .before .write-with-lyrics .ensures) (c .enum-told .given .1)) _)
 
--- src/lib.rt:227:81
 sub-write-section : tie.Need-sub-write-section
-sub-write-section c = ?
+sub-write-section c = omega (arith, in-store (told (c .before .before .before .before .before .write-with-lyrics .ensures) (c .before .at .given .1)) .0)
 
--- src/lib.rt:227:81
 part-write-section-start : tie.Need-part-write-section-start
-part-write-section-start c = ?
+part-write-section-start c = omega (arith, in-store (told (c .before .before .before .before .before .write-with-lyrics .ensures) (c .before .at .given .1)) .0)
 
--- src/lib.rt:227:81
-part-write-section-end : tie.Need-part-write-section-end
-part-write-section-end c = search needs
+-- the last has none
 
--- src/lib.rt:227:24
-write-section-requires : tie.Need-write-section-requires
-write-section-requires c κs = search needs
-
--- src/lib.rt:227:19
-enum-known-k : tie.Need-enum-known-k
-enum-known-k c = search needs
-
--- src/lib.rt:228:9
-enum-told-2 : tie.Need-enum-told-2
-enum-told-2 c = search needs
-
--- src/lib.rt:228:9
-same-length-2 : tie.Need-same-length-2
-same-length-2 c = search needs
-
--- src/lib.rt:228:9
 returns-2 : tie.Need-returns-2
-returns-2 c = ?
+returns-2 c =
+    let a = c .before .before .before .before .before .before .before .before .before .before .before .before .before .before .before .before .args in
+    sections-say (a .store .now) (a .heads) (a .n) (a .notes) (a .count) (a .pitches) (a .sounds) (syllablesIn (a .text .now) (a .store .now) (a .sheet)) (next-none (told (c .before .before .before .before .before .before .before .before .before .before .before .write-with-lyrics .ensures) (c .before .before .before .before .before .before .before .at .given .1)) (told (c .before .before .before .before .write-section .ensures) (c .enum-told2 .given .1)))
 
--- src/lib.rt:230:15
 add-t18 : tie.Need-add-t18
-add-t18 c = ?
+add-t18 c =
+    omega (arith, next-to (told (c .before .before .before .before .before .before .before .before .before .before .before .before .write-with-lyrics .ensures) (c .before .before .before .before .before .before .before .before .at .given .1)) (told (c .before .before .before .before .before .write-section .ensures) (c .before .k .given .1)) .says .1, c .before .before .before .before .before .before .before .before .before .before .before .before .before .before .before .before .before .good)
 
--- src/lib.rt:198:1
-same-length-3 : tie.Need-same-length-3
-same-length-3 c = search needs
+-- all wrote
 
--- src/lib.rt:198:1
 returns-3 : tie.Need-returns-3
-returns-3 c = ?
+returns-3 c =
+    let a = c .before .before .before .before .before .before .before .before .before .before .before .before .before .before .before .before .before .args in
+    sections-say (a .store .now) (a .heads) (a .n) (a .notes) (a .count) (a .pitches) (a .sounds) (syllablesIn (a .text .now) (a .store .now) (a .sheet)) (next-to (told (c .before .before .before .before .before .before .before .before .before .before .before .before .write-with-lyrics .ensures) (c .before .before .before .before .before .before .before .before .at .given .1)) (told (c .before .before .before .before .before .write-section .ensures) (c .before .k .given .1)))
 
 pub write-sections-spec : {M : Type 1} → statement M
-write-sections-spec =
-    tie.close
-    (tie.spec
-    write-with-lyrics-requires
-    enum-known-at
-    enum-told
-    same-length
-    returns
-    sub-write-section
-    part-write-section-start
-    part-write-section-end
-    write-section-requires
-    enum-known-k
-    enum-told-2
-    same-length-2
-    returns-2
-    add-t18
-    same-length-3
-    returns-3)
+write-sections-spec = tie.close (tie.spec (λ c κs. search needs) (λ c. search needs) (λ c. search needs) (λ c. search needs) returns sub-write-section part-write-section-start (λ c. search needs) (λ c κs. search needs) (λ c. search needs) (λ c. search needs) (λ c. search needs) returns-2 add-t18 (λ c. search needs) returns-3)
