@@ -79,7 +79,15 @@ fn write_rows(
             left -= 1;
             continue;
         }
-        let Wrote::To(m) = syllables::write_syllables(text, store, sheet, j, i, texts, &mut to[at..]) else {
+        let Wrote::To(m) = syllables::write_syllables(
+            text,
+            store,
+            sheet,
+            j,
+            i,
+            texts,
+            &mut to[at..],
+        ) else {
             return Wrote::NoRoom;
         };
         at += m;
@@ -151,16 +159,8 @@ fn write_section(
     if to.len() < 4 {
         return Wrote::NoRoom;
     }
-    let Wrote::To(len) = write_measures(
-        text,
-        store,
-        sheet,
-        heads,
-        n,
-        notes,
-        texts,
-        &mut to[4..],
-    ) else {
+    let Wrote::To(len) = write_measures(text, store, sheet, heads, n, notes, texts, &mut to[4..])
+    else {
         return Wrote::NoRoom;
     };
     let count = count_of(texts, len);
@@ -185,10 +185,12 @@ fn write_with_lyrics(
     requires { ⌜ (heads + 28 * n ≤ length (now store)) × (n < 2 ^ 32) × (notes + 16 * total (now store) heads n ≤ length (now store)) × (count < 2 ^ 32) × (pitches + 5 * pitchTotal (now store) notes (total (now store) heads n) ≤ length (now store)) × (sounds < 2 ^ 32) × (Tables (now store) sheet) × (sheet .count + 1 < 18446744073709551616) ⌝ }
     ensures { λ r. ⌜ WroteIs (now (to .entry)) (musicOut (now (store .entry)) heads n notes count pitches sounds ++ sectionOut false (syllablesIn (now (text .entry)) (now (store .entry)) sheet) (now (store .entry)) heads n notes) (now (to .exit)) r ⌝ }
 {
-    let Wrote::To(at) = pitched::write_music(store, heads, n, notes, count, pitches, sounds, to) else {
+    let Wrote::To(at) = pitched::write_music(store, heads, n, notes, count, pitches, sounds, to)
+    else {
         return Wrote::NoRoom;
     };
-    let Wrote::To(k) = write_section(text, store, sheet, heads, n, notes, false, &mut to[at..]) else {
+    let Wrote::To(k) = write_section(text, store, sheet, heads, n, notes, false, &mut to[at..])
+    else {
         return Wrote::NoRoom;
     };
     Wrote::To(at + k)
@@ -224,7 +226,8 @@ pub fn write_sections(
     ) else {
         return Wrote::NoRoom;
     };
-    let Wrote::To(k) = write_section(text, store, sheet, heads, n, notes, true, &mut to[at..]) else {
+    let Wrote::To(k) = write_section(text, store, sheet, heads, n, notes, true, &mut to[at..])
+    else {
         return Wrote::NoRoom;
     };
     Wrote::To(at + k)
