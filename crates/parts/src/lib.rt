@@ -1,21 +1,14 @@
 // A part from its items: its tables in scratch, its items in order, its end, its lyrics, and its five sections.
 ghost use mathlib.Core.Path.{_≡_};
-ghost use mathlib.Core.List.{List, []};
-ghost use Prim.Native.Nat.{ℕ, _+_, _*_, _^_, _≤_, _<_};
+ghost use mathlib.Core.List.{[]};
+ghost use Prim.Native.Nat.{_≤_};
 ghost use lib.ListN.{length, replicate};
 ghost use Rattle.reader.specs.Part.{build};
 ghost use Rattle.reader.specs.Records as Records;
-ghost use Rattle.reader.specs.State.{Note};
 ghost use Rattle.reader.specs.Steps.{mine};
-ghost use Rattle.layout.specs.Log.{Head};
-ghost use Rattle.layout.specs.Sections as layout;
 ghost use Rattle.table.specs.Rows.{itemsIn};
-ghost use Rattle.lyrics.specs.Sheet.{syllablesIn};
 ghost use Rattle.lyrics.specs.Items.{Fits, AllSung};
-ghost use Rattle.lyric_walk.specs.Walks as walks;
 ghost use Rattle.sections.specs.Writes.{WroteIs};
-ghost use Rattle.writers.specs.Out.{total};
-ghost use Rattle.pitched.specs.Out.{pitchTotal, PitchesIn};
 ghost use Rattle.sizing.specs.Room.{PartRoom, Sized};
 ghost use Rattle.parts.specs.Parts.{sheetAt, PartRead};
 use lyrics::Sheet;
@@ -28,24 +21,6 @@ pub struct Rows {
     pub notes: usize,
     pub pitches: usize,
     pub sounded: usize,
-}
-
-fn write_sections(
-    text: &[u8],
-    store: &[u8],
-    heads: usize,
-    n: usize,
-    notes: usize,
-    count: usize,
-    pitches: usize,
-    sounds: usize,
-    sheet: Sheet,
-    to: &mut [u8],
-) -> Wrote
-    requires { ⌜ (heads + 28 * n ≤ length (now store)) × (n < 2 ^ 32) × (notes + 16 * total (now store) heads n ≤ length (now store)) × (count < 2 ^ 32) × (pitches + 5 * pitchTotal (now store) notes (total (now store) heads n) ≤ length (now store)) × (sounds < 2 ^ 32) × (walks.Tables (now store) sheet) × (sheet .count + 1 < 18446744073709551616) ⌝ }
-    ensures { λ r. ⌜ ((ms : List Head) (log : List (ℕ × Note)) → PitchesIn (now (store .entry)) heads n notes pitches sounds ms log → length log ≡ count → WroteIs (now (to .entry)) (layout.sections (record { heads = ms; log = log; words = syllablesIn (now (text .entry)) (now (store .entry)) sheet })) (now (to .exit)) r) ⌝ }
-{
-    Wrote::NoRoom
 }
 
 // The part's items in order, and its end.
@@ -113,7 +88,7 @@ pub fn write_part(
     let t = sizing::size_part(text, scratch, n, part);
     let d = read_part(text, scratch, n, part, t, fifths, minor);
     let sheet = sing_part(text, scratch, n, part, t, d);
-    write_sections(
+    sung::write_sections(
         text,
         scratch,
         t.heads,
