@@ -97,7 +97,7 @@ pub fn on_unit(r: Registers, unit: u32) -> Registers
 }
 
 // The registers with another key, in which no accidental is remembered.
-fn hear(r: Registers, fifths: u8, minor: bool) -> Registers
+pub fn hear(r: Registers, fifths: u8, minor: bool) -> Registers
     ensures { λ x. ⌜ x ≡ hearing r fifths minor ⌝ }
 {
     let none = [0u32; 4];
