@@ -15,6 +15,7 @@ ghost use Rattle.sections.specs.Writes.{WroteIs};
 ghost use Rattle.scan.specs.Scanned.{Done};
 ghost use Rattle.answers.specs.Parts.{partsOf, bytesOf};
 ghost use Rattle.abc.specs.Answers.{answerAs, wroteAs, Parsed, EarlyIs, PartRoom, Rooms};
+ghost use Rattle.abc.specs.Packed.{packed, unpacked, Short};
 use scan::Scanned;
 use scan::Shared;
 use sections::Wrote;
@@ -146,4 +147,29 @@ pub fn parse_abc(text: &[u8], reading: &mut [u8], scratch: &mut [u8]) -> Answer
             Scanned::Done(h) => finish(text, reading, scratch, h),
         },
     }
+}
+
+// THE C EXPORT
+
+// An answer as a number.
+fn pack(a: Answer) -> u64
+    requires { ⌜ Short (answerAs a) ⌝ }
+    ensures { λ r. ⌜ r ≡ packed (answerAs a) ⌝ }
+    ensures { λ r. ⌜ unpacked r ≡ answerAs a ⌝ }
+{
+    match a {
+        Answer::Read(n) => n as u64,
+        Answer::Refused(n, l) => 9223372036854775808 + (n as u64) * 4294967296 + (l as u64),
+    }
+}
+
+// The reading's length in bytes where the text is read; else bit 63, the refusal's number in bits 32 to 39 and its line in bits 0 to 31.
+#[no_mangle]
+pub extern "C" fn abc_parse(text: &[u8], reading: &mut [u8], scratch: &mut [u8]) -> u64
+    ensures { λ r. ⌜ r ≡ packed (answerOf (parseAbc (now (text .entry)) (length (now (reading .entry))) (length (now (scratch .entry))) .verdict)) ⌝ }
+    ensures { λ r. ⌜ unpacked r ≡ answerOf (parseAbc (now (text .entry)) (length (now (reading .entry))) (length (now (scratch .entry))) .verdict) ⌝ }
+    ensures { λ _. ⌜ now (reading .exit) ≡ parseAbc (now (text .entry)) (length (now (reading .entry))) (length (now (scratch .entry))) .reading ⌝ }
+    ensures { λ _. ⌜ now (scratch .exit) ≡ parseAbc (now (text .entry)) (length (now (reading .entry))) (length (now (scratch .entry))) .scratch ⌝ }
+{
+    pack(parse_abc(text, reading, scratch))
 }
