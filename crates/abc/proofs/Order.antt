@@ -51,8 +51,7 @@ read-accepted (reading ps) n e = tt
 -- THE FIRST HALF
 pub in-any-order : In-any-order
 in-any-order text rl sl m bs mv r r′ d d′ s s′ c c′ =
-    let e : parseAbc (rebuilt text bs) rl sl ≡ parseAbc text rl sl = demand-3 text rl sl m .moved bs mv in
-    (
+    let e : parseAbc (rebuilt text bs) rl sl ≡ parseAbc text rl sl = demand-3 text rl sl m .moved bs mv in (
       accepted-read (parseAbc text rl sl .verdict) (m .accepted) r (c .0),
       (
         same-answer r′ r (c′ .0 ∙ ap (λ (w : Outcome). answerOf (w .verdict)) e ∙ sym (c .0)),
@@ -80,12 +79,11 @@ held text rl sl =
 pub each-alone : Each-alone
 each-alone text rl sl m v hv rl′ sl′ n r d d′ s s′ c c′ =
     let a : Accepted (parseAbc (only text v) rl′ sl′) = read-accepted (parseAbc (only text v) rl′ sl′ .verdict) n (c′ .0) in
-    let q : (x : Part) × (partOf text rl sl v ≡ some x) = part-there text rl sl (m .accepted) v hv in
-    (
+    let q : (x : Part) × (partOf text rl sl v ≡ some x) = part-there text rl sl (m .accepted) v hv in (
       q .0,
       (
         subst (λ (l : List ℕ). PartIn l (indexOf v (voices text)) (q .0)) (sym (c .1 .0)) (held text rl sl (indexOf v (voices text)) (q .0) (q .1)),
         subst (λ (l : List ℕ). PartIn l (indexOf v (voices (only text v))) (q .0)) (sym (c′ .1 .0))
-        (held (only text v) rl′ sl′ (indexOf v (voices (only text v))) (q .0) (sym (by-name text rl sl m v hv rl′ sl′ a) ∙ q .1)),
+            (held (only text v) rl′ sl′ (indexOf v (voices (only text v))) (q .0) (sym (by-name text rl sl m v hv rl′ sl′ a) ∙ q .1)),
       ),
     )

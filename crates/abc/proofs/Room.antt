@@ -22,7 +22,8 @@ use Rattle.scan.specs.declared.Shared.{Shared}
 use Rattle.scan.specs.Scanned.{Done}
 use Rattle.answers.specs.Parts.{partsOf}
 use Rattle.answers.proofs.Whole.{part-room}
-use Rattle.abc.specs.Answers.{PartRoom, Rooms}
+use Rattle.sizing.specs.Room.{PartRoom}
+use Rattle.abc.specs.Answers.{Rooms}
 
 -- what the parts' tables need, the scan has left
 pub rooms-left : (text s : List ℕ) (h : Shared) → Done text s h → length text ≤ 67108864 → scratchNeeded (length text) ≤ length s → Rooms text s (h .items)

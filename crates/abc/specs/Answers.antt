@@ -1,14 +1,10 @@
 -- What `parse_abc` answers, and how it leaves both stores, as the definition has it.
-use Prim.Native.Nat.{ℕ, zero, suc, _+_, _*_, _^_, _≤_, _<_}
+use Prim.Native.Nat.{ℕ}
 use mathlib.Core.Path.{_≡_}
 use mathlib.Core.Option.{Option, none, some}
 use mathlib.Core.List.{List}
-use lib.ListN.{length}
-use Rattle.laws.specs.Lists.{sum}
-use Rattle.reader.specs.Steps.{mine}
 use Rattle.reader.specs.Answer.{Outcome, early, refusedWith, Answer, read, refused, answerOf}
-use Rattle.bounds.specs.Prices.{itemBytes}
-use Rattle.table.specs.Rows.{itemsIn}
+use Rattle.sizing.specs.Room.{PartRoom}
 use Rattle.sections.specs.declared.Wrote.{Wrote}
 use Rattle.sections.specs.declared.Wrote.the-variants.{To, NoRoom}
 use Rattle.abc.specs.declared.Answer as code
@@ -41,12 +37,6 @@ earlyAs (E.Refused n) rl sl = some (refusedWith n 0 rl sl)
 pub record EarlyIs (text : List ℕ) (sl : ℕ) (r : Early) : Type 0 where
   pub is : (rl : ℕ) → early text rl sl ≡ earlyAs r rl sl
 
--- ROOM for the tables of a part of the n items behind the line table
-pub record PartRoom (text s : List ℕ) (n part : ℕ) : Type 0 where
-  pub fits : 256 + 16 * n + 28 + 28 * sum itemBytes (mine part (itemsIn text s n)) ≤ length s
-  pub small : 256 + 16 * n + 28 + 28 * sum itemBytes (mine part (itemsIn text s n)) < 2 ^ 32
-  pub short : length text ≤ 67108864
-
--- for those of each part
+-- ROOM for the tables of each part of the n items behind the line table
 pub record Rooms (text s : List ℕ) (n : ℕ) : Type 0 where
   pub room : (q : ℕ) → PartRoom text s n q

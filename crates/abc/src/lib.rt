@@ -5,16 +5,13 @@ ghost use mathlib.Core.List.{List};
 ghost use Prim.Native.Nat.{ℕ, _+_, _*_, _^_, _≤_, _<_, max};
 ghost use lib.ListN.{length};
 ghost use Rattle.reader.specs.Text.{rows};
-ghost use Rattle.reader.specs.Steps.{mine};
 ghost use Rattle.reader.specs.Scan.{scan};
-ghost use Rattle.reader.specs.Part.{build};
-ghost use Rattle.reader.specs.Records.{sections};
 ghost use Rattle.reader.specs.Answer.{scratchNeeded, refusedWith, scanned, parseAbc, answerOf};
 ghost use Rattle.table.specs.Rows.{itemsIn};
 ghost use Rattle.sections.specs.Writes.{WroteIs};
 ghost use Rattle.scan.specs.Scanned.{Done};
 ghost use Rattle.answers.specs.Parts.{partsOf, bytesOf};
-ghost use Rattle.abc.specs.Answers.{answerAs, wroteAs, Parsed, EarlyIs, PartRoom, Rooms};
+ghost use Rattle.abc.specs.Answers.{answerAs, wroteAs, Parsed, EarlyIs, Rooms};
 ghost use Rattle.abc.specs.Packed.{packed, unpacked, Short};
 use scan::Scanned;
 use scan::Shared;
@@ -30,15 +27,6 @@ pub enum Answer {
 enum Early {
     Passes,
     Refused(u8),
-}
-
-// STUB
-fn write_part(text: &[u8], scratch: &mut [u8], n: usize, part: u8, fifths: u8, minor: bool, to: &mut [u8]) -> Wrote
-    requires { ⌜ PartRoom (now text) (now scratch) n part ⌝ }
-    ensures { λ r. ⌜ WroteIs (now (to .entry)) (sections (build (record { fifths = fifths; minor = minor }) (mine part (itemsIn (now (text .entry)) (now (scratch .entry)) n)))) (now (to .exit)) r ⌝ }
-    ensures { λ _. ⌜ itemsIn (now (text .entry)) (now (scratch .exit)) n ≡ itemsIn (now (text .entry)) (now (scratch .entry)) n ⌝ }
-{
-    Wrote::NoRoom
 }
 
 // Refusals 2, 3, 1 for a blank text, and 15, in this order; `room` is the scratch store's length.
@@ -78,14 +66,23 @@ fn count_parts(voices: usize) -> u8
 }
 
 // The sections of the parts 0 up to count, each part's where the last one's ended.
-fn append_parts(text: &[u8], scratch: &mut [u8], n: usize, count: u8, fifths: u8, minor: bool, to: &mut [u8]) -> Wrote
+fn append_parts(
+    text: &[u8],
+    scratch: &mut [u8],
+    n: usize,
+    count: u8,
+    fifths: u8,
+    minor: bool,
+    to: &mut [u8],
+) -> Wrote
     requires { ⌜ Rooms (now text) (now scratch) n ⌝ }
     ensures { λ r. ⌜ WroteIs (now (to .entry)) (partsOf (record { fifths = fifths; minor = minor }) (itemsIn (now (text .entry)) (now (scratch .entry)) n) count) (now (to .exit)) r ⌝ }
 {
     let mut at: usize = 0;
     let mut part: u8 = 0;
     while part < count {
-        let Wrote::To(m) = write_part(text, scratch, n, part, fifths, minor, &mut to[at..]) else {
+        let Wrote::To(m) = parts::write_part(text, scratch, n, part, fifths, minor, &mut to[at..])
+        else {
             return Wrote::NoRoom;
         };
         at += m;
@@ -95,7 +92,15 @@ fn append_parts(text: &[u8], scratch: &mut [u8], n: usize, count: u8, fifths: u8
 }
 
 // The count of parts and, where that ended, the parts.
-fn write_parts(text: &[u8], scratch: &mut [u8], n: usize, count: u8, fifths: u8, minor: bool, to: &mut [u8]) -> Wrote
+fn write_parts(
+    text: &[u8],
+    scratch: &mut [u8],
+    n: usize,
+    count: u8,
+    fifths: u8,
+    minor: bool,
+    to: &mut [u8],
+) -> Wrote
     requires { ⌜ Rooms (now text) (now scratch) n ⌝ }
     ensures { λ r. ⌜ WroteIs (now (to .entry)) (bytesOf (record { fifths = fifths; minor = minor }) (itemsIn (now (text .entry)) (now (scratch .entry)) n) count) (now (to .exit)) r ⌝ }
 {

@@ -52,7 +52,7 @@ add-at c =
     omega (
       arith,
       one-part (record { fifths = a .fifths; minor = a .minor }) (itemsIn (a .text .now) (a .scratch .now) (a .n)) _ (l .part) (l .inv .4) (l .inv .3)
-      (told (c .before .before .before .before .before .before .before .write-part .ensures .0) (c .before .m .given .1)) .says .1,
+          (told (c .before .before .before .before .before .before .before .write-part .ensures .0) (c .before .m .given .1)) .says .1,
       c .before .before .before .before .before .before .before .before .before .before .before .before .before .before .before .good,
     )
 
@@ -62,7 +62,7 @@ loop-again c =
     let a = c .before .before .before .before .before .before .before .before .before .before .before .before .before .before .before .args in
     let w = one-part (record { fifths = a .fifths; minor = a .minor }) (itemsIn (a .text .now) (a .scratch .now) (a .n)) _ (l .part) (l .inv .4) (l .inv .3)
     (told (c .before .before .before .before .before .before .before .write-part .ensures .0) (c .before .m .given .1)) in
-    (search needs, in-store w .1, search needs, c .before .before .before .before .before .before .before .write-part .ensures .1 ∙ l .inv .3, w)
+    (search needs, in-store w .1, search needs, c .before .before .before .before .before .before .before .write-part .ensures .1 .0 ∙ l .inv .3, w)
 
 returns-2 : tie.Need-returns-2 Inv-loop μ-loop
 returns-2 c =

@@ -28,8 +28,7 @@ add-sounded c =
 loop-again : tie.Need-loop-again Inv-loop μ-loop
 loop-again c =
     let l = c .before .before .before .loop in
-    let a = c .before .before .before .before .before .args in
-    (
+    let a = c .before .before .before .before .before .args in (
       search needs,
       omega (arith, c .one-sounded .ensures, one-most (eqb (getD (a .reading .now) (a .at + 12 * l .i) 0) 0), l .inv),
       (λ j. l .inv .2 j + c .one-sounded .ensures j) ∙ sym (sounded-more (a .reading .now) (a .at) (l .i)),
