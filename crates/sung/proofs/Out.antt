@@ -2,7 +2,7 @@
 use Prim.Native.Nat.{ℕ, zero, suc, _+_, _-_, _*_, _/_, _^_, _≤_, _<_}
 use mathlib.Core.Path.{_≡_, refl, sym, ap, subst, _∙_}
 use mathlib.Core.Bool.{Bool, true, false, cond, _&&_}
-use mathlib.Core.List.{List, [], _∷_, _++_, map, append-nil}
+use mathlib.Core.List.{List, [], _∷_, _++_, map}
 use native.Mathlib.Decide.{decLt}
 use native.Mathlib.Nat.{add-zero}
 use native.Mathlib.Omega.{arith}
@@ -10,11 +10,11 @@ use lib.Dec.{eqb}
 use borrow.Author.Tests.{eq-eqb, ne-eqb}
 use lib.Seq.{drop-drop}
 use lib.ListN.{length, getD, take, drop, length-append, length-take, length-drop, take-append-drop, drop-of-length-le}
-use Rattle.laws.specs.Lists.{All, keep, cat, sum}
+use Rattle.laws.specs.Lists.{All, cat, sum}
 use Rattle.laws.specs.Bytes.{part, splice, encAll, le32}
 use Rattle.laws.proofs.Bools.{by-test, and-both, and-no-left, and-no-right}
 use Rattle.laws.proofs.Lists.{map-map, drop-next, cat-singles, keep-yes, keep-no, All-left, All-right}
-use Rattle.laws.proofs.Splices.{length-spliced, lent-back}
+use Rattle.laws.proofs.Splices.{lent-back}
 use Rattle.laws.proofs.Numbers.{length-little}
 use Rattle.laws.proofs.Rows.{encAll-none, encAll-append, length-encAll}
 use Rattle.standard.specs.Notes.{NoteKind, sounded, rest, invisibleRest, barRest, invisibleBarRest, isSounded}
@@ -24,7 +24,7 @@ use Rattle.reader.specs.Codes.{kindCode, bit}
 use Rattle.reader.specs.Records.{isSung, lyricBytes, lyricsOf, section}
 use Rattle.layout.specs.Log.{Head}
 use Rattle.layout.specs.Sections as layout
-use Rattle.layout.specs.Sections.{notesIn, ofVoice, byVoice, inOrder}
+use Rattle.layout.specs.Sections.{notesIn, ofVoice, inOrder}
 use Rattle.rows.specs.Table.{Table}
 use Rattle.rows.specs.Encoded.{noteRow}
 use Rattle.rows.proofs.Bytes.{length-note}

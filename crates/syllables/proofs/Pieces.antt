@@ -1,13 +1,13 @@
 -- What is written for syllables, as the writers go through them.
 use Prim.Native.Nat.{ℕ, zero, suc, _+_, _-_, _*_, _/_, _%_, _≤_, _<_}
 use mathlib.Core.Path.{_≡_, refl, sym, ap, subst, _∙_}
-use mathlib.Core.Bool.{Bool, true, false, cond}
+use mathlib.Core.Bool.{Bool, false}
 use mathlib.Core.List.{List, [], _∷_, _++_, append-assoc}
 use native.Mathlib.Omega.{arith}
 use lib.Dec.{eqb}
 use borrow.Author.Tests.{ne-eqb}
 use lib.ListN.{length, getD, set, length-append, length-map}
-use Rattle.laws.specs.Bytes.{part, between, splice, encAll, little, le32}
+use Rattle.laws.specs.Bytes.{part, between, splice, le32}
 use Rattle.laws.proofs.Parts.{length-part, length-between, part-none}
 use Rattle.laws.proofs.Splices.{splice-nil, splice-snoc, spliced-next}
 use Rattle.laws.proofs.Numbers.{length-little, le32-bytes}
