@@ -199,7 +199,8 @@ fn blocks(run: &mut Run, seed: u64, index: u64) {
         }
     }
     // A spoiled reading cannot be split into its parts.
-    for voice in (0..voices).filter(|_| !run.stores.spoil) {
+    let whole = if run.stores.spoil { 0 } else { voices };
+    for voice in 0..whole {
         let own = join(&list.iter().filter(|(v, _)| *v == voice).collect::<Vec<_>>());
         let known = known(&own);
         run.sum.calls += 1;
@@ -251,6 +252,36 @@ fn limits() -> Vec<(&'static str, Vec<u8>)> {
     ]
 }
 
+/// The fixed sample that crates/replay replays: the probes and generated texts of at most 1,792 bytes, with the Rust's answers. A row is hex digits, two
+/// to a byte: text length (2), reading store's length (4), refusal's number or 0 (1), its line or the reading's length (4), the text, the reading.
+fn sample() -> String {
+    let mut out = String::new();
+    let mut row = |text: &[u8], short: usize| {
+        let known = known(text);
+        if text.len() > 1_792 || matches!(known, Known::Reading { exact: false, .. }) {
+            return;
+        }
+        let store = reading_len(&known).saturating_sub(short);
+        let outcome = compare::meant(text, &known, store, scratch_bytes(text.len()));
+        let (number, value) = outcome.answer.map_or_else(|(number, line)| (number, line), |length| (0, length as u32));
+        let hex = oracle::hex;
+        let reading = if number == 0 { &outcome.reading[..] } else { &[] };
+        out.push_str(&format!("{:04x} {:08x} {number:02x} {value:08x} {} {}\n", text.len(), store, hex(text), hex(reading)));
+    };
+    for probe in probes() {
+        row(&probe, 0);
+    }
+    for i in 0..60 {
+        row(&generate::text(&mut rng(1792, i)), usize::from(i % 10 == 0));
+    }
+    out
+}
+
+fn probes() -> Vec<Vec<u8>> {
+    let rows = include_str!("../../oracle/probes.tsv").lines();
+    rows.map(|row| oracle::unescape(row.split('\t').next().unwrap()).into_bytes()).collect()
+}
+
 fn main() {
     let mut values = BTreeMap::from([("--count", 1_000_000u64), ("--seed", 1), ("--jobs", 2)]);
     let mut only = None;
@@ -260,6 +291,9 @@ fn main() {
     while let Some(arg) = args.next() {
         if arg == "--only" {
             only = args.next();
+        } else if arg == "--sample" {
+            print!("{}", sample());
+            return;
         } else if arg == "--huge" {
             huge = true;
         } else if arg == "--spoil" {
@@ -277,10 +311,7 @@ fn main() {
             differ += kind(name, count, jobs, spoil, each);
         }
     };
-    let probes: Vec<Vec<u8>> = include_str!("../../oracle/probes.tsv")
-        .lines()
-        .map(|row| oracle::unescape(row.split('\t').next().unwrap()).into_bytes())
-        .collect();
+    let probes = probes();
     run("probes", probes.len() as u64, &|run, i| run.text(&probes[i as usize], true));
     let limits = limits();
     for (name, text) in &limits {
