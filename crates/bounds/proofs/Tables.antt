@@ -19,6 +19,7 @@ use Rattle.reader.specs.Steps.{on, mine}
 use Rattle.reader.specs.Scan.{Item, played, ScanState, begin, scan, Items}
 use Rattle.reader.specs.State.{newPart}
 use Rattle.reader.specs.Part.{onToken, lineBegins, onItem, build}
+use Rattle.reader.specs.Answer.{scratchNeeded}
 use Rattle.reader.specs.Records.{notesOf, pitchesOf, lyrics, lyricText}
 use Rattle.bounds.specs.Prices.{Prices, Covered, tablePrices, rowPrice, textPays, feedPays, notePrices, pitchPrices, accidentalPrices, measurePrices, syllablePrices, textPrices, stateCost, scopesCost, tokenCost, musicBytes, lyricBytes, itemBytes}
 use Rattle.bounds.proofs.Generic.{sum-both, sum-mul}
@@ -107,6 +108,12 @@ lines-most text t a e =
     let n = sum length (rows text) in
     let h : Bill rowPrice (tablePrices .byte) textPays feedPays 0 begin n t a = subst (Holds (Bill rowPrice (tablePrices .byte) textPays feedPays 0 begin n)) e (rows-bill rowPrice (tablePrices .byte) textPays feedPays 0 table-paid (rows text) (rows-fed text) begin) in
     omega (arith, h, table-total a, rows-length text)
+
+-- ROOM for the tables of any one part, behind the voices and the line table
+pub part-room : (text : List ℕ) (t : ScanState) (a : Items) (q : ℕ) → scan (rows text) ≡ on t a
+    → 256 + rowPrice * length a + tablePrices .measure + tablePrices .byte * sum itemBytes (mine q a) ≤ scratchNeeded (length text)
+unfolding scratchNeeded
+part-room text t a q e = omega (arith, lines-most text t a e, mine-bytes q a)
 
 -- music and lyrics
 bytes-both : (is : List Item) → sum itemBytes is ≡ sum musicBytes is + sum lyricBytes is

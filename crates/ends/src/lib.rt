@@ -169,14 +169,14 @@ pub fn mark_first(store: &mut [u8], at: usize, n: usize, fifths: u8, minor: bool
 }
 
 // A mode, by number.
-fn mode_code(minor: bool) -> u8
+pub fn mode_code(minor: bool) -> u8
     ensures { λ r. ⌜ r ≡ modeCode minor ⌝ }
 {
     if minor { 2 } else { 1 }
 }
 
 // A signed number, kept with 128 added, as a byte.
-fn signed(n: u8) -> u8
+pub fn signed(n: u8) -> u8
     ensures { λ r. ⌜ r ≡ signed8 n ⌝ }
 {
     if n < 128 { n + 128 } else { n - 128 }

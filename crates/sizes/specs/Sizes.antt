@@ -1,6 +1,6 @@
 -- WHAT A MUSIC LINE CAN MAKE: how many of its bytes can bring a row to each table of a part. A barline begins with `|` or `:`, a note has a letter, a rest is
 -- one byte, an accidental has a sign.
-use Prim.Native.Nat.{ℕ, _+_, _*_}
+use Prim.Native.Nat.{ℕ, _+_}
 use mathlib.Core.Bool.{Bool, _||_}
 use mathlib.Core.List.{List}
 use lib.ListN.{length}

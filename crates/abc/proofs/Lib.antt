@@ -1,0 +1,5 @@
+pub mod Tests
+pub mod Room
+pub mod Second
+pub mod Order
+pub mod Packs

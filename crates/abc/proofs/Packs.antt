@@ -1,0 +1,34 @@
+-- Nothing is lost in the packing.
+use Prim.Native.Nat.{ℕ, _+_, _-_, _*_, _/_, _%_, _≤_, _<_, _^_}
+use mathlib.Core.Path.{_≡_, refl, sym, ap, subst, _∙_}
+use mathlib.Core.List.{List}
+use native.Mathlib.Omega.{arith}
+use borrow.Author.Tests.{lt-ltb, le-ltb}
+use lib.ListN.{length}
+use Rattle.reader.specs.Answer.{Outcome, Answer, read, refused, refusedWith, written, parseAbc, answerOf}
+use Rattle.bounds.proofs.Reading.{outcome-cases}
+use Rattle.abc.specs.Packed.{mark, above, packed, unpacked, Short}
+
+-- a length
+pub read-back : (n : ℕ) → n < mark → unpacked n ≡ read n
+unfolding unpacked
+read-back n h = rw (lt-ltb n mark h)
+
+-- a refusal
+pub refused-back : (n l : ℕ) → n < 256 → l < above → unpacked (mark + n * above + l) ≡ refused n l
+unfolding unpacked
+refused-back n l hn hl =
+    let k : ℕ = mark + n * above + l in
+    let q : (mark + n * above + l - mark) / above ≡ n = omega arith in
+    let r : (mark + n * above + l - mark) % above ≡ l = omega arith in
+    rw (le-ltb (mark + n * above + l) mark (omega arith)) (λ i. refused (q i) (r i))
+
+-- a reading is at most 23 times as long as its text, which is no longer than 67,108,864 bytes
+pub short-answer : (text : List ℕ) (rl sl : ℕ) → Short (answerOf (parseAbc text rl sl .verdict))
+unfolding refusedWith written answerOf
+short-answer text rl sl =
+    outcome-cases (λ (w : Outcome). Short (answerOf (w .verdict))) text rl sl (λ n l h. tt) (λ h. tt) (λ t a h f len short. omega (arith, len, short))
+
+-- the same of an answer that means it
+pub short-as : (text : List ℕ) (rl sl : ℕ) (a : Answer) → a ≡ answerOf (parseAbc text rl sl .verdict) → Short a
+short-as text rl sl a e = subst Short (sym e) (short-answer text rl sl)

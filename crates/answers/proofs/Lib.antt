@@ -1,0 +1,4 @@
+pub mod Silent
+pub mod Sounding
+pub mod Owners
+pub mod Whole

@@ -1,0 +1,59 @@
+-- A PART WITHOUT A MUSIC LINE: built from its items it has no measure, so its five sections are those of the empty part.
+use Prim.Native.Nat.{ℕ}
+use mathlib.Core.Path.{_≡_, refl, sym, ap, _∙_}
+use mathlib.Core.Bool.{Bool, true, false, true≢false}
+use mathlib.Core.List.{List, [], _∷_}
+use Rattle.laws.specs.Lists.{foldl, any}
+use Rattle.laws.proofs.Bools.{by-test, or-no-left, or-no-right}
+use Rattle.standard.specs.Keys.{Key}
+use Rattle.reader.specs.Scan.{Item, born, reset, headed, keyed, metered, sung, played, Env}
+use Rattle.reader.specs.State.{PartState, Measure, onOpen, newPart}
+use Rattle.reader.specs.Part.{Part, emptyPart, hears, onLyric, onKey, onItem, dropped, marked, finished, build}
+use Rattle.reader.specs.Voltas.{close, closed}
+use Rattle.reader.specs.Records.{notesOf, pitchesOf, lyrics, lyricText, allNotes, lyricsOf, sections}
+use Rattle.reader.specs.Answer.{isMusic, built}
+
+-- an item that is no music line opens no measure
+key-none : (header k : Key) (ms : List Measure) (s : PartState) → ms ≡ [] → s .measures ≡ [] → onKey header k ms s .measures ≡ []
+unfolding onKey hears onOpen
+key-none header k [] s e h = h
+key-none header k (m ∷ ms) s e h = rw h
+
+open-none : (f : Measure → Measure) (s : PartState) → s .measures ≡ [] → onOpen f s .measures ≡ []
+unfolding onOpen
+open-none f s h = rw h
+
+item-none : (header : Key) (s : PartState) (i : Item) → isMusic i ≡ false → s .measures ≡ [] → onItem header s i .measures ≡ []
+unfolding onItem onLyric isMusic
+item-none header s (born b) e h = h
+item-none header s reset e h = h
+item-none header s headed e h = h
+item-none header s (keyed k) e h = key-none header k (s .measures) s h h
+item-none header s (metered t) e h = open-none _ s h
+item-none header s (sung b t) e h = h
+item-none header s (played u t l) e h = absurd (true≢false e)
+
+items-none : (header : Key) (is : List Item) (s : PartState) → any isMusic is ≡ false → s .measures ≡ [] → foldl (onItem header) s is .measures ≡ []
+items-none header [] s e h = h
+items-none header (i ∷ is) s e h =
+    items-none header is (onItem header s i) (or-no-right (isMusic i) (any isMusic is) e) (item-none header s i (or-no-left (isMusic i) (any isMusic is) e) h)
+
+-- so it has none when it is finished
+finished-none : (header : Key) (s : PartState) → s .measures ≡ [] → finished header s .measures ≡ []
+unfolding finished dropped closed close marked
+finished-none header s h = rw h
+
+build-none : (header : Key) (is : List Item) → any isMusic is ≡ false → build header is .measures ≡ []
+unfolding build newPart
+build-none header is e = finished-none header (foldl (onItem header) newPart is) (items-none header is newPart e refl)
+
+-- sections without a measure
+sections-none : (p : Part) → p .measures ≡ [] → sections p ≡ sections emptyPart
+unfolding sections notesOf pitchesOf lyrics lyricText allNotes lyricsOf emptyPart
+sections-none p h = ap (λ (ms : List Measure). sections (record { measures = ms; words = p .words })) h
+
+-- EVERY PART'S SECTIONS are those that are built from its items, with music or without
+pub built-sections : (e : Env) (is : List Item) → sections (built e is) ≡ sections (build (e .headerKey) is)
+unfolding built
+built-sections e is =
+    by-test (any isMusic is) (λ m. rw m) (λ m. rw m (sym (sections-none (build (e .headerKey) is) (build-none (e .headerKey) is m))))

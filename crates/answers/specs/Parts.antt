@@ -1,0 +1,25 @@
+-- A READING'S BYTES as they are written: the count of parts, then part after part, each from its own items.
+use Prim.Native.Nat.{ℕ, zero, suc}
+use mathlib.Core.Bool.{Bool}
+use mathlib.Core.List.{List, [], _++_}
+use Rattle.laws.specs.Lists.{any}
+use Rattle.laws.specs.Bytes.{le32}
+use Rattle.standard.specs.Keys.{Key}
+use Rattle.reader.specs.Steps.{mine}
+use Rattle.reader.specs.Scan.{Item, Items}
+use Rattle.reader.specs.Part.{build}
+use Rattle.reader.specs.Records.{sections}
+use Rattle.reader.specs.Answer.{isMusic}
+
+-- the sections of the parts 0 up to n of the items a, with the header's key k
+unfoldable pub partsOf : Key → Items → ℕ → List ℕ
+partsOf k a zero = []
+partsOf k a (suc n) = partsOf k a n ++ sections (build k (mine n a))
+
+-- behind their count
+unfoldable pub bytesOf : Key → Items → ℕ → List ℕ
+bytesOf k a n = le32 n ++ partsOf k a n
+
+-- some item is of a music line
+abbrev pub hasMusic : Items → Bool
+hasMusic a = any (λ (x : ℕ × Item). isMusic (x .1)) a

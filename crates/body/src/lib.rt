@@ -1,0 +1,82 @@
+// A music line of a part: its tokens from left to right, each done to what scratch and registers hold (000, parse_body_line).
+ghost use lib.ListN.{length};
+ghost use Rattle.layout.specs.Log.{onLine};
+ghost use Rattle.held.specs.Lines.{Waits, Rest, Takes};
+ghost use Rattle.body.specs.Body.{Ready, Acts};
+use registers::Registers;
+use registers::Tables;
+use tokens::Token;
+
+// What a token does. Quoted texts, decorations, other fields and bytes that mean nothing do nothing.
+fn on_token(line: &[u8], store: &mut [u8], t: Tables, r: Registers, token: Token) -> Registers
+    requires { ⌜ Ready (now line) t (now store) r token ⌝ }
+    ensures { λ x. ⌜ Acts (now (line .entry)) t (now (store .entry)) r (now (store .exit)) x token ⌝ }
+{
+    match token {
+        Token::Space => steps::on_space(r),
+        Token::Overlay => steps::on_overlay(r),
+        Token::Quoted => r,
+        Token::Broken { up, count } => rhythm::on_broken(store, t, r, up, count),
+        Token::Tuplet {
+            actual,
+            normal,
+            count,
+        } => steps::on_tuplet(r, actual, normal, count),
+        Token::Slur => steps::on_slur(r),
+        Token::GraceOpen => steps::on_grace_open(r),
+        Token::GraceClose => steps::on_grace_close(r),
+        Token::Decoration => r,
+        Token::Barline { right, left, opens } => bars::on_barline(store, t, r, right, left, opens),
+        Token::Volta { first, passes } => {
+            bars::on_volta(store, t, r, first, passes);
+            r
+        }
+        Token::Unit(unit) => steps::on_unit(r, unit),
+        Token::Meter { top, bottom } => bars::on_meter(store, t, r, top, bottom),
+        Token::Key { fifths, minor } => steps::on_key(store, t, r, fifths, minor),
+        Token::Field => r,
+        Token::Chord {
+            place,
+            count,
+            length,
+            tie,
+            slur,
+        } => chords::append_chord(line, store, t, r, place, count, length, tie, slur),
+        Token::Rest { kind, length } => sounds::append_rest(store, t, r, kind, length),
+        Token::Note {
+            pitch,
+            length,
+            tie,
+            slur,
+        } => sounds::append_note(store, t, r, pitch, length, tie, slur),
+        Token::Nothing => rhythm::on_nothing(store, t, r),
+        Token::Skipped => r,
+        Token::Refused(_) => r,
+    }
+}
+
+// A music line, which begins with this unit and meter in force.
+pub fn parse_body_line(
+    line: &[u8],
+    store: &mut [u8],
+    t: Tables,
+    r: Registers,
+    unit: u32,
+    top: u8,
+    bottom: u8,
+) -> Registers
+    requires { ⌜ Rest t (r .counts) (length (now store)) (now line) × Waits t (now store) r ⌝ }
+    ensures { λ x. ⌜ Takes t (now (store .entry)) r (now (store .exit)) x (now (line .entry)) (onLine unit (top, bottom) (now (line .entry))) ⌝ }
+{
+    let classes = marks::letter_classes();
+    let mut x = steps::begin_line(store, t, r, unit, top, bottom);
+    let mut at: usize = 0;
+    while at < line.len() {
+        let kept = x.line;
+        let taken = tokens::token_at(line, at, kept.unit, &classes);
+        let token = taken.token;
+        x = on_token(line, store, t, x, token);
+        at = taken.next;
+    }
+    x
+}

@@ -1,0 +1,3 @@
+pub mod Pitches
+pub mod Pushing
+pub mod Calls

@@ -1,0 +1,4 @@
+pub mod Music
+pub mod Each
+pub mod Rows
+pub mod Turns

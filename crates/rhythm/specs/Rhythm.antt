@@ -1,0 +1,61 @@
+-- The last note's row and the registers by the code's values.
+use Prim.Native.Nat.{ℕ, _+_}
+use mathlib.Core.Bool.{Bool, cond}
+use mathlib.Core.List.{List, [], _∷_}
+use lib.Dec.{eqb}
+use lib.ListN.{getD}
+use Rattle.laws.specs.Bytes.{splice}
+use Rattle.standard.specs.Lengths.{Value}
+use Rattle.lengths.specs.Values.{asValue, brokenLength}
+use Rattle.registers.specs.declared.Registers.{Registers}
+use Rattle.registers.specs.declared.Half.the-variants as half
+use Rattle.registers.specs.Notes.{beams, lengthIn}
+
+-- the place of the last note of the voice being written
+abbrev pub placeOf : Registers → ℕ
+placeOf r = getD (r .last .places) (r .line .overlay) 0
+
+-- a note's value and dots after broken rhythm
+abbrev pub brokenValue : Bool → ℕ → ℕ → ℕ → Value
+brokenValue up times value dots = asValue (brokenLength up times (lengthIn value dots))
+
+-- its two bytes; and the row at a place after it
+abbrev pub valueBytes : Value → List ℕ
+valueBytes w = w .value ∷ w .dots ∷ []
+
+abbrev pub brokenStore : List ℕ → ℕ → Bool → ℕ → List ℕ
+brokenStore s place up times = splice s (place + 1) (valueBytes (brokenValue up times (getD s (place + 1) 0) (getD s (place + 2) 0)))
+
+-- what the beam step writes for a note of this kind and value; and the row at a place after it
+unfoldable pub againBeam : ℕ → ℕ → ℕ → List ℕ
+againBeam run kind value = cond (beams kind value) (cond (eqb run 0) [] (3 ∷ [])) (0 ∷ [])
+
+abbrev pub againStore : List ℕ → ℕ → ℕ → ℕ → ℕ → List ℕ
+againStore s place run kind value = splice s (place + 4) (againBeam run kind value)
+
+-- another half waits; another run
+abbrev pub halfWaits : Registers → Bool → ℕ → Registers
+halfWaits r up times =
+    record {
+      counts = r .counts;
+      key = r .key;
+      last = r .last;
+      pending = r .pending;
+      line = r .line;
+      waiting = record { half = half.Waits up times };
+      group = r .group;
+      verses = r .verses;
+    }
+
+abbrev pub runs : Registers → ℕ → Registers
+runs r run =
+    record {
+      counts = r .counts;
+      key = r .key;
+      last = r .last;
+      pending = r .pending;
+      line = record { unit = r .line .unit; top = r .line .top; bottom = r .line .bottom; overlay = r .line .overlay; run = run };
+      waiting = r .waiting;
+      group = r .group;
+      verses = r .verses;
+    }

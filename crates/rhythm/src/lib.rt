@@ -1,0 +1,114 @@
+// The voice's last note, changed behind it: broken rhythm, and the beam step taken once more after an empty chord or an accidental without a note.
+ghost use mathlib.Core.Path.{_≡_};
+ghost use Prim.Native.Nat.{_+_, _*_, _≤_, _<_};
+ghost use lib.ListN.{length};
+ghost use Rattle.reader.specs.Token as token;
+ghost use Rattle.layout.specs.Log.{onToken};
+ghost use Rattle.held.specs.Held.{Room, Holding, Does};
+ghost use Rattle.rhythm.specs.Rhythm.{brokenStore, againStore, placeOf, halfWaits, runs};
+use registers::Half;
+use registers::Registers;
+use registers::Tables;
+use registers::Waiting;
+use rows::NoteRow;
+
+// The place of the last note of the voice being written, from 1; 0 if it has none.
+fn last_place(r: Registers) -> u32
+    requires { ⌜ r .line .overlay < 4 ⌝ }
+    ensures { λ p. ⌜ p ≡ placeOf r ⌝ }
+{
+    let last = r.last;
+    let places = last.places;
+    let voice = r.line.overlay as usize;
+    places[voice]
+}
+
+// BROKEN RHYTHM
+
+// The note in row i, with dots more or halved.
+fn break_note(store: &mut [u8], at: usize, i: usize, up: bool, times: u8)
+    requires { ⌜ at + 16 * i + 16 ≤ length (now store) ⌝ }
+    ensures { λ _. ⌜ now (store .exit) ≡ brokenStore (now (store .entry)) (at + 16 * i) up times ⌝ }
+{
+    let w = rows::get_written(store, at, i);
+    let n = NoteRow {
+        kind: w.kind,
+        value: w.value,
+        dots: w.dots,
+        marks: 0,
+        beam: 0,
+        actual: 0,
+        normal: 0,
+        boundary: 0,
+        pitches: 0,
+    };
+    let m = registers::broken(n, up, times);
+    rows::set_note_value(store, at, i, m.value, m.dots);
+}
+
+// The other half waits for the next note.
+fn wait_for(r: Registers, up: bool, times: u8) -> Registers
+    ensures { λ x. ⌜ x ≡ halfWaits r up times ⌝ }
+{
+    let waiting = Waiting {
+        half: Half::Waits { up, times },
+    };
+    let mut x = r;
+    x.waiting = waiting;
+    x
+}
+
+// `times` signs `>` (up) or `<`: the voice's last note, and a half for the next one. Nothing, where there is no last note.
+pub fn on_broken(store: &mut [u8], t: Tables, r: Registers, up: bool, times: u8) -> Registers
+    requires { ⌜ Room t (r .counts) (length (now store)) 0 0 0 0 × Holding t (now store) r ⌝ }
+    ensures { λ x. ⌜ Does t (now (store .entry)) r (now (store .exit)) x 0 0 0 0 (λ l. onToken l (token.broken up times)) ⌝ }
+{
+    let place = last_place(r);
+    if place == 0 {
+        return r;
+    }
+    let i = (place - 1) as usize;
+    break_note(store, t.notes, i, up, times);
+    wait_for(r, !up, times)
+}
+
+// THE BEAM STEP ONCE MORE
+
+// A note of this kind and value in row i ends the beam where one runs; it has none where it can't have one.
+fn beam_again(store: &mut [u8], at: usize, i: usize, run: u8, kind: u8, value: u8)
+    requires { ⌜ at + 16 * i + 16 ≤ length (now store) ⌝ }
+    ensures { λ _. ⌜ now (store .exit) ≡ againStore (now (store .entry)) (at + 16 * i) run kind value ⌝ }
+{
+    if registers::can_beam(kind, value) {
+        if run == 0 {
+            return;
+        }
+        rows::set_note_beam(store, at, i, 3);
+        return;
+    }
+    rows::set_note_beam(store, at, i, 0);
+}
+
+fn run_on(r: Registers, run: u8) -> Registers
+    ensures { λ x. ⌜ x ≡ runs r run ⌝ }
+{
+    let mut x = r;
+    x.line.run = run;
+    x
+}
+
+// An empty chord, or an accidental without a note: the beam step on the voice's last note. Where there is none, no beam runs.
+pub fn on_nothing(store: &mut [u8], t: Tables, r: Registers) -> Registers
+    requires { ⌜ Room t (r .counts) (length (now store)) 0 0 0 0 × Holding t (now store) r ⌝ }
+    ensures { λ x. ⌜ Does t (now (store .entry)) r (now (store .exit)) x 0 0 0 0 (λ l. onToken l token.nothing) ⌝ }
+{
+    let place = last_place(r);
+    if place == 0 {
+        return run_on(r, 0);
+    }
+    let run = r.line.run;
+    let i = (place - 1) as usize;
+    let w = rows::get_written(store, t.notes, i);
+    beam_again(store, t.notes, i, run, w.kind, w.value);
+    run_on(r, registers::update_abc_beam_run(run, w.kind, w.value))
+}

@@ -1,0 +1,10 @@
+-- `steps::on_space` meets its contract.
+use Rattle.steps.proofs.Registers.{space-does}
+use Rattle.steps.proofs.on_space.Statement.{statement}
+use Rattle.steps.proofs.on_space.Tie as tie
+
+returns : tie.Need-returns
+returns c = λ t s. space-does (c .before .args .r) t s
+
+pub on-space-spec : {M : Type 1} → statement M
+on-space-spec = tie.close (tie.spec returns)
