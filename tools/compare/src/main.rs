@@ -252,7 +252,7 @@ fn limits() -> Vec<(&'static str, Vec<u8>)> {
     ]
 }
 
-/// The fixed sample that crates/replay replays: the probes and generated texts of at most 1,792 bytes, with the Rust's answers. A row is hex digits, two
+/// The fixed sample that crates/replay replays: the probes, limits and generated texts of at most 1,792 bytes, with the Rust's answers. A row is hex digits, two
 /// to a byte: text length (2), reading store's length (4), refusal's number or 0 (1), its line or the reading's length (4), the text, the reading.
 fn sample() -> String {
     let mut out = String::new();
@@ -270,6 +270,10 @@ fn sample() -> String {
     };
     for probe in probes() {
         row(&probe, 0);
+    }
+    for (_, text) in limits() {
+        row(&text, 0);
+        row(&text, 1);
     }
     for i in 0..60 {
         row(&generate::text(&mut rng(1792, i)), usize::from(i % 10 == 0));
