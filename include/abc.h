@@ -1,0 +1,82 @@
+/* The tune reader, for C. Link target/staticlib/libabc.a, which `rt staticlib abc` writes.
+ *
+ * One call reads one text into a store of the caller's. It allocates nothing, keeps nothing, never fails otherwise than by its answer, and
+ * may be called from several threads at once with stores of their own. Whatever the stores held before does not matter. */
+#ifndef ABC_H
+#define ABC_H
+
+#include <stddef.h>
+#include <stdint.h>
+
+#ifdef __cplusplus
+extern "C" {
+#endif
+
+/* The most bytes of a text: a longer one is refused with ABC_TOO_LONG. */
+#define ABC_MOST_BYTES ((size_t)67108864)
+
+/* How long the stores have to be for a text of n bytes. A reading never has more than 23 bytes for each byte of its text, so a reading store of
+ * ABC_READING_BYTES(n) is never too short; a shorter one will do if the reading fits. Scratch has to have ABC_SCRATCH_BYTES(n). */
+#define ABC_READING_BYTES(n) ((size_t)23 * (size_t)(n))
+#define ABC_SCRATCH_BYTES(n) ((size_t)32 * ((size_t)(n) + 256))
+
+/* Reads a text. The answer is the reading's length in bytes; or it has ABC_REFUSED set, and is taken apart by the two macros below.
+ *
+ * Afterwards scratch is all zeros. The reading store holds the reading and then zeros, or, after a refusal, zeros. The three stores must not
+ * overlap; a pointer to a store of 0 bytes may be any pointer that is not null. */
+uint64_t abc_parse(const uint8_t *text, size_t text_len, uint8_t *reading, size_t reading_len, uint8_t *scratch, size_t scratch_len);
+
+#define ABC_REFUSED ((uint64_t)1 << 63)
+#define ABC_IS_REFUSED(answer) (((answer) & ABC_REFUSED) != 0)
+/* The refusal's number, one of those below, and the line of the text that brought it about, from 1; line 0: no line did. */
+#define ABC_REFUSAL(answer) ((unsigned)(((answer) >> 32) & 0xff))
+#define ABC_LINE(answer) ((uint32_t)(answer))
+
+/* REFUSALS that the sender of the tune can mend */
+#define ABC_NO_MUSIC 1        /* blank text, or no measure at the end: send music after a K: line */
+#define ABC_TOO_LONG 2        /* over 67,108,864 bytes: send the tunes one by one */
+#define ABC_NOT_UTF8 3        /* not UTF-8: convert the file */
+#define ABC_TOO_MANY_LINES 4  /* a line after the 10,000th: send the tunes one by one */
+#define ABC_LINE_TOO_LONG 5   /* a line over 1,048,576 bytes once cut and trimmed: break it */
+#define ABC_NOT_ASCII 6       /* a byte above 127 in a K, L, M or V line or in music: write it in ASCII, or behind a % */
+#define ABC_SECOND_TUNE 7     /* an X: line after the first K: line: one tune in a text */
+#define ABC_NO_VOICE_ID 8     /* V: without an identifier: name the voice */
+#define ABC_TOO_MANY_VOICES 9 /* a 33rd voice; unnamed opening music counts as one */
+#define ABC_MIDDLE 10         /* a middle= word in a K or V field: leave it out */
+#define ABC_TOO_MANY_NOTES 11 /* the 100,001st note, rest or non-empty chord */
+#define ABC_OCTAVE 12         /* octave marks that leave -128 to 127 */
+#define ABC_BROKEN_RHYTHM 13  /* more than 255 equal > or < together */
+#define ABC_PASSES 14         /* [ and a digit that begin no pass list: numbers 1 to 32, rising, as 1,3 or 1-4 */
+/* and those that the calling program can mend */
+#define ABC_SCRATCH_SHORT 15  /* scratch below ABC_SCRATCH_BYTES(text_len) */
+#define ABC_READING_SHORT 16  /* the reading store is shorter than the reading */
+
+/* THE READING: a count of parts, then for each part five sections, each its count and then its records. Numbers are little-endian, four bytes where
+ * nothing else is said; signed ones are marked so. */
+#define ABC_MEASURE_BYTES 28
+#define ABC_NOTE_BYTES 12
+#define ABC_PITCH_BYTES 5
+#define ABC_LYRIC_BYTES 11
+
+/* Measure: how many notes each of its four voices has (4 x 4); left and right barline; meter, top and bottom; key mark (0 none, 1 major, 2 minor);
+ * fifths (signed); volta (0 none, 1 begin, 2 end, 3 both); first pass; passes (4, bit p-1 for pass p). */
+enum { ABC_BAR_NORMAL, ABC_BAR_REPEAT_START, ABC_BAR_REPEAT_END, ABC_BAR_REPEAT_BOTH, ABC_BAR_DOUBLE, ABC_BAR_FINAL };
+
+/* Note: kind; value; dots; flags; beam; tuplet actual, normal (0, 0 if none); boundary (0 none, 1 start, 2 stop, 3 both); pitch count (4).
+ * Notes run by measure, then by voice 0 to 3, then as written. */
+enum { ABC_NOTE, ABC_REST_Z, ABC_REST_X, ABC_BAR_REST_Z, ABC_BAR_REST_X };
+enum { ABC_LONGA, ABC_BREVE, ABC_WHOLE, ABC_HALF, ABC_QUARTER, ABC_8TH, ABC_16TH, ABC_32ND, ABC_64TH, ABC_128TH, ABC_WHOLE_BAR };
+enum { ABC_TIE_START = 1, ABC_TIE_END = 2, ABC_SLUR_START = 4, ABC_SLUR_END = 8, ABC_GRACE = 16, ABC_UNBEAMED = 32 };
+enum { ABC_BEAM_NONE, ABC_BEAM_BEGIN, ABC_BEAM_CONTINUE, ABC_BEAM_END };
+
+/* Pitch: step, 0 (C) to 6 (B); octave, alter (signed bytes); cents (signed, 2). In the order of their notes. */
+
+/* Lyric: its note's number in this part, from 0 (4); verse, 1 to 32; syllabic; extend, 0 or 1; text length (4). By note, then verse. Their texts stand in
+ * the fifth section, one after the other. */
+enum { ABC_SINGLE, ABC_BEGIN, ABC_END, ABC_MIDDLE_OF_WORD };
+
+#ifdef __cplusplus
+}
+#endif
+
+#endif

@@ -1,0 +1,341 @@
+//! The port of `parse_abc` beside the Rust on whole texts: `tools/differential-texts --help`.
+use compare::{Known, Stores, known, reading_len, shrink};
+use oracle::generate::{self, Rng};
+use sindvaelo::{MOST_BYTES, reading_bytes, scratch_bytes};
+use std::collections::BTreeMap;
+
+/// What one kind of texts came to.
+#[derive(Default)]
+struct Sum {
+    texts: u64,
+    calls: u64,
+    answers: BTreeMap<String, u64>,
+    differences: Vec<String>,
+}
+
+impl Sum {
+    fn add(&mut self, other: Sum) {
+        self.texts += other.texts;
+        self.calls += other.calls;
+        for (name, count) in other.answers {
+            *self.answers.entry(name).or_default() += count;
+        }
+        self.differences.extend(other.differences);
+    }
+}
+
+/// One thread's stores and sums.
+#[derive(Default)]
+struct Run {
+    stores: Stores,
+    sum: Sum,
+}
+
+impl Run {
+    fn call(&mut self, text: &[u8], known: &Known, reading: usize, scratch: usize) {
+        self.sum.calls += 1;
+        let Some(words) = self.stores.difference(text, known, reading, scratch) else { return };
+        if self.sum.differences.len() < 5 {
+            let (more, under) = (reading as isize - reading_len(known) as isize, scratch as isize - scratch_bytes(text.len()) as isize);
+            let small = shrink(text, |t| {
+                let k = compare::known(t);
+                let (r, s) = ((reading_len(&k) as isize + more).max(0) as usize, (scratch_bytes(t.len()) as isize + under).max(0) as usize);
+                Stores::default().difference(t, &k, r, s).is_some()
+            });
+            self.sum.differences.push(format!("{words}\n    {}", oracle::escape(&String::from_utf8_lossy(&small))));
+        } else {
+            self.sum.differences.push(String::new());
+        }
+    }
+
+    /// A text with stores that fit, and with `around` set with lengths around the ones that just do.
+    fn text(&mut self, text: &[u8], around: bool) {
+        let known = known(text);
+        self.sum.texts += 1;
+        let name = match &known {
+            Known::Early(number) => format!("refused {number:2}"),
+            Known::Refused(number, _) => format!("refused {number:2}"),
+            Known::Reading { exact: true, .. } => "read".into(),
+            Known::Reading { exact: false, .. } => "read, outside the domain of equality".into(),
+        };
+        *self.sum.answers.entry(name).or_default() += 1;
+        let (reading, scratch) = (reading_len(&known), scratch_bytes(text.len()));
+        self.call(text, &known, reading, scratch);
+        if !around {
+            return;
+        }
+        for r in [0, 1, 3, 4, 5, reading / 2, reading.saturating_sub(1), reading + 1, reading + 7, reading_bytes(text.len())] {
+            self.call(text, &known, r, scratch);
+        }
+        for s in [0, 1, scratch - 1, scratch + 1, scratch + 9] {
+            self.call(text, &known, reading, s);
+            self.call(text, &known, reading.saturating_sub(1), s);
+        }
+    }
+}
+
+/// Runs `each` on the numbers below `count`, shared out to `jobs` threads, and prints a line.
+fn kind(name: &str, count: u64, jobs: u64, spoil: bool, each: impl Fn(&mut Run, u64) + Sync) -> u64 {
+    let start = std::time::Instant::now();
+    let mut sum = Sum::default();
+    std::thread::scope(|scope| {
+        let runs: Vec<_> = (0..jobs)
+            .map(|job| {
+                let each = &each;
+                scope.spawn(move || {
+                    let mut run = Run::default();
+                    run.stores.spoil = spoil;
+                    for i in (job..count).step_by(jobs as usize) {
+                        each(&mut run, i);
+                    }
+                    run.sum
+                })
+            })
+            .collect();
+        for run in runs {
+            sum.add(run.join().expect("thread"));
+        }
+    });
+    let answers: Vec<String> = sum.answers.iter().map(|(name, count)| format!("{name}: {count}")).collect();
+    println!("{name}: {} texts, {} calls, {} differ, {:.0} s", sum.texts, sum.calls, sum.differences.len(), start.elapsed().as_secs_f64());
+    println!("  {}", answers.join(", "));
+    for words in sum.differences.iter().filter(|words| !words.is_empty()) {
+        println!("  DIFFERS {words}");
+    }
+    sum.differences.len() as u64
+}
+
+fn rng(seed: u64, index: u64) -> Rng {
+    Rng::new(seed.wrapping_mul(0x1_0000_0001).wrapping_add(index << 17))
+}
+
+/// Bytes of music lines that mean something, one of each kind.
+const ALPHABET: &[u8] = b"Ac^_=,'2/z|:[]()13>&{-\" ";
+
+fn lines_of(length: u32) -> u64 {
+    (ALPHABET.len() as u64).pow(length)
+}
+
+/// Music line number i of this length.
+fn line(length: u32, mut i: u64) -> Vec<u8> {
+    let mut text = b"K:G\n".to_vec();
+    for _ in 0..length {
+        text.push(ALPHABET[(i % ALPHABET.len() as u64) as usize]);
+        i /= ALPHABET.len() as u64;
+    }
+    text
+}
+
+/// Two generated texts cut and joined, with a few bytes changed.
+fn mutated(r: &mut Rng) -> Vec<u8> {
+    let (a, b) = (generate::text(r), generate::text(r));
+    // At an ASCII byte, so that most texts stay UTF-8.
+    let cut = |text: &[u8], from: usize| (from..text.len()).find(|i| text[*i] < 128).unwrap_or(text.len());
+    let (i, j) = (cut(&a, r.below(a.len() + 1)), cut(&b, r.below(b.len() + 1)));
+    let mut text = [&a[..i], &b[j..]].concat();
+    for _ in 0..r.below(6) {
+        if text.is_empty() {
+            break;
+        }
+        let at = r.below(text.len());
+        match r.below(4) {
+            _ if text[at] > 127 => {}
+            0 => text[at] = ALPHABET[r.below(ALPHABET.len())],
+            1 => text.insert(at, ALPHABET[r.below(ALPHABET.len())]),
+            2 => drop(text.remove(at)),
+            _ => text[at] = r.next() as u8 & 0x7f,
+        }
+    }
+    text
+}
+
+/// Bytes of fields, music and lyrics.
+const SIGNS: &[u8] = b"\n\n\r\t %:KLMVwX[]|ABCcdefg12/>-~*_";
+
+/// Bytes: any, or ones of UTF-8, or ones of music.
+fn noise(r: &mut Rng) -> Vec<u8> {
+    let length = r.below(80);
+    let kind = r.below(3);
+    let mut text = if r.chance(60) { b"K:C\n".to_vec() } else { Vec::new() };
+    for _ in 0..length {
+        match kind {
+            0 => text.push(r.next() as u8),
+            1 => {
+                let c = char::from_u32(r.below(0x3100) as u32).unwrap_or('~');
+                text.extend(c.to_string().bytes());
+            }
+            _ => text.push(SIGNS[r.below(SIGNS.len())]),
+        }
+    }
+    text
+}
+
+/// A moved text must give the same answer and the same bytes in both stores; each voice alone the same part.
+fn blocks(run: &mut Run, seed: u64, index: u64) {
+    let mut r = rng(seed, index);
+    let (before, voices, list) = generate::blocks(&mut r);
+    let join = |list: &[&(usize, String)]| list.iter().fold(before.clone(), |text, (_, block)| text + block).into_bytes();
+    let text = join(&list.iter().collect::<Vec<_>>());
+    run.text(&text, false);
+    let Known::Reading { bytes, .. } = known(&text) else { return };
+    let (reading, scratch) = (bytes.len() + r.below(9), scratch_bytes(text.len()) + r.below(9));
+    let Ok(first) = run.stores.given(&text, reading, scratch) else { return };
+    for _ in 0..3 {
+        let mut order: Vec<usize> = list.iter().map(|(voice, _)| *voice).collect();
+        for i in (1..order.len()).rev() {
+            order.swap(i, r.below(i + 1));
+        }
+        let mut next = vec![0; voices];
+        let moved: Vec<_> = order
+            .iter()
+            .map(|&voice| {
+                next[voice] += 1;
+                list.iter().filter(|(v, _)| *v == voice).nth(next[voice] - 1).unwrap()
+            })
+            .collect();
+        run.sum.calls += 1;
+        if run.stores.given(&join(&moved), reading, scratch).as_ref() != Ok(&first) {
+            run.sum.differences.push(format!("blocks moved\n    {}", oracle::escape(&String::from_utf8_lossy(&join(&moved)))));
+        }
+    }
+    // A spoiled reading cannot be split into its parts.
+    let whole = if run.stores.spoil { 0 } else { voices };
+    for voice in 0..whole {
+        let own = join(&list.iter().filter(|(v, _)| *v == voice).collect::<Vec<_>>());
+        let known = known(&own);
+        run.sum.calls += 1;
+        let alone = run.stores.given(&own, reading_bytes(own.len()), scratch_bytes(own.len()));
+        let same = match (&known, alone) {
+            (Known::Reading { .. }, Ok(o)) if o.answer.is_ok() => {
+                oracle::split_parts(&o.reading)[voice] == oracle::split_parts(&first.reading)[voice]
+            }
+            (_, Ok(o)) => o.answer.is_err(),
+            _ => false,
+        };
+        if !same {
+            run.sum.differences.push(format!("voice {voice} alone\n    {}", oracle::escape(&String::from_utf8_lossy(&own))));
+        }
+    }
+}
+
+/// Document 01's bars that are run only, and the other limits.
+fn limits() -> Vec<(&'static str, Vec<u8>)> {
+    let line = |music: &str| format!("L:1/8\nK:C\n{music}").into_bytes();
+    let lines = |n: usize| format!("K:C\nA\n{}", "B\n".repeat(n - 2)).into_bytes();
+    let notes = |n: usize| line(&"A".repeat(n));
+    let voices = |n: usize| (0..n).fold("K:C\n".to_string(), |text, i| text + &format!("V:{i}\nA\n")).into_bytes();
+    let long = |n: usize| line(&format!("A{}", " ".repeat(n - 2))).into_iter().chain(*b"B").collect::<Vec<u8>>();
+    vec![
+        ("(255", line("(255ABC")),
+        ("(256", line("(256ABC")),
+        ("130 _ before A", line(&format!("{}A", "_".repeat(130)))),
+        ("130 ^ before A", line(&format!("{}A", "^".repeat(130)))),
+        ("10,000 lines", lines(10_000)),
+        ("10,001 lines", lines(10_001)),
+        ("100,000 notes", notes(100_000)),
+        ("100,001 notes", notes(100_001)),
+        ("255 >", line(&format!("A{}B", ">".repeat(255)))),
+        ("256 >", line(&format!("A{}B", ">".repeat(256)))),
+        ("32 voices", voices(32)),
+        ("33 voices", voices(33)),
+        ("a line of 1,048,576 bytes", long(1_048_576)),
+        ("a line of 1,048,577 bytes", long(1_048_577)),
+        ("octave 127", line(&format!("C{}", "'".repeat(123)))),
+        ("octave 128", line(&format!("C{}", "'".repeat(124)))),
+        ("octave -128", line(&format!("C{}", ",".repeat(132)))),
+        ("octave -129", line(&format!("C{}", ",".repeat(133)))),
+        ("pass 32", line("[32A")),
+        ("pass 33", line("[33A")),
+        ("33 verses", line(&format!("A\n{}", (0..33).map(|i| format!("w:v{i}\n")).collect::<String>()))),
+        ("a numerator of 32 bits", line("A4294967295 A4294967296")),
+        ("a count of 64 bits", line("(3:2:18446744073709551615A (3:2:18446744073709551616A")),
+    ]
+}
+
+/// The fixed sample that crates/replay replays: the probes, limits and generated texts of at most 1,792 bytes, with the Rust's answers. A row is hex digits, two
+/// to a byte: text length (2), reading store's length (4), refusal's number or 0 (1), its line or the reading's length (4), the text, the reading.
+fn sample() -> String {
+    let mut out = String::new();
+    let mut row = |text: &[u8], short: usize| {
+        let known = known(text);
+        if text.len() > 1_792 || matches!(known, Known::Reading { exact: false, .. }) {
+            return;
+        }
+        let store = reading_len(&known).saturating_sub(short);
+        let outcome = compare::meant(text, &known, store, scratch_bytes(text.len()));
+        let (number, value) = outcome.answer.map_or_else(|(number, line)| (number, line), |length| (0, length as u32));
+        let hex = oracle::hex;
+        let reading = if number == 0 { &outcome.reading[..] } else { &[] };
+        out.push_str(&format!("{:04x} {:08x} {number:02x} {value:08x} {} {}\n", text.len(), store, hex(text), hex(reading)));
+    };
+    for probe in probes() {
+        row(&probe, 0);
+    }
+    for (_, text) in limits() {
+        row(&text, 0);
+        row(&text, 1);
+    }
+    for i in 0..60 {
+        row(&generate::text(&mut rng(1792, i)), usize::from(i % 10 == 0));
+    }
+    out
+}
+
+fn probes() -> Vec<Vec<u8>> {
+    let rows = include_str!("../../oracle/probes.tsv").lines();
+    rows.map(|row| oracle::unescape(row.split('\t').next().unwrap()).into_bytes()).collect()
+}
+
+fn main() {
+    let mut values = BTreeMap::from([("--count", 1_000_000u64), ("--seed", 1), ("--jobs", 2)]);
+    let mut only = None;
+    let mut huge = false;
+    let mut spoil = false;
+    let mut args = std::env::args().skip(1);
+    while let Some(arg) = args.next() {
+        if arg == "--only" {
+            only = args.next();
+        } else if arg == "--sample" {
+            print!("{}", sample());
+            return;
+        } else if arg == "--huge" {
+            huge = true;
+        } else if arg == "--spoil" {
+            spoil = true;
+        } else {
+            let slot = values.get_mut(arg.as_str()).unwrap_or_else(|| panic!("no option {arg}"));
+            *slot = args.next().and_then(|n| n.parse().ok()).unwrap_or_else(|| panic!("{arg} takes a number"));
+        }
+    }
+    let (count, seed, jobs) = (values["--count"], values["--seed"], values["--jobs"].max(1));
+    let wanted = |name: &str| only.as_ref().is_none_or(|word| name.contains(word.as_str()));
+    let mut differ = 0;
+    let mut run = |name: &str, count: u64, each: &(dyn Fn(&mut Run, u64) + Sync)| {
+        if wanted(name) {
+            differ += kind(name, count, jobs, spoil, each);
+        }
+    };
+    let probes = probes();
+    run("probes", probes.len() as u64, &|run, i| run.text(&probes[i as usize], true));
+    let limits = limits();
+    for (name, text) in &limits {
+        run(&format!("limit: {name}"), 1, &|run, _| run.text(text, true));
+    }
+    for length in 0..=4 {
+        run(&format!("lines: all of {length} bytes"), lines_of(length), &|run, i| run.text(&line(length, i), false));
+    }
+    run("generated", count, &|run, i| run.text(&generate::text(&mut rng(seed, i)), i % 16 == 0));
+    run("mutated", count / 4, &|run, i| run.text(&mutated(&mut rng(seed ^ 0x5eed, i)), i % 16 == 0));
+    run("bytes", count / 4, &|run, i| run.text(&noise(&mut rng(seed ^ 0xb17e5, i)), i % 16 == 0));
+    run("blocks", count / 50, &|run, i| blocks(run, seed, i));
+    if huge {
+        // 67,108,864 bytes and one more: the second is refused, the first is not for its length.
+        for length in [MOST_BYTES, MOST_BYTES + 1] {
+            let mut text = b"K:C\nA\n%".to_vec();
+            text.resize(length, b'x');
+            run(&format!("limit: {length} bytes"), 1, &|run, _| run.text(&text, false));
+        }
+    }
+    println!("{differ} differences in all");
+    std::process::exit(i32::from(differ > 0));
+}
