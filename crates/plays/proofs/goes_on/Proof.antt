@@ -1,5 +1,4 @@
 -- `plays::goes_on` meets its contract: a case for each answer so far.
-use mathlib.Core.Path.{refl}
 use borrow.Author.Needs.{needs}
 use Rattle.plays.specs.Plays.{goesOn}
 use Rattle.plays.proofs.goes_on.Statement.{statement}

@@ -57,7 +57,6 @@ use Rattle.marks.specs.Classes.{classTable}
 use Rattle.tokens.specs.declared.Effect.{Effect}
 use Rattle.tokens.proofs.Effect as S
 use Rattle.tokens.proofs.Effect.Laws as S′
-use Rattle.cursors.specs.Cursors.{movedTo}
 use Rattle.cursors.specs.declared.Cursor.{Cursor}
 use Rattle.cursors.proofs.Cursor as T
 use Rattle.cursors.proofs.Cursor.Laws as T′
