@@ -1,11 +1,12 @@
 -- A music line token by token, and what the scan makes of it.
 use Prim.Native.Nat.{ℕ, suc, _+_, _-_, _≤_, _<_}
 use mathlib.Core.Path.{_≡_, refl, sym, ap, subst, _∙_}
-use mathlib.Core.Bool.{Bool, true, false}
+use mathlib.Core.Bool.{Bool, true, false, not}
 use mathlib.Core.Option.{Option, none, some}
 use mathlib.Core.List.{List, [], _∷_, _++_, map}
 use native.Mathlib.Numerals.{add-one}
 use native.Mathlib.Omega.{arith}
+use lib.Dec.{T, ltb→lt, nltb→le}
 use lib.ListN.{length, take, drop, length-drop}
 use borrow.Author.Tests.{lt-ltb, le-ltb}
 use Rattle.laws.specs.Bytes.{between}
@@ -18,6 +19,7 @@ use Rattle.reader.specs.Scan.{played, noteCount, lastUnit, lastMeter, firstRefu
 use Rattle.reader.proofs.TokenLaws.{tokens-at, tokens-end, takes-a-byte}
 use Rattle.reader.proofs.TokenBounds.{token-within}
 use Rattle.tokens.specs.Tokens.{effectFor, effectedFor}
+use Rattle.tokens.specs.declared.Effect as code
 use Rattle.tokens.specs.declared.Effected.{Effected}
 use Rattle.text.specs.declared.Class.the-variants as C
 use Rattle.text.specs.Lines.{kindAs}
@@ -28,7 +30,7 @@ use Rattle.states.specs.States.{held, reached, Stepped}
 use Rattle.plays.specs.declared.Count.{Count}
 use Rattle.plays.specs.declared.Played.{Played}
 use Rattle.plays.specs.declared.Played.the-variants.{On, Refused}
-use Rattle.plays.specs.Plays.{effectAs, playedAs, playedFor, playedOn, playedTo}
+use Rattle.plays.specs.Plays.{effectAs, playedAs, playedFor, playedOn, playedTo, goesOn}
 
 -- ONE TOKEN
 abbrev pub withNotes : Count → ℕ → Count
@@ -98,33 +100,34 @@ module _ (line : List ℕ) (at : ℕ) where
       none : p .notes + 0 ≡ p .notes
       none = omega arith
 
-  module _ (h : at < length line) (e : Effected) (t : e ≡ effectedFor at (tokenOf (drop at line))) where
-    -- the token and those behind it
-    next-effect : effects (drop at line) ≡ effectAs (e .effect) ∷ effects (drop (e .next) line)
-    unfolding effects
-    next-effect =
-        ap (map effectOf) (tokens-at line at h)
-        ∙ ap (λ (x : Effect). x ∷ effects (drop (at + tokenOf (drop at line) .used) line)) (sym (effect-back (effectOf (tokenOf (drop at line) .token))))
-        ∙ ap (λ (x : Effected). effectAs (x .effect) ∷ effects (drop (x .next) line)) (sym t)
+  abbrev pub found : Effected
+  found = effectedFor at (tokenOf (drop at line))
 
-    pub past : at < e .next
-    past = rw t (omega (arith, some-byte (drop at line) (rw length-drop (omega arith))))
+  -- the token and those behind it
+  next-effect : at < length line → effects (drop at line) ≡ effectAs (found .effect) ∷ effects (drop (found .next) line)
+  unfolding effects
+  next-effect h = ap (map effectOf) (tokens-at line at h) ∙ ap (λ (x : Effect). x ∷ effects (drop (found .next) line)) (sym (effect-back (effectOf (tokenOf (drop at line) .token))))
 
-    pub within : e .next ≤ length line
-    within = rw t (token-within line at h)
+  pub past : at < length line → at < found .next
+  past h = omega (arith, some-byte (drop at line) (rw length-drop (omega arith)))
 
-    -- the rest, after one token
-    pub turned : (q : Count) (r s : Played) → ((es : List Effect) → playedOn s es ≡ playedFor q (effectAs (e .effect) ∷ es)) → playedFor q (effects (drop at line)) ≡ r → playedOn s (effects (drop (e .next) line)) ≡ r
-    turned q r s f x = f (effects (drop (e .next) line)) ∙ ap (playedFor q) (sym next-effect) ∙ x
+  pub within : at < length line → found .next ≤ length line
+  within h = token-within line at h
 
--- after a refusal nothing is played; else it goes on
-pub stopped : (s r : Played) (k : ℕ) (es : List Effect) → s ≡ Refused k → playedOn s es ≡ r → s ≡ r
-unfolding playedOn
-stopped s r k es e x = e ∙ sym (ap (λ (t : Played). playedOn t es) e) ∙ x
+  -- the rest, after one token
+  pub turned : at < length line → (q s : Played) (e : code.Effect) → e ≡ found .effect → ((es : List Effect) → playedOn s es ≡ playedOn q (effectAs e ∷ es)) → playedOn s (effects (drop (found .next) line)) ≡ playedOn q (effects (drop at line))
+  turned h q s e x f = f (effects (drop (found .next) line)) ∙ ap (λ (y : code.Effect). playedOn q (effectAs y ∷ effects (drop (found .next) line))) x ∙ ap (playedOn q) (sym (next-effect h))
 
-pub going : (s r : Played) (p : Count) (es : List Effect) → s ≡ On p → playedOn s es ≡ r → playedFor p es ≡ r
-unfolding playedOn
-going s r p es e x = sym (ap (λ (t : Played). playedOn t es) e) ∙ x
+  -- the test of the loop: a token is there, or nothing more is played
+  pub goes : (q : Played) (b : Bool) → b ≡ goesOn q at (length line) → T b → at < length line
+  unfolding goesOn
+  goes (On p) b e t = ltb→lt at (length line) (subst T e t)
+  goes (Refused k) b e t = absurd (subst T e t)
+
+  pub ends : (q : Played) (b : Bool) → b ≡ goesOn q at (length line) → T (not b) → q ≡ playedOn q (effects (drop at line))
+  unfolding goesOn playedOn
+  ends (On p) b e t = sym (none-left p (nltb→le at (length line) (subst (λ (x : Bool). T (not x)) e t)))
+  ends (Refused k) b e t = refl
 
 -- THE LINE in the scan
 abbrev pub countOf : State → Count

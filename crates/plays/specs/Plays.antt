@@ -1,9 +1,9 @@
 -- What a music line comes to in the scan: the definition's count of notes, L and M after it, and its first refusal, in one answer.
 use Prim.Native.Nat.{ℕ, suc, _+_, max}
-use mathlib.Core.Bool.{Bool, _||_}
+use mathlib.Core.Bool.{Bool, false, _||_}
 use mathlib.Core.Option.{Option, none, some}
 use mathlib.Core.List.{List, _∷_}
-use lib.Dec.{eqb}
+use lib.Dec.{eqb, ltb}
 use Rattle.reader.specs.Tokens.{Effect, counts, refuses, setsUnit, setsMeter, passes}
 use Rattle.reader.specs.Scan.{noteCount, lastUnit, lastMeter, firstRefusal}
 use Rattle.tokens.specs.declared.Effect as code
@@ -34,6 +34,11 @@ playedFor p es = playedAs p es (firstRefusal (p .notes) es)
 unfoldable pub playedOn : Played → List Effect → Played
 playedOn (On p) es = playedFor p es
 playedOn (Refused k) es = Refused k
+
+-- a token is still to come, and nothing is refused
+unfoldable pub goesOn : Played → ℕ → ℕ → Bool
+goesOn (On p) at end = ltb at end
+goesOn (Refused k) at end = false
 
 -- the state behind a music line: one item and one line more, a place for verses for every part up to this one
 abbrev pub playedTo : State → Count → State

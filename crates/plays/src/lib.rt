@@ -10,11 +10,13 @@ ghost use Rattle.reader.specs.Tokens as tokens;
 ghost use Rattle.reader.specs.Tokens.{effects};
 ghost use Rattle.reader.specs.Steps.{on};
 ghost use Rattle.reader.specs.Scan.{played, act};
+ghost use Rattle.marks.specs.Classes.{classTable};
 ghost use Rattle.text.specs.declared.Class.{Class};
 ghost use Rattle.text.specs.Lines.{kindAs};
 ghost use Rattle.table.specs.Rows.{itemsIn};
 ghost use Rattle.states.specs.States.{held, reached, Ready, Stepped};
-ghost use Rattle.plays.specs.Plays.{effectAs, playedFor, playedOn, playedTo};
+ghost use Rattle.plays.specs.Plays.{effectAs, playedFor, playedOn, playedTo, goesOn};
+use cursors::Cursor;
 use states::State;
 use states::Step;
 use table::Row;
@@ -64,24 +66,49 @@ fn after_effect(p: Count, e: Effect) -> Played
     }
 }
 
-// The tokens of a line from left to right, to the first refusal.
+// The same from what was played so far: after a refusal nothing is played.
+fn on_effect(q: Played, e: Effect) -> Played
+    ensures { λ r. ⌜ ((es : List tokens.Effect) → playedOn r es ≡ playedOn q (effectAs e ∷ es)) ⌝ }
+{
+    match q {
+        Played::On(p) => after_effect(p, e),
+        Played::Refused(n) => Played::Refused(n),
+    }
+}
+
+// A token is still to come, and nothing is refused.
+fn goes_on(q: Played, at: usize, end: usize) -> bool
+    ensures { λ r. ⌜ r ≡ goesOn q at end ⌝ }
+{
+    match q {
+        Played::On(_) => at < end,
+        Played::Refused(_) => false,
+    }
+}
+
+// The tokens of a line from left to right, to the first refusal: the cursor is lent for each and moved on. Proved by hand; `play_line` above it has no cursor.
+fn walk_line(line: &[u8], start: Played, classes: &[u8; 128]) -> Played
+    requires { ⌜ now classes ≡ classTable ⌝ }
+    ensures { λ r. ⌜ r ≡ playedOn start (effects (now (line .entry))) ⌝ }
+{
+    let mut cursor = Cursor {
+        at: 0,
+        end: line.len(),
+    };
+    let mut q = start;
+    while goes_on(q, cursor.at, cursor.end) {
+        let e = cursors::next_effect(line, &mut cursor, classes);
+        q = on_effect(q, e);
+    }
+    q
+}
+
+// A line from left to right, to the first refusal.
 pub fn play_line(line: &[u8], p: Count) -> Played
     ensures { λ r. ⌜ r ≡ playedFor p (effects (now (line .entry))) ⌝ }
 {
     let classes = marks::letter_classes();
-    let mut q = p;
-    let mut at: usize = 0;
-    while at < line.len() {
-        let e = tokens::effect_at(line, at, &classes);
-        let effect = e.effect;
-        let s = after_effect(q, effect);
-        let Played::On(next) = s else {
-            return s;
-        };
-        q = next;
-        at = e.next;
-    }
-    Played::On(q)
+    walk_line(line, Played::On(p), &classes)
 }
 
 // How many parts have a place for verses once `part` has a music line.
