@@ -1,7 +1,7 @@
 -- WHAT EACH KIND OF ITEM DOES, from the code's registers and writes to the definition.
-use Prim.Native.Nat.{ℕ, zero, suc, _+_, _-_, _*_, _≤_, _<_, max}
+use Prim.Native.Nat.{ℕ, zero, suc, _+_, _-_, _*_, _≤_, _<_}
 use mathlib.Core.Path.{_≡_, refl, sym, ap, subst, _∙_}
-use mathlib.Core.Bool.{Bool, true, false, cond, _&&_}
+use mathlib.Core.Bool.{Bool, true, false, _&&_}
 use mathlib.Core.Option.{Option, none, some}
 use mathlib.Core.List.{List, [], _∷_, _++_}
 use native.Mathlib.Nat.{not-suc-le-zero}
@@ -12,8 +12,6 @@ use Rattle.laws.specs.Bytes.{splice}
 use Rattle.laws.specs.Lists.{foldl}
 use Rattle.laws.proofs.Bools.{by-test}
 use Rattle.standard.specs.Keys.{Key, plainKey}
-use Rattle.standard.specs.Fields.{Meter}
-use Rattle.standard.specs.Notes as Notes
 use Rattle.standard.specs.Notes.{isSounded}
 use Rattle.reader.specs.Codes.{modeCode}
 use Rattle.reader.specs.Records.{signed8}
@@ -22,7 +20,7 @@ use Rattle.reader.specs.Part.{firstKey, countedIn}
 use Rattle.reader.specs.State.{Note, Sung, Verses, newLine}
 use Rattle.reader.specs.Token.{Token, space, overlay, quoted, broken, tuplet, slur, graceOpen, graceClose, decoration, barline, volta, unit, meter, key, field, chord, rest, note, nothing, skipped, refused}
 use Rattle.reader.specs.Tokens.{tokens}
-use Rattle.layout.specs.Log.{Head, LogState, setKey, setHeads, setPending, withMark, withMeter, newLog, onLastHead, onOpen, hears, lastPlace, noteAt, onBroken, onNothing, append, onSound, onBarline, onToken, lineBegins, onLine}
+use Rattle.layout.specs.Log.{Head, LogState, setKey, setHeads, withMark, withMeter, newLog, onLastHead, onOpen, hears, lastPlace, noteAt, onBroken, onNothing, append, onSound, onBarline, onToken, lineBegins, onLine}
 use Rattle.layout.specs.Ends.{onLyric, onKey, onItem}
 use Rattle.rows.specs.Encoded.{noteRow}
 use Rattle.reader.specs.Records.{pitchBytes}
@@ -32,7 +30,7 @@ use Rattle.heads.proofs.Heads.{head-mark, head-meter}
 use Rattle.registers.specs.declared.Tables.{Tables}
 use Rattle.registers.specs.declared.Counts.{Counts}
 use Rattle.registers.specs.declared.Registers.{Registers}
-use Rattle.held.specs.Held.{Room, Stored, Held}
+use Rattle.held.specs.Held.{Held}
 use Rattle.held.specs.Lines.{Rest, Waits, GrowsBy, Takes}
 use Rattle.held.proofs.Appending.{someHead}
 use Rattle.bars.proofs.Heads.{open-held, open-only, no-scopes, stored-as}

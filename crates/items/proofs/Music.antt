@@ -1,7 +1,6 @@
 -- THE ROOM FOR MUSIC that is to come, item by item.
-use Prim.Native.Nat.{ℕ, _+_, _*_, _≤_, max}
-use mathlib.Core.Path.{_≡_, refl, sym, ap, _∙_}
-use mathlib.Core.Bool.{true, false}
+use Prim.Native.Nat.{ℕ, _+_}
+use mathlib.Core.Path.{_≡_, refl, ap, _∙_}
 use mathlib.Core.List.{List, [], _∷_, _++_, map}
 use native.Mathlib.Omega.{arith}
 use lib.Dec.{eqb}
@@ -10,7 +9,6 @@ use Rattle.laws.proofs.Bools.{by-test}
 use Rattle.laws.proofs.Lists.{map-append, cat-append}
 use Rattle.reader.specs.Scan.{Item}
 use Rattle.reader.specs.Steps.{mine}
-use Rattle.sizes.specs.Sizes.{bars, letters, rests, signs}
 use Rattle.sizes.specs.Music.{musicIn, musicOf}
 use Rattle.sizes.proofs.Tokens.{bars-both, letters-both, rests-both, signs-both}
 use Rattle.registers.specs.declared.Tables.{Tables}

@@ -1,24 +1,22 @@
 -- A LYRIC LINE'S ROW: with its verse and first note it is the same item still, and a part that is held stays held.
-use Prim.Native.Nat.{ℕ, zero, suc, _+_, _*_, _^_, _≤_, _<_}
-use mathlib.Core.Path.{_≡_, refl, sym, ap, subst, _∙_}
-use mathlib.Core.Bool.{Bool, true, false, cond}
-use mathlib.Core.List.{List, [], _∷_, _++_}
+use Prim.Native.Nat.{ℕ, _+_, _^_, _≤_, _<_}
+use mathlib.Core.Path.{_≡_, refl, ap, _∙_}
+use mathlib.Core.List.{List, [], _∷_}
 use native.Mathlib.Omega.{arith}
 use lib.ListN.{length, getD}
-use Rattle.laws.specs.Bytes.{part, between, splice, le32, u32At}
-use Rattle.laws.proofs.Parts.{length-part, part-front, part-back}
-use Rattle.laws.proofs.Splices.{length-splice, byte-below, byte-above, byte-same, part-around}
+use Rattle.laws.specs.Bytes.{part, splice, le32, u32At}
+use Rattle.laws.proofs.Parts.{length-part}
+use Rattle.laws.proofs.Splices.{length-splice, byte-below, byte-same, part-around}
 use Rattle.laws.proofs.Numbers.{length-little, littleAt-same, littleAt-below, littleAt-above}
-use Rattle.reader.specs.Scan.{Item, sung}
 use Rattle.table.specs.declared.Row.{Row}
-use Rattle.table.specs.Rows.{itemsFrom, itemBytes, decItem, itemAs, itemIn}
+use Rattle.table.specs.Rows.{itemBytes, decItem}
 use Rattle.lyrics.specs.Items.{itemAt}
 use Rattle.layout.specs.Log.{LogState}
-use Rattle.rows.specs.Table.{Table, Only}
+use Rattle.rows.specs.Table.{Only}
 use Rattle.rows.proofs.Tables.{table-behind, only-splice, only-then}
 use Rattle.registers.specs.declared.Tables.{Tables}
 use Rattle.registers.specs.declared.Registers.{Registers}
-use Rattle.held.specs.Held.{Room, Stored, Held}
+use Rattle.held.specs.Held.{Room, Held}
 use Rattle.held.proofs.Stores.{scoped-behind}
 use Rattle.items.specs.Items.{rowFrom, lined}
 

@@ -1,12 +1,12 @@
 -- ITEM BY ITEM: an item of each kind taken, and the loop over them.
-use Prim.Native.Nat.{ℕ, zero, suc, _+_, _-_, _*_, _^_, _≤_, _<_}
+use Prim.Native.Nat.{ℕ, zero, suc, _+_, _*_, _^_, _≤_, _<_}
 use mathlib.Core.Path.{_≡_, refl, sym, ap, subst, _∙_}
 use mathlib.Core.Bool.{Bool, true, false, cond}
 use mathlib.Core.List.{List, [], _∷_, _++_, map, reverse, append-nil}
 use native.Mathlib.Nat.{not-suc-le-zero}
 use native.Mathlib.Omega.{arith}
 use lib.Dec.{eqb}
-use lib.ListN.{length, getD, take, drop}
+use lib.ListN.{length, take, drop}
 use borrow.Author.Tests.{eq-eqb, ne-eqb, eqb-true, eqb-false}
 use Rattle.laws.specs.Lists.{foldl, keep}
 use Rattle.laws.specs.Bytes.{part, between, splice, le32, rows}
@@ -23,7 +23,7 @@ use Rattle.reader.specs.Scan.{Item, born, reset, headed, keyed, metered, sung, 
 use Rattle.reader.specs.Steps.{mine}
 use Rattle.layout.specs.Log.{LogState, newLog, onLine}
 use Rattle.layout.specs.Ends.{onLyric, onItem}
-use Rattle.layout.proofs.Lines.{Between, between-items}
+use Rattle.layout.proofs.Lines.{between-items}
 use Rattle.layout.proofs.Back.{reverse-back}
 use Rattle.table.specs.declared.Row.{Row}
 use Rattle.table.specs.Rows.{itemsFrom, itemBytes, decItem, itemAs, itemIn, itemsIn, RowIs}

@@ -1,19 +1,16 @@
 // The items of a part in order (the line table, crate table): what each does to the part's tables and registers.
 ghost use mathlib.Core.Path.{_≡_};
-ghost use mathlib.Core.Bool.{Bool, cond};
+ghost use mathlib.Core.Bool.{cond};
 ghost use mathlib.Core.List.{List, []};
 ghost use Prim.Native.Nat.{ℕ, _+_, _*_, _^_, _≤_, _<_};
 ghost use lib.ListN.{length};
-ghost use Rattle.laws.specs.Bytes.{between};
 ghost use Rattle.standard.specs.Keys.{Key};
 ghost use Rattle.standard.specs.Lyrics.{nextVerse};
 ghost use Rattle.reader.specs.Scan as scan;
 ghost use Rattle.reader.specs.Steps.{mine};
-ghost use Rattle.reader.specs.Part.{firstKey};
-ghost use Rattle.layout.specs.Log.{setKey, onLine};
 ghost use Rattle.layout.specs.Ends.{onItem};
 ghost use Rattle.sizes.specs.Music.{musicOf};
-ghost use Rattle.table.specs.Rows.{itemsIn, itemIn, RowIs};
+ghost use Rattle.table.specs.Rows.{itemsIn, RowIs};
 ghost use Rattle.lyrics.specs.Items.{itemAt};
 ghost use Rattle.held.specs.Lines.{Rest, Waits, Takes};
 ghost use Rattle.items.specs.Items.{begun, keyedAs, versed, lined, Ready, Taken, Built};

@@ -1,50 +1,47 @@
 -- A PART READ, ENDED, SUNG AND WRITTEN, from what each step leaves of scratch.
-use Prim.Native.Nat.{ℕ, _+_, _*_, _^_, _≤_, _<_, max}
+use Prim.Native.Nat.{ℕ, _+_, _*_, _^_, _≤_, _<_}
 use mathlib.Core.Path.{_≡_, refl, sym, ap, subst, _∙_}
 use mathlib.Core.Option.{none}
-use mathlib.Core.List.{List, [], _∷_, _++_, append-nil, reverse}
+use mathlib.Core.List.{List, [], append-nil, reverse}
 use native.Mathlib.Omega.{arith}
-use lib.ListN.{length, replicate, take, drop}
-use Rattle.laws.specs.Lists.{foldl, All}
+use lib.ListN.{length, replicate}
+use Rattle.laws.specs.Lists.{All}
 use Rattle.standard.specs.Keys.{Key}
 use Rattle.standard.specs.Pitches.{Pitch}
-use Rattle.reader.specs.State.{Note, Sung}
+use Rattle.reader.specs.State.{Note}
 use Rattle.reader.specs.Lyrics.{Syllable, sungBy}
 use Rattle.reader.specs.Steps.{mine}
-use Rattle.reader.specs.Scan.{Item}
 use Rattle.reader.specs.Records as Records
 use Rattle.reader.specs.Records.{pitchBytes}
 use Rattle.reader.specs.Part as Part
-use Rattle.layout.specs.Log.{Head, LogState, newLog}
-use Rattle.layout.specs.Ends.{onItem, dropped, close, marked, finished, build}
+use Rattle.layout.specs.Log.{Head, LogState}
+use Rattle.layout.specs.Ends.{dropped, close, marked, finished, build}
 use Rattle.layout.specs.Sections as layout
-use Rattle.layout.proofs.Lines.{Between, between-items}
-use Rattle.layout.proofs.Counts.{Fits, build-fits, sim-fits}
+use Rattle.layout.proofs.Lines.{between-items}
+use Rattle.layout.proofs.Counts.{build-fits, sim-fits}
 use Rattle.layout.proofs.Same.{same-sections}
 use Rattle.rows.specs.Table.{Table, Only}
 use Rattle.rows.specs.Encoded.{noteRow}
-use Rattle.rows.proofs.Tables.{table-front, table-back, only-wider, only-then}
+use Rattle.rows.proofs.Tables.{table-front, table-back}
 use Rattle.heads.specs.Heads.{headRow}
 use Rattle.ends.specs.Spans.{Small}
 use Rattle.ends.proofs.Closing.{fits-small, length-end}
 use Rattle.table.specs.Rows.{itemsIn}
 use Rattle.lyrics.specs.declared.Sheet.{Sheet}
-use Rattle.lyrics.specs.Sheet.{withCount, Kept, Outside, syllablesIn}
-use Rattle.lyrics.specs.Items as lyrics
+use Rattle.lyrics.specs.Sheet.{syllablesIn}
 use Rattle.lyrics.specs.Items.{linesIn, AllSung}
 use Rattle.lyric_walk.specs.Walks as walks
 use Rattle.sections.specs.declared.Wrote.{Wrote}
 use Rattle.sections.specs.Writes.{WroteIs}
-use Rattle.writers.specs.Out.{total, NotesIn}
+use Rattle.writers.specs.Out.{total}
 use Rattle.writers.proofs.Out.{notes-total, wrote-as}
 use Rattle.pitched.specs.Out.{pitchTotal, PitchesIn}
 use Rattle.pitched.proofs.Out.{pitches-total}
 use Rattle.registers.specs.declared.Tables.{Tables}
 use Rattle.registers.specs.declared.Registers.{Registers}
-use Rattle.held.specs.Held.{Held, pitchesIn}
-use Rattle.held.specs.Lines.{Rest}
+use Rattle.held.specs.Held.{pitchesIn}
 use Rattle.sizes.specs.Sizes.{tones}
-use Rattle.sizing.specs.Room.{PartRoom, musicAt, Sized}
+use Rattle.sizing.specs.Room.{musicAt, Sized}
 use Rattle.sizing.proofs.Fits.{sheet-fits}
 use Rattle.items.specs.Items.{after, Built}
 use Rattle.items.proofs.Turns.{items-front, lines-front}
