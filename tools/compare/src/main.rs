@@ -296,7 +296,8 @@ fn main() {
         if arg == "--only" {
             only = args.next();
         } else if arg == "--sample" {
-            print!("{}", sample());
+            use std::io::Write;
+            let _ = std::io::stdout().write_all(sample().as_bytes());
             return;
         } else if arg == "--huge" {
             huge = true;
