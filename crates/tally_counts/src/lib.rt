@@ -1,0 +1,78 @@
+// The counts of a part, read off the bytes of its sections.
+ghost use mathlib.Core.Path.{_≡_};
+ghost use mathlib.Core.Bool.{cond};
+ghost use Prim.Native.Nat.{_+_, _-_, _*_, _≤_};
+ghost use lib.Dec.{eqb};
+ghost use lib.ListN.{length};
+ghost use Rattle.laws.specs.Bytes.{u32At};
+ghost use Rattle.tally_counts.specs.Counted.{behind, partEnd, soundedIn, countsIn};
+
+// A part's counts and where its sections end.
+pub struct Counts {
+    pub measures: usize,
+    pub sounded: usize,
+    pub rests: usize,
+    pub syllables: usize,
+    pub end: usize,
+}
+
+// A section's count and where it ends.
+struct Section {
+    count: usize,
+    end: usize,
+}
+
+// The section of records of `width` bytes at `at`.
+fn section_at(reading: &[u8], width: usize, at: usize) -> Section
+    requires { ⌜ behind (now reading) width at ≤ length (now reading) ⌝ }
+    ensures { λ r. ⌜ (r .count ≡ u32At (now (reading .entry)) at) × (r .end ≡ behind (now (reading .entry)) width at) ⌝ }
+{
+    let count = store::get_u32(reading, at) as usize;
+    Section {
+        count,
+        end: at + 4 + width * count,
+    }
+}
+
+// 1 for a note's kind, 0 for a rest's.
+fn one_sounded(kind: u8) -> usize
+    ensures { λ r. ⌜ r ≡ cond (eqb kind 0) 1 0 ⌝ }
+{
+    if kind == 0 { 1 } else { 0 }
+}
+
+// How many of the n notes from `at` on are no rests.
+fn count_sounded(reading: &[u8], at: usize, n: usize) -> usize
+    requires { ⌜ at + 12 * n ≤ length (now reading) ⌝ }
+    ensures { λ r. ⌜ r ≡ soundedIn (now (reading .entry)) at n ⌝ }
+    ensures { λ r. ⌜ r ≤ n ⌝ }
+{
+    let mut sounded: usize = 0;
+    let mut i: usize = 0;
+    while i < n {
+        sounded += one_sounded(reading[at + 12 * i]);
+        i += 1;
+    }
+    sounded
+}
+
+// The counts of the part that begins at `at`.
+pub fn count_part(reading: &[u8], at: usize) -> Counts
+    requires { ⌜ partEnd (now reading) at ≤ length (now reading) ⌝ }
+    ensures { λ r. ⌜ record { measures = r .measures; sounded = r .sounded; rests = r .rests; syllables = r .syllables } ≡ countsIn (now (reading .entry)) at ⌝ }
+    ensures { λ r. ⌜ r .end ≡ partEnd (now (reading .entry)) at ⌝ }
+{
+    let measures = section_at(reading, 28, at);
+    let notes = section_at(reading, 12, measures.end);
+    let pitches = section_at(reading, 5, notes.end);
+    let lyrics = section_at(reading, 11, pitches.end);
+    let text = section_at(reading, 1, lyrics.end);
+    let sounded = count_sounded(reading, measures.end + 4, notes.count);
+    Counts {
+        measures: measures.count,
+        sounded,
+        rests: notes.count - sounded,
+        syllables: lyrics.count,
+        end: text.end,
+    }
+}

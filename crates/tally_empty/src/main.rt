@@ -1,0 +1,4 @@
+// The same program on no input.
+fn main() {
+    tally_run::run();
+}

@@ -1,0 +1,73 @@
+-- The text that is put out is the definition's, whatever the answer.
+use Prim.Native.Nat.{ℕ, _≤_, _<_}
+use mathlib.Core.Path.{_≡_, refl, sym, ap, subst, _∙_}
+use mathlib.Core.List.{List, [], _∷_}
+use native.Mathlib.Omega.{arith}
+use borrow.Author.Tests.{le-leb, lt-leb}
+use lib.Seq.{length-take-le}
+use lib.ListN.{length, take}
+use Rattle.laws.specs.Bytes.{u32At}
+use Rattle.standard.specs.Bytes.{ascii}
+use Rattle.reader.specs.Part.{Part}
+use Rattle.reader.specs.Answer.{Verdict, refusal, reading, Answer, read, refused, answerOf, parseAbc}
+use Rattle.reader.specs.Tally.{Counts, tally}
+use Rattle.tally_counts.specs.Counted.{countsFrom, PartsWithin}
+use Rattle.tally_counts.proofs.Encoded.{Read, told-tally}
+use Rattle.io.specs.Counts as io
+use Rattle.tally_text.specs.Printed.{partsText, refusedText, verdictText, mostInput, readingBytes, scratchBytes, printed, Adds}
+use Rattle.abc.specs.declared.Answer as code
+use Rattle.abc.specs.declared.Answer.the-variants as A
+use Rattle.abc.specs.Answers.{answerAs}
+
+-- a text from the start of the store
+pub whole : {d bs e : List ℕ} {r : ℕ} (p : List ℕ) → Adds d 0 bs e r → length e ≡ length d → bs ≡ p → io.Counts r e × (take r e ≡ p)
+whole {d} {bs} {e} {r} p h l q =
+    let m : r ≤ length e = omega (arith, h .fits, l) in
+    ((m, sym (length-take-le r e m)), h .text ∙ q)
+
+-- what is printed
+pub short : (input : List ℕ) (rl sl : ℕ) → length input ≤ mostInput → rl ≡ readingBytes → sl ≡ scratchBytes → verdictText (parseAbc input rl sl .verdict) ≡ printed input
+unfolding printed
+short input rl sl h er es = (λ i. verdictText (parseAbc input (er i) (es i) .verdict)) ∙ sym (rw (le-leb (length input) mostInput h))
+
+pub long : (input : List ℕ) → mostInput < length input → ascii "too long\n" ≡ printed input
+unfolding printed
+long input h = rw (lt-leb (length input) mostInput h)
+
+-- a refusal
+textOf : Answer → List ℕ
+textOf (read n) = []
+textOf (refused n l) = refusedText n l
+
+read≢refused : (k n l : ℕ) → read k ≡ refused n l → ⊥
+read≢refused k n l e = let z : _≡_ {A = ℕ} 0 1 = cc in omega arith
+
+refusal-of : (v : Verdict) (n l : ℕ) → refused n l ≡ answerOf v → refusedText n l ≡ verdictText v
+unfolding answerOf verdictText textOf
+refusal-of (refusal k m) n l e = ap textOf e
+refusal-of (reading ps) n l e = absurd (read≢refused _ n l (sym e))
+
+pub refused-text : (v : Verdict) (r : code.Answer) (n l : ℕ) → answerAs r ≡ answerOf v → r ≡ A.Refused n l → refusedText n l ≡ verdictText v
+refused-text v r n l e q = refusal-of v n l (sym (ap answerAs q) ∙ e)
+
+-- a reading
+read-of : (v : Verdict) (n : ℕ) → read n ≡ answerOf v → (ps : List Part) × (v ≡ reading ps)
+unfolding answerOf
+read-of (refusal k m) n e = absurd (read≢refused n k m e)
+read-of (reading ps) n e = (ps, refl)
+
+pub record Countable (s : List ℕ) (text : List ℕ) : Type 0 where
+  pub room : (4 ≤ length s) × (u32At s 0 ≤ 32) × PartsWithin s 4 (u32At s 0)
+  pub is : partsText (u32At s 0) (countsFrom s 4 (u32At s 0)) ≡ text
+
+pub read-text : (input : List ℕ) (rl sl : ℕ) (s : List ℕ) (r : code.Answer) (n : ℕ) → answerAs r ≡ answerOf (parseAbc input rl sl .verdict) → r ≡ A.Read n → s ≡ parseAbc input rl sl .reading
+    → Countable s (verdictText (parseAbc input rl sl .verdict))
+unfolding verdictText
+read-text input rl sl s r n e q es =
+    let p = read-of (parseAbc input rl sl .verdict) n (sym (ap answerAs q) ∙ e) in
+    let t = told-tally input rl sl (p .0) (p .1) in
+    let x : Read s (p .0) = subst (λ (l : List ℕ). Read l (p .0)) (sym es) (t .0) in
+    record {
+      room = rw (x .count) (x .room, t .1, x .within);
+      is = (λ i. partsText (x .count i) (countsFrom s 4 (x .count i))) ∙ ap (partsText (length (p .0))) (x .counts) ∙ sym (ap verdictText (p .1));
+    }

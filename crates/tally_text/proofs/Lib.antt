@@ -1,0 +1,5 @@
+pub mod Texts
+pub mod Digits
+pub mod Lines
+pub mod Example
+pub mod Stores

@@ -1,0 +1,4 @@
+// The same program on two voices.
+fn main() {
+    tally_run::run();
+}
