@@ -13,6 +13,7 @@ use Rattle.reader.specs.Part.{build}
 use Rattle.reader.specs.Records.{sections}
 use Rattle.reader.specs.Answer.{scratchNeeded}
 use Rattle.bounds.specs.Prices.{itemBytes}
+use Rattle.bounds.proofs.Tables.{part-room}
 use Rattle.sections.specs.declared.Wrote.the-variants.{To, NoRoom}
 use Rattle.sections.specs.Writes.{WroteIs}
 use Rattle.sections.proofs.Writes.{next-to, next-none, none-more}
@@ -21,7 +22,6 @@ use Rattle.table.proofs.Rows.{length-items}
 use Rattle.scan.specs.declared.Shared.{Shared}
 use Rattle.scan.specs.Scanned.{Done}
 use Rattle.answers.specs.Parts.{partsOf}
-use Rattle.answers.proofs.Whole.{part-room}
 use Rattle.sizing.specs.Room.{PartRoom}
 use Rattle.abc.specs.Answers.{Rooms}
 

@@ -13,16 +13,13 @@ use Rattle.laws.specs.Bytes.{le32}
 use Rattle.laws.proofs.Bools.{by-test, or-left, or-right, eqb-same}
 use Rattle.laws.proofs.Lists.{any-none}
 use Rattle.standard.specs.Keys.{Key}
-use Rattle.reader.specs.Text.{rows}
-use Rattle.reader.specs.Steps.{mine, on}
-use Rattle.reader.specs.Scan.{Item, Items, Env, ScanState, scan}
+use Rattle.reader.specs.Steps.{mine}
+use Rattle.reader.specs.Scan.{Item, Items, Env}
 use Rattle.reader.specs.Part.{Part, build}
 use Rattle.reader.specs.Records.{sections}
-use Rattle.reader.specs.Answer.{scratchNeeded, isMusic, built, parts, partBytes, encode, measureCount}
-use Rattle.bounds.specs.Prices.{itemBytes}
+use Rattle.reader.specs.Answer.{isMusic, built, parts, partBytes, encode, measureCount}
 use Rattle.bounds.proofs.ScanCosts.{voiceCount}
-use Rattle.bounds.proofs.Length.{share, shares, shares-all, parts-count, silent-parts}
-use Rattle.bounds.proofs.Tables.{lines-most}
+use Rattle.bounds.proofs.Length.{parts-count, silent-parts}
 use Rattle.answers.specs.Parts.{partsOf, bytesOf, hasMusic}
 use Rattle.answers.proofs.Silent.{built-sections}
 use Rattle.answers.proofs.Sounding.{built-some}
@@ -88,9 +85,3 @@ measures-told e a n b = by-test (hasMusic a) (λ h. yes h (loud n a b h)) no
     no h =
         lt-leb 1 (sum measureCount (parts e (λ p. mine p a) n 0)) (omega (arith, silent-parts e a n 0 (any-none (λ (x : ℕ × Item). isMusic (x .1)) a h)))
         ∙ sym h
-
--- ROOM for the tables of any one part behind the line table
-pub part-room : (text : List ℕ) (t : ScanState) (a : Items) (q : ℕ) → scan (rows text) ≡ on t a
-    → 256 + 16 * length a + 28 + 28 * sum itemBytes (mine q a) ≤ scratchNeeded (length text)
-unfolding scratchNeeded shares
-part-room text t a q e = omega (arith, lines-most text t a e, shares-all 1 q a)

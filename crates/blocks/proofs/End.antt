@@ -18,6 +18,7 @@ use Rattle.reader.specs.Answer.{Verdict, reading, Outcome, mostBytes, scratchNe
 use Rattle.blocks.specs.Demand.{Accepted, partIn}
 use Rattle.blocks.proofs.Machine.{Blank, IsUtf8}
 use Rattle.blocks.proofs.Instance.{Fits}
+use Rattle.blocks.proofs.Scan.{some≢none}
 
 -- BEFORE THE FIRST LINE
 is-between : (q : Utf8) → isBetween q ≡ true → q ≡ between
@@ -60,9 +61,6 @@ blank-no t h b = true≢false (sym (ap isAllWhite b) ∙ h)
 no-blank : (t : List ℕ) → (Blank t → ⊥) → isBlank t ≡ false
 unfolding isBlank
 no-blank t h = not-white (foldl whiteStep white t) h
-
-some≢none : {A : Type 0} (a : A) → some a ≡ none → ⊥
-some≢none {A} a e = let z : _≡_ {A = ℕ} 0 1 = cc in omega arith
 
 -- of two answers that a test chooses from, one that is none
 pick : {A C : Type 0} (b : Bool) (x y : Option A) → (b ≡ true → x ≡ none → C) → (b ≡ false → y ≡ none → C) → cond b x y ≡ none → C

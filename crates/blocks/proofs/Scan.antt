@@ -22,11 +22,11 @@ use Rattle.blocks.specs.Frame.{Goes}
 use Rattle.blocks.proofs.RowKinds.{isVoice, isSung, Keyish, Names, lyric-row, voice-only}
 use Rattle.blocks.proofs.Instance.{scanning, Clear, kindCost, kindFine, kindItems, reader}
 
--- THE EFFECTS OF A MUSIC LINE
-
-some≢none : {A : Type 0} (a : A) → some a ≡ none → ⊥
+-- an answer is not none
+pub some≢none : {A : Type 0} (a : A) → some a ≡ none → ⊥
 some≢none {A} a e = let z : _≡_ {A = ℕ} 0 1 = cc in omega arith
 
+-- THE EFFECTS OF A MUSIC LINE
 none-within : (n : ℕ) (es : List Effect) → firstRefusal n es ≡ none → n ≤ mostNotes → Clear es × (n + noteCount es ≤ mostNotes)
 unfolding scanning
 none-within n [] h l = (tt, omega arith)

@@ -84,8 +84,8 @@ module _ (p : Prices) where
 section-covered : Covered sectionPrices
 section-covered = record { notes = lit≤ tt; measures = lit≤ tt; accidentals = lit≤ tt; syllables = lit≤ tt }
 
--- the bytes of its lines
-bytes-sum : (is : List Item) → sum itemBytes is ≡ sum musicBytes is + sum lyricBytes is
+-- the bytes of its lines: of music and of lyrics
+pub bytes-sum : (is : List Item) → sum itemBytes is ≡ sum musicBytes is + sum lyricBytes is
 unfolding itemBytes
 bytes-sum is = sum-both musicBytes lyricBytes is
 

@@ -1,14 +1,11 @@
--- Laws of sums, spans and numbers that crate laws does not have.
-use Prim.Native.Nat.{ℕ, zero, suc, _+_, _-_, _*_, _≤_, zero-le, suc-le-suc}
+-- Laws of sums and numbers that crate laws does not have.
+use Prim.Native.Nat.{ℕ, zero, suc, _+_, _-_, _*_, _≤_}
 use mathlib.Core.Path.{_≡_, refl}
-use mathlib.Core.Bool.{Bool, true}
 use mathlib.Core.List.{List, [], _∷_, reverse, reverseAux}
 use native.Mathlib.Nat.{mul-le-mul, le-refl, mul-add}
 use native.Mathlib.Omega.{arith}
-use lib.ListN.{getD, drop}
-use Rattle.laws.specs.Lists.{sum, span, alterAt, All}
-use Rattle.laws.proofs.Bools.{by-test}
-use Rattle.laws.proofs.Spans.{span-yes, span-no}
+use lib.ListN.{getD}
+use Rattle.laws.specs.Lists.{sum, alterAt, All}
 
 -- SUMS
 module _ {ℓ} {A : Type ℓ} where
@@ -62,21 +59,6 @@ module _ {ℓ} {A : Type ℓ} where
   -- the whole list
   pub All-reverse : (P : A → Type 0) (xs : List A) → All P xs → All P (reverse xs)
   All-reverse P xs p = All-back P xs [] p tt
-
--- SPANS
-module _ {ℓ} {A : Type ℓ} (p q r : A → Bool) (pr : (c : A) → p c ≡ true → r c ≡ true) (qr : (c : A) → q c ≡ true → r c ≡ true) where
-  -- what passes one test passes a wider one
-  pub span-wider : (s : List A) → span q s ≤ span r s
-  span-wider [] = zero-le
-  span-wider (c ∷ s) =
-      by-test (q c) (λ e. rw (span-yes q c s e, span-yes r c s (qr c e)) (suc-le-suc (span-wider s))) (λ e. rw (span-no q c s e) zero-le)
-
-  -- two kinds, one after the other, within a wider one
-  pub spans-wider : (s : List A) → span p s + span q (drop (span p s) s) ≤ span r s
-  spans-wider [] = zero-le
-  spans-wider (c ∷ s) =
-      by-test (p c) (λ e. rw (span-yes p c s e, span-yes r c s (pr c e)) (omega (arith, spans-wider s)))
-      (λ e. rw (span-no p c s e) (omega (arith, span-wider (c ∷ s))))
 
 -- NUMBERS
 -- a product grows with its second factor

@@ -1,5 +1,5 @@
 -- The syllables of a part have verses up to 32, and their text is of bytes.
-use Prim.Native.Nat.{ℕ, zero, suc, _+_, _≤_, _<_}
+use Prim.Native.Nat.{ℕ, zero, suc, _+_, _≤_}
 use mathlib.Core.Path.{_≡_, refl}
 use mathlib.Core.Bool.{Bool, true, false, not}
 use mathlib.Core.List.{List, [], _∷_, map, reverse}
@@ -11,7 +11,6 @@ use Rattle.laws.proofs.Lists.{All-append, All-keep, All-alterAt}
 use Rattle.standard.specs.Bytes.{ascii, is, first, last}
 use Rattle.standard.specs.Keys.{Key}
 use Rattle.standard.specs.Lyrics.{Word, skip, hold, syllable, syllableText, syllables}
-use Rattle.reader.specs.Text.{push}
 use Rattle.reader.specs.Pieces.{pieces, words, mark, whiteAt}
 use Rattle.reader.specs.Scan.{Item}
 use Rattle.reader.specs.State.{Sung, newPart}
@@ -20,12 +19,9 @@ use Rattle.reader.specs.Part.{onItem, finished, build, emptyPart}
 use Rattle.bounds.specs.Ranges.{Bytes, SungFits, SyllableFits, StateFits, ItemFits, PartFits}
 use Rattle.bounds.proofs.Generic.{All-reverse}
 use Rattle.bounds.proofs.PartRanges.{items-state, new-part-fits, finished-fit}
+use Rattle.bounds.proofs.ScanRanges.{push-bytes}
 
 -- the pieces of a text of bytes
-push-bytes : (c : ℕ) (ps : List (List ℕ)) → c < 256 → All Bytes ps → All Bytes (push c ps)
-push-bytes c [] h k = ((h, tt), tt)
-push-bytes c (p ∷ ps) h k = ((h, k .0), k .1)
-
 module _ (w : List ℕ → ℕ) where
   -- each piece
   pub pieces-bytes : (k : ℕ) (s : List ℕ) → Bytes s → All Bytes (pieces w k s)

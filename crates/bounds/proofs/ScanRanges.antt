@@ -25,7 +25,7 @@ use Rattle.bounds.proofs.TokenRanges.{tokens-fit, meter-fits}
 use Rattle.bounds.proofs.ScanCosts.{before-count}
 
 -- ROWS AND LINES of bytes
-push-bytes : (c : ℕ) (ps : List (List ℕ)) → c < 256 → All Bytes ps → All Bytes (push c ps)
+pub push-bytes : (c : ℕ) (ps : List (List ℕ)) → c < 256 → All Bytes ps → All Bytes (push c ps)
 push-bytes c [] h k = ((h, tt), tt)
 push-bytes c (p ∷ ps) h k = ((h, k .0), k .1)
 

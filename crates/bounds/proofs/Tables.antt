@@ -22,10 +22,10 @@ use Rattle.reader.specs.Part.{onToken, lineBegins, onItem, build}
 use Rattle.reader.specs.Answer.{scratchNeeded}
 use Rattle.reader.specs.Records.{notesOf, pitchesOf, lyrics, lyricText}
 use Rattle.bounds.specs.Prices.{Prices, Covered, tablePrices, rowPrice, textPays, feedPays, notePrices, pitchPrices, accidentalPrices, measurePrices, syllablePrices, textPrices, stateCost, scopesCost, tokenCost, musicBytes, lyricBytes, itemBytes}
-use Rattle.bounds.proofs.Generic.{sum-both, sum-mul}
+use Rattle.bounds.proofs.Generic.{sum-mul}
 use Rattle.bounds.proofs.TokenCosts.{line-paid}
 use Rattle.bounds.proofs.PartCosts.{tokens-step, begins-step, reading-cost, items-paid}
-use Rattle.bounds.proofs.Counts.{music-bound, lyric-bound}
+use Rattle.bounds.proofs.Counts.{music-bound, lyric-bound, bytes-sum}
 use Rattle.bounds.proofs.RowCosts.{rows-length, rows-fed}
 use Rattle.bounds.proofs.ScanCosts.{Holds, Paid, total, Bill, rows-bill}
 
@@ -115,18 +115,13 @@ pub part-room : (text : List ℕ) (t : ScanState) (a : Items) (q : ℕ) → scan
 unfolding scratchNeeded
 part-room text t a q e = omega (arith, lines-most text t a e, mine-bytes q a)
 
--- music and lyrics
-bytes-both : (is : List Item) → sum itemBytes is ≡ sum musicBytes is + sum lyricBytes is
-unfolding itemBytes
-bytes-both is = sum-both musicBytes lyricBytes is
-
 -- with a part's tables when it is finished
 pub tables-most : (text : List ℕ) (t : ScanState) (a : Items) (q : ℕ) (header : Key) → scan (rows text) ≡ on t a
     → rowPrice * length a + tablePrices .measure * length (build header (mine q a) .measures) + tablePrices .note * length (notesOf (build header (mine q a))) + tablePrices .pitch * length (pitchesOf (build header (mine q a))) + tablePrices .syllable * length (lyrics (build header (mine q a)))
     ≤ textPays * length text + feedPays + tablePrices .measure
 tables-most text t a q header e =
     let is = mine q a in
-    omega (arith, lines-most text t a e, mine-bytes q a, bytes-both is, music-bound tablePrices table-covered header is, lyric-bound tablePrices table-covered header is)
+    omega (arith, lines-most text t a e, mine-bytes q a, bytes-sum is, music-bound tablePrices table-covered header is, lyric-bound tablePrices table-covered header is)
 
 -- and at any token of any line of it: its measures, notes, pitches and accidentals in force, and a row for each syllable to come
 pub tables-within : (text : List ℕ) (t : ScanState) (a : Items) (q : ℕ) (header : Key) → scan (rows text) ≡ on t a
@@ -136,4 +131,4 @@ pub tables-within : (text : List ℕ) (t : ScanState) (a : Items) (q : ℕ) (hea
 unfolding musicBytes
 tables-within text t a q header e is js u m l ts us f g =
     let b = sum-append musicBytes is (played u m l ∷ js) in
-    omega (arith, lines-most text t a e, mine-bytes q a, bytes-both (mine q a), ap (sum musicBytes) f, b, within-line tablePrices table-covered header is u m l ts us g, lyric-bound tablePrices table-covered header (mine q a))
+    omega (arith, lines-most text t a e, mine-bytes q a, bytes-sum (mine q a), ap (sum musicBytes) f, b, within-line tablePrices table-covered header is u m l ts us g, lyric-bound tablePrices table-covered header (mine q a))

@@ -1,14 +1,13 @@
 -- The bytes of a token pay for what it adds, so a line's bytes pay for all its tokens.
 use Prim.Native.Nat.{ℕ, zero, suc, _+_, _-_, _*_, _^_, pred, _≤_, _<_, zero-le}
 use mathlib.Core.Path.{_≡_, refl}
-use mathlib.Core.Bool.{Bool, true, false, cond, not, _&&_, _||_, false≢true}
+use mathlib.Core.Bool.{Bool, true, false, cond, not, _&&_, _||_}
 use mathlib.Core.Option.{Option, none, some}
 use mathlib.Core.List.{List, [], _∷_}
 use native.Mathlib.Nat.{not-suc-le-zero, mul-add, mul-suc}
 use native.Mathlib.Omega.{arith}
 use lib.Dec.{ltb, eqb}
 use lib.ListN.{length, take, drop}
-use borrow.Author.Tests.{eqb-true}
 use Rattle.laws.specs.Lists.{span, sum}
 use Rattle.laws.proofs.Bools.{by-test}
 use Rattle.laws.proofs.Spans.{span-yes, span-no}
@@ -17,7 +16,7 @@ use Rattle.standard.specs.Bars.{Symbol, barSymbols, symbolAt}
 use Rattle.standard.specs.Pitches.{Accidental, Written, isLetter}
 use Rattle.reader.specs.Lengths.{lengthOf}
 use Rattle.reader.specs.Pieces.{pieces, mark}
-use Rattle.reader.specs.Pitches.{Octave, octaveFrom, octaveOf, Before, signs, accidentalOf, natural, quarterTone, added, isQuarter, consPitch, chordOf}
+use Rattle.reader.specs.Pitches.{Octave, octaveOf, Before, signs, accidentalOf, natural, quarterTone, added, isQuarter, consPitch, chordOf}
 use Rattle.reader.specs.Token.{Token, quoted, decoration, skipped, Taken, taken}
 use Rattle.reader.specs.Tuplets.{positive, counted, withCount, withNormal, withActual, tupletOf, orSlur}
 use Rattle.reader.specs.Barlines.{barlineAs, barlineOf}
@@ -27,33 +26,9 @@ use Rattle.reader.specs.Fields.{unitInline, middleWord}
 use Rattle.reader.specs.Sounds.{behind, chordTaken, chordAt, restAs, noteAs, noteAfter, noteOf}
 use Rattle.reader.specs.Tokens.{closedBy, brokenOf, bracketOf, Class, white, ampersand, quote, more, less, paren, braceOpen, braceClose, bang, plus, bars, bracket, pitched, none-of-these, resting, classOf, tokenAs, tokenOf, tokens}
 use Rattle.reader.proofs.TokenLaws.{as-takes, takes-a-byte}
-use Rattle.reader.proofs.TokenBounds.{takes-what-is-there}
+use Rattle.reader.proofs.TokenBounds.{inChord, octave-in-chord, quarter-in-chord, takes-what-is-there}
 use Rattle.bounds.specs.Prices.{Prices, Covered, markCost, writtenCost, tokenCost}
-use Rattle.bounds.proofs.Generic.{spans-wider, times-more}
-
--- a byte that does not end a chord
-abbrev pub inChord : ℕ → Bool
-inChord c = not (is "]" c)
-
--- a comma does not
-comma-in : (c : ℕ) → is "," c ≡ true → inChord c ≡ true
-comma-in c e = rw (eqb-true c 44 e)
-
--- nor does an apostrophe
-apostrophe-in : (c : ℕ) → is "'" c ≡ true → inChord c ≡ true
-apostrophe-in c e = rw (eqb-true c 39 e)
-
--- octave marks do not reach past a chord's end
-octave-in-chord : (c : ℕ) (s : List ℕ) → octaveOf c s .used ≤ span inChord s
-unfolding octaveOf octaveFrom
-octave-in-chord c s = spans-wider (is ",") (is "'") inChord comma-in apostrophe-in s
-
--- nor does the slash of a quarter tone
-quarter-in-chord : (a : Option Accidental) (s : List ℕ) → isQuarter a s ≡ true → 1 ≤ span inChord s
-unfolding isQuarter
-quarter-in-chord none [] e = absurd (false≢true e)
-quarter-in-chord none (c ∷ s) e = rw (span-yes inChord c s (rw (eqb-true c 47 e))) (omega arith)
-quarter-in-chord (some a) s e = absurd (false≢true e)
+use Rattle.bounds.proofs.Generic.{times-more}
 
 module _ (p : Prices) (paid : Covered p) where
   -- A CHORD'S PITCHES: what they cost at most, if none is refused

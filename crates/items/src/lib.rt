@@ -220,15 +220,7 @@ fn on_item(
     }
     let at = row.at;
     let end = row.end;
-    body::parse_body_line(
-        &text[at..end],
-        store,
-        t,
-        r,
-        row.unit,
-        row.a,
-        row.b,
-    )
+    body::parse_body_line(&text[at..end], store, t, r, row.unit, row.a, row.b)
 }
 
 // Item i, if it is one of the part's.

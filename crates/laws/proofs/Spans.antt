@@ -205,3 +205,18 @@ module _ (p : ℕ → Bool) (none : p 0 ≡ false) (s : List ℕ) (i : ℕ) wher
       go : Dec (endOf p s i < length s) → p (getD s (endOf p s i) 0) ≡ false
       go (yes h) = end-stops p s i 0 h
       go (no h) = ap p (List·getD-eq-default s 0 {n = endOf p s i} (omega arith)) ∙ none
+
+-- A WIDER TEST
+module _ {ℓ} {A : Type ℓ} (p q r : A → Bool) (pr : (c : A) → p c ≡ true → r c ≡ true) (qr : (c : A) → q c ≡ true → r c ≡ true) where
+  -- what passes one test passes a wider one
+  pub span-wider : (s : List A) → span q s ≤ span r s
+  span-wider [] = zero-le
+  span-wider (c ∷ s) =
+      by-test (q c) (λ e. rw (span-yes q c s e, span-yes r c s (qr c e)) (suc-le-suc (span-wider s))) (λ e. rw (span-no q c s e) zero-le)
+
+  -- two kinds, one after the other, within a wider one
+  pub spans-wider : (s : List A) → span p s + span q (drop (span p s) s) ≤ span r s
+  spans-wider [] = zero-le
+  spans-wider (c ∷ s) =
+      by-test (p c) (λ e. rw (span-yes p c s e, span-yes r c s (pr c e)) (omega (arith, spans-wider s)))
+      (λ e. rw (span-no p c s e) (omega (arith, span-wider (c ∷ s))))

@@ -8,10 +8,10 @@ use Rattle.standard.specs.Lengths.{Fraction, Value, dotted, halved}
 use Rattle.reader.specs.Lengths.{writtenAs}
 use Rattle.reader.specs.State.{Note}
 use Rattle.reader.specs.Part.{valueIn, writtenOn, halvedNote, brokenNote}
+use Rattle.reader.proofs.ValueLaws.{written-range}
 use Rattle.lengths.specs.declared.Length.{Length}
 use Rattle.lengths.specs.declared.Length.the-variants.{Written, WholeBar}
 use Rattle.lengths.specs.Values.{asValue, lengthAs, brokenLength}
-use Rattle.lengths.proofs.Searches.{written-small}
 
 -- a written value is one of the ten
 abbrev pub Proper : Length → Type 0
@@ -20,7 +20,7 @@ Proper (WholeBar d) = Unit {0}
 
 -- `abc_note_value` gives one
 pub written-proper : (f : Fraction) → Proper (lengthAs (writtenAs f))
-written-proper f = written-small f .0
+written-proper f = written-range f .0
 
 -- `apply_abc_broken_rhythm` keeps it one
 pub broken-proper : (up : Bool) (n : ℕ) (l : Length) → Proper l → Proper (brokenLength up n l)

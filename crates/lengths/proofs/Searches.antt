@@ -10,10 +10,9 @@ use native.Mathlib.Omega.{arith}
 use lib.Dec.{leb, ltb, eqb}
 use lib.ListN.{length, getD}
 use borrow.Author.Tests.{leb-true, le-leb, lt-leb, ltb-true, ltb-false, eqb-true, eqb-false, ne-eqb, lt-ltb}
-use Rattle.laws.specs.Lists.{all}
 use Rattle.laws.proofs.Bools.{by-test, and-left, and-right, and-no-left, and-no-right}
 use Rattle.laws.proofs.Finite.{below, below₂}
-use Rattle.standard.specs.Lengths.{Fraction, Value, ticks, tenValues, withDots, forty}
+use Rattle.standard.specs.Lengths.{Value, ticks, tenValues, withDots, forty}
 use Rattle.reader.specs.Lengths.{quarterNote, longa, notAbove, writtenAs}
 use Rattle.lengths.specs.declared.Best.{Best}
 use Rattle.lengths.specs.declared.Best.the-variants.{Nothing, Found}
@@ -44,35 +43,6 @@ notAbove-bounded (w ∷ ws) t l h =
     let r = notAbove-bounded ws t l h in
     let e : leb (ticks w * l) t ≡ leb (ticks w * min l (2 ^ 43)) t = bounded-leb (ticks w) t l (size-pos w) h in
     by-test (leb (ticks w * min l (2 ^ 43)) t) (λ q. rw (e ∙ q, q, notAbove)) (λ q. rw (e ∙ q, q, notAbove) r)
-
--- a test that a plain quarter and each of the values passes
-notAbove-passes : (q : Value → Bool) → q quarterNote ≡ true → (ws : List Value) (t l : ℕ) → all q ws ≡ true → q (notAbove ws t l) ≡ true
-unfolding notAbove
-notAbove-passes q z [] t l e = z
-notAbove-passes q z (w ∷ ws) t l e =
-    let r = notAbove-passes q z ws t l (and-right (q w) (all q ws) e) in
-    by-test (leb (ticks w * l) t) (λ x. rw (x, notAbove) (and-left (q w) (all q ws) e)) (λ x. rw (x, notAbove) r)
-
--- a value from 0 to 9, 0 to 3 dots
-small : Value → Bool
-small w = ltb (w .value) 10 && ltb (w .dots) 4
-
-forty-small : all small forty ≡ true
-unfolding small forty tenValues withDots
-forty-small = refl
-
-written-passes : (f : Fraction) → small (writtenAs f) ≡ true
-unfolding small writtenAs
-written-passes f =
-    by-test (eqb (f .over) 0 && eqb (f .under) 0) (λ e. rw (e, writtenAs))
-    (λ e. rw (e, writtenAs) (notAbove-passes small refl forty (f .over * 1024) (f .under) forty-small))
-
-pub written-small : (f : Fraction) → (writtenAs f .value < 10) × (writtenAs f .dots < 4)
-unfolding small
-written-small f =
-    let w = writtenAs f in
-    let e = written-passes f in
-    (ltb-true _ _ (and-left (ltb (w .value) 10) (ltb (w .dots) 4) e), ltb-true _ _ (and-right (ltb (w .value) 10) (ltb (w .dots) 4) e))
 
 -- THE FORTY AS THE LOOPS GO: the k-th has value k / 4 and k % 4 dots
 abbrev pub at : ℕ → Value

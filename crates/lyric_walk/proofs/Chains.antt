@@ -20,6 +20,7 @@ use Rattle.lyrics.specs.declared.Sheet.{Sheet}
 use Rattle.lyrics.specs.declared.Row.{Row}
 use Rattle.lyrics.specs.Sheet.{rowOf, nextOf, rowAt, syllableOf, happens, sungFrom, headOf, headsIn, syllablesIn}
 use Rattle.lyric_walk.specs.Walks.{chain, HeadIs, LinkIs}
+use Rattle.lyric_walk.proofs.Verses.{held-verse}
 
 module _ (text s : List ℕ) (log : ℕ) where
   -- a chain that begins among the first n rows is the same among more
@@ -139,10 +140,6 @@ module _ (P : Syllable → Type 0) where
   put-all x (y ∷ ys) p a =
       by-test (ltb (y .verse) (x .verse)) (λ e. rw (e, put) (a .0, put-all x ys p (a .1)))
       (λ e. by-test (eqb (y .verse) (x .verse)) (λ f. rw (e, f, put) (p, a .1)) (λ f. rw (e, f, put) (p, a)))
-
-held-verse : (v : ℕ) (y : Syllable) → held v y .verse ≡ y .verse
-unfolding held
-held-verse v y = by-test (eqb (y .verse) v) (λ e. rw (e, held)) (λ e. rw (e, held))
 
 held-all : (v : ℕ) (ys : List Syllable) → All (λ (y : Syllable). y .verse < 256) ys → All (λ (y : Syllable). y .verse < 256) (map (held v) ys)
 held-all v [] a = tt

@@ -1,7 +1,7 @@
 -- A token lies within its line: it takes no more bytes than there are.
 use Prim.Native.Nat.{ℕ, suc, _+_, _-_, _^_, _≤_, _<_}
 use mathlib.Core.Path.{_≡_}
-use mathlib.Core.Bool.{Bool, true, false, not, _&&_}
+use mathlib.Core.Bool.{Bool, true, false, not, _&&_, false≢true}
 use mathlib.Core.Option.{Option, none, some}
 use mathlib.Core.List.{List, [], _∷_}
 use native.Mathlib.Omega.{arith}
@@ -11,14 +11,14 @@ use lib.Seq.{drop-cons}
 use borrow.Author.Tests.{eqb-true, ltb-true}
 use Rattle.laws.specs.Lists.{span, any, startsWith}
 use Rattle.laws.proofs.Bools.{by-test, and-left, and-right}
-use Rattle.laws.proofs.Spans.{span-le}
+use Rattle.laws.proofs.Spans.{span-yes, span-le, spans-wider}
 use Rattle.laws.proofs.Lists.{startsWith-length}
 use Rattle.standard.specs.Bytes.{is, isDigit, first}
 use Rattle.standard.specs.Bars.{Symbol, barSymbols, symbolAt}
-use Rattle.standard.specs.Pitches.{Written, isLetter}
+use Rattle.standard.specs.Pitches.{Accidental, Written, isLetter}
 use Rattle.reader.specs.Lengths.{lengthOf, denominator}
 use Rattle.reader.specs.Pieces.{pieces, mark}
-use Rattle.reader.specs.Pitches.{octaveFrom, octaveOf, Before, signs, accidentalOf, chordOf}
+use Rattle.reader.specs.Pitches.{octaveFrom, octaveOf, Before, signs, accidentalOf, isQuarter, chordOf}
 use Rattle.reader.specs.Token.{Token, Taken}
 use Rattle.reader.specs.Tuplets.{positive, counted, withCount, withNormal, withActual, tupletOf, orSlur}
 use Rattle.reader.specs.Barlines.{barlineAs, barlineOf}
@@ -53,6 +53,30 @@ behind-in (c ∷ s) =
 pub octave-in : (c : ℕ) (s : List ℕ) → octaveOf c s .used ≤ length s
 unfolding octaveOf octaveFrom
 octave-in c s = let down = span (is ",") s in omega (arith, span-le (is ",") s, span-le (is "'") (drop down s), length-drop down s)
+
+-- a byte that does not end a chord
+abbrev pub inChord : ℕ → Bool
+inChord c = not (is "]" c)
+
+-- a comma does not
+comma-in : (c : ℕ) → is "," c ≡ true → inChord c ≡ true
+comma-in c e = rw (eqb-true c 44 e)
+
+-- nor does an apostrophe
+apostrophe-in : (c : ℕ) → is "'" c ≡ true → inChord c ≡ true
+apostrophe-in c e = rw (eqb-true c 39 e)
+
+-- octave marks do not reach past a chord's end
+pub octave-in-chord : (c : ℕ) (s : List ℕ) → octaveOf c s .used ≤ span inChord s
+unfolding octaveOf octaveFrom
+octave-in-chord c s = spans-wider (is ",") (is "'") inChord comma-in apostrophe-in s
+
+-- nor does the slash of a quarter tone
+pub quarter-in-chord : (a : Option Accidental) (s : List ℕ) → isQuarter a s ≡ true → 1 ≤ span inChord s
+unfolding isQuarter
+quarter-in-chord none [] e = absurd (false≢true e)
+quarter-in-chord none (c ∷ s) e = rw (span-yes inChord c s (rw (eqb-true c 47 e))) (omega arith)
+quarter-in-chord (some a) s e = absurd (false≢true e)
 
 -- a run of signs
 signs-in : (up : Bool) (n : ℕ) (s : List ℕ) → n ≤ length s → signs up n s .used ≤ length s

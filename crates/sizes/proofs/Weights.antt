@@ -1,8 +1,8 @@
 -- WHAT EACH BYTE PAYS: where a letter pays for a note and a pitch, a rest's byte for a note, a barline's for a measure and a sign for an accidental, the bytes
 -- that a token takes pay for what it makes.
-use Prim.Native.Nat.{ℕ, zero, suc, _+_, _-_, _*_, _≤_, _<_, zero-le, suc-le-suc}
+use Prim.Native.Nat.{ℕ, zero, suc, _+_, _-_, _*_, _≤_, _<_, zero-le}
 use mathlib.Core.Path.{_≡_, refl, ap, sym, _∙_}
-use mathlib.Core.Bool.{Bool, true, false, cond, not, _&&_, _||_, false≢true}
+use mathlib.Core.Bool.{Bool, true, false, cond, _&&_, _||_}
 use mathlib.Core.Option.{Option, none, some}
 use mathlib.Core.List.{List, [], _∷_}
 use native.Mathlib.Nat.{not-suc-le-zero, mul-add, mul-suc}
@@ -20,7 +20,7 @@ use Rattle.standard.specs.Bars.{Symbol, barSymbols, symbolAt}
 use Rattle.standard.specs.Pitches.{Accidental, Written, isLetter}
 use Rattle.reader.specs.Lengths.{lengthOf}
 use Rattle.reader.specs.Pieces.{pieces, mark}
-use Rattle.reader.specs.Pitches.{Octave, octaveFrom, octaveOf, Before, signs, accidentalOf, natural, quarterTone, added, isQuarter, consPitch, chordOf}
+use Rattle.reader.specs.Pitches.{Octave, octaveOf, Before, signs, accidentalOf, natural, quarterTone, added, isQuarter, consPitch, chordOf}
 use Rattle.reader.specs.Token.{quoted, decoration, skipped, Taken, taken}
 use Rattle.reader.specs.Barlines.{barlineAs, barlineOf}
 use Rattle.reader.specs.PassLists.{isPassByte, passList, voltaAs, voltaOf}
@@ -28,6 +28,7 @@ use Rattle.reader.specs.Inline.{isInline, inlineAt}
 use Rattle.reader.specs.Sounds.{behind, chordTaken, chordAt, restAs, noteAs, noteAfter, noteOf}
 use Rattle.reader.specs.Tokens.{bracketOf, Class, white, ampersand, quote, more, less, paren, braceOpen, braceClose, bang, plus, bars, bracket, pitched, none-of-these, resting, classes, classIn, classOf, tokenAs, tokenOf}
 use Rattle.reader.proofs.TokenLaws.{as-takes}
+use Rattle.reader.proofs.TokenBounds.{inChord, octave-in-chord, quarter-in-chord}
 use Rattle.sizes.specs.Sizes.{isBar, isRest, isSign}
 use Rattle.sizes.specs.Pays.{marks, marked, Rows, makes}
 use Rattle.sizes.proofs.Free.{Makes-nothing, closed-free, broken-free, tuplet-free, volta-free, field-free}
@@ -42,41 +43,6 @@ module _ {ℓ} {A : Type ℓ} (f : A → ℕ) where
   sum-more (suc m) zero l h = absurd (not-suc-le-zero h)
   sum-more (suc m) (suc n) [] h = zero-le
   sum-more (suc m) (suc n) (x ∷ l) h = omega (arith, sum-more m n l (omega arith))
-
--- SPANS: two kinds, one after the other, within a wider one
-module _ {ℓ} {A : Type ℓ} (p q r : A → Bool) (pr : (c : A) → p c ≡ true → r c ≡ true) (qr : (c : A) → q c ≡ true → r c ≡ true) where
-  span-wider : (s : List A) → span q s ≤ span r s
-  span-wider [] = zero-le
-  span-wider (c ∷ s) =
-      by-test (q c) (λ e. rw (span-yes q c s e, span-yes r c s (qr c e)) (suc-le-suc (span-wider s))) (λ e. rw (span-no q c s e) zero-le)
-
-  spans-wider : (s : List A) → span p s + span q (drop (span p s) s) ≤ span r s
-  spans-wider [] = zero-le
-  spans-wider (c ∷ s) =
-      by-test (p c) (λ e. rw (span-yes p c s e, span-yes r c s (pr c e)) (omega (arith, spans-wider s)))
-      (λ e. rw (span-no p c s e) (omega (arith, span-wider (c ∷ s))))
-
--- a byte that does not end a chord
-abbrev inChord : ℕ → Bool
-inChord c = not (is "]" c)
-
-comma-in : (c : ℕ) → is "," c ≡ true → inChord c ≡ true
-comma-in c e = rw (eqb-true c 44 e)
-
-apostrophe-in : (c : ℕ) → is "'" c ≡ true → inChord c ≡ true
-apostrophe-in c e = rw (eqb-true c 39 e)
-
--- octave marks do not reach past a chord's end
-octave-in-chord : (c : ℕ) (s : List ℕ) → octaveOf c s .used ≤ span inChord s
-unfolding octaveOf octaveFrom
-octave-in-chord c s = spans-wider (is ",") (is "'") inChord comma-in apostrophe-in s
-
--- nor does the slash of a quarter tone
-quarter-in-chord : (a : Option Accidental) (s : List ℕ) → isQuarter a s ≡ true → 1 ≤ span inChord s
-unfolding isQuarter
-quarter-in-chord none [] e = absurd (false≢true e)
-quarter-in-chord none (c ∷ s) e = rw (span-yes inChord c s (rw (eqb-true c 47 e))) (omega arith)
-quarter-in-chord (some a) s e = absurd (false≢true e)
 
 -- CLASSES: a barline's byte is `|` or `:`, a rest's one of four
 abbrev Begins : Class → ℕ → Type 0

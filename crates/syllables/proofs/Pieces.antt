@@ -11,14 +11,12 @@ use Rattle.laws.specs.Bytes.{part, between, splice, le32}
 use Rattle.laws.proofs.Parts.{length-part, length-between, part-none}
 use Rattle.laws.proofs.Splices.{splice-nil, splice-snoc, spliced-next}
 use Rattle.laws.proofs.Numbers.{length-little, le32-bytes}
-use Rattle.laws.proofs.Rows.{encAll-none, encAll-cons, length-rows}
+use Rattle.laws.proofs.Rows.{encAll-none, encAll-cons}
 use Rattle.standard.specs.Lyrics.{syllableText}
 use Rattle.reader.specs.Codes.{syllabicCode, bit}
 use Rattle.reader.specs.Lyrics.{Syllable}
 use Rattle.reader.specs.Records.{lyricBytes}
 use Rattle.lyric_words.specs.Words.{asSyllabic}
-use Rattle.lyrics.specs.declared.Sheet.{Sheet}
-use Rattle.lyrics.specs.Sheet.{syllablesIn, headsIn, headOf, sungFrom}
 use Rattle.lyric_walk.specs.declared.Found.{Found}
 use Rattle.lyric_walk.specs.declared.Next.{Next}
 use Rattle.lyric_walk.specs.declared.Next.the-variants as N
@@ -140,8 +138,3 @@ module _ (b : Bool) (i : ℕ) where
       past [] j h = refl
       past (w ∷ ws) zero h = absurd (omega arith)
       past (w ∷ ws) (suc j) h = past ws j (omega arith)
-
--- the sheet has as many notes as it says
-pub sheet-notes : (text s : List ℕ) (h : Sheet) → length (syllablesIn text s h) ≡ h .sounded
-unfolding syllablesIn headsIn
-sheet-notes text s h = length-map (headsIn s (h .heads) (h .sounded)) (sungFrom text s (h .log) (h .count)) ∙ length-rows headOf 4 s (h .heads) (h .sounded)

@@ -182,7 +182,7 @@ const MINOR: [KeyName; 15] = [
 pub fn with_byte(n: Name, c: u8) -> Name
     ensures { λ r. ⌜ r ≡ withByte n c ⌝ }
 {
-    let space = words::is_space(c);
+    let space = white::is_space(c);
     match n {
         Name::Empty => {
             if space {

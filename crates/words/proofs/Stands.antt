@@ -1,7 +1,7 @@
 -- A loop over the bytes of one kind in a part: while one stands at i the end is further on, and where none does the end is i.
 use Prim.Native.Nat.{ℕ, _+_, _≤_, _<_}
-use mathlib.Core.Path.{_≡_, refl}
-use mathlib.Core.Bool.{Bool, true, false, _||_}
+use mathlib.Core.Path.{_≡_}
+use mathlib.Core.Bool.{Bool, true, false}
 use mathlib.Core.List.{List}
 use lib.Dec.{ltb}
 use lib.ListN.{length, getD}
@@ -26,8 +26,3 @@ module _ (p : ℕ → Bool) (s : List ℕ) (i b : ℕ) where
   pub stands-off : b ≤ length s → standsAt p s i b ≡ false → endIn p s i b ≡ i
   unfolding standsAt
   stands-off l e = by-test (ltb i b) (λ h. endIn-stop p s i b (ltb-true i b h) l (rw h at e)) (λ h. endIn-over p s i b (ltb-false i b h))
-
--- or nothing
-pub or-false : (x : Bool) → (x || false) ≡ x
-or-false true = refl
-or-false false = refl

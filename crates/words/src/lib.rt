@@ -1,4 +1,4 @@
-// Words, trimming and marks in a part of a line. A part is given by two positions: the bytes from the first up to the second.
+// Words, trimming and marks in a part of a line. Fields are ASCII, so white space is ASCII's. A part is given by two positions: the bytes from the first up to the second.
 ghost use mathlib.Core.Path.{_≡_};
 ghost use mathlib.Core.Bool.{_&&_};
 ghost use Prim.Native.Nat.{_≤_, _-_};
@@ -13,22 +13,16 @@ pub struct Part {
     pub end: usize,
 }
 
-// ASCII's white space: fields are ASCII.
-pub fn is_space(b: u8) -> bool
-    ensures { λ r. ⌜ r ≡ isSpace b ⌝ }
-{
-    if b == 32 {
-        return true;
-    }
-    9 <= b && b <= 13
-}
-
 // White space stands at `i`, before `b`.
 fn space_at(line: &[u8], i: usize, b: usize) -> bool
     requires { ⌜ b ≤ length (now line) ⌝ }
     ensures { λ r. ⌜ r ≡ standsAt isSpace (now (line .entry)) i b ⌝ }
 {
-    if i < b { is_space(line[i]) } else { false }
+    if i < b {
+        white::is_space(line[i])
+    } else {
+        false
+    }
 }
 
 // A byte of a word stands at `i`, before `b`.
@@ -36,7 +30,11 @@ fn word_at(line: &[u8], i: usize, b: usize) -> bool
     requires { ⌜ b ≤ length (now line) ⌝ }
     ensures { λ r. ⌜ r ≡ standsAt notSpace (now (line .entry)) i b ⌝ }
 {
-    if i < b { !is_space(line[i]) } else { false }
+    if i < b {
+        !white::is_space(line[i])
+    } else {
+        false
+    }
 }
 
 // A byte other than `c` stands at `i`, before `b`.
@@ -52,7 +50,11 @@ fn space_before(line: &[u8], a: usize, e: usize) -> bool
     requires { ⌜ e ≤ length (now line) ⌝ }
     ensures { λ r. ⌜ r ≡ standsBefore isSpace (now (line .entry)) a e ⌝ }
 {
-    if a < e { is_space(line[e - 1]) } else { false }
+    if a < e {
+        white::is_space(line[e - 1])
+    } else {
+        false
+    }
 }
 
 // Where the next word starts, from `a` on; `b` if there is none.

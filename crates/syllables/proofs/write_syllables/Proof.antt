@@ -5,15 +5,16 @@ use borrow.Author.Needs.{needs}
 use Rattle.sections.proofs.Writes.{start}
 use Rattle.writers.proofs.Out.{wrote-as}
 use Rattle.lyrics.specs.Sheet.{syllablesIn}
+use Rattle.lyrics.proofs.Sheets.{how-many}
 use Rattle.syllables.specs.Pieces.{pieces}
-use Rattle.syllables.proofs.Pieces.{pieces-past, sheet-notes}
+use Rattle.syllables.proofs.Pieces.{pieces-past}
 use Rattle.syllables.proofs.write_syllables.Statement.{statement}
 use Rattle.syllables.proofs.write_syllables.Tie as tie
 
 returns : tie.Need-returns
 returns c =
     let a = c .before .before .before .before .before .args in
-    wrote-as (start _) (sym (pieces-past (a .texts) (a .note) (syllablesIn (a .text .now) (a .store .now) (a .sheet)) (a .sung) (omega (arith, sheet-notes (a .text .now) (a .store .now) (a .sheet), c .if1 .taken))))
+    wrote-as (start _) (sym (pieces-past (a .texts) (a .note) (syllablesIn (a .text .now) (a .store .now) (a .sheet)) (a .sung) (omega (arith, how-many (a .text .now) (a .store .now) (a .sheet), c .if1 .taken))))
 
 write-chain-requires : tie.Need-write-chain-requires
 write-chain-requires c κs = omega (arith, c .before .head .ensures .low, c .before .before .before .before .before .before .before .pre .0 .log)
