@@ -15,7 +15,7 @@ use Rattle.laws.proofs.Bools.{by-test, and-left, and-right, or-either}
 use Rattle.laws.proofs.Parts.{between-first, between-none, length-between, take-part}
 use Rattle.reader.specs.Text.{within, White, white, inC2, inE1, inE19A, inE2, inE280, inE281, inE3, inE380, other, whiteStep, isAllWhite, isBlank, trim, cut, clean}
 use Rattle.white.specs.States.{isOther}
-use Rattle.white.proofs.Whites.{other-stays}
+use Rattle.white.proofs.Whites.{other-stays, other-of}
 use Rattle.text.specs.Lines.{trimFrom, CleanEnd}
 
 -- A BYTE ALONE
@@ -84,17 +84,32 @@ alone inE3 c = inr (choose (eqb c 0x80) inE380 other (one c 0x80 (omega arith) (
 alone inE380 c = inr (choose (eqb c 0x80) white other (one c 0x80 (omega arith) (omega arith)) (inl refl))
 alone other c = inr (inl refl)
 
-other-of : (q : White) → isOther q ≡ true → q ≡ other
-other-of white h = absurd (false≢true h)
-other-of inC2 h = absurd (false≢true h)
-other-of inE1 h = absurd (false≢true h)
-other-of inE19A h = absurd (false≢true h)
-other-of inE2 h = absurd (false≢true h)
-other-of inE280 h = absurd (false≢true h)
-other-of inE281 h = absurd (false≢true h)
-other-of inE3 h = absurd (false≢true h)
-other-of inE380 h = absurd (false≢true h)
-other-of other h = refl
+-- ASCII from `!` on is no byte of white space
+far : (c n : ℕ) → c ≤ 127 → 128 ≤ n → eqb c n ≡ false
+far c n h k = ne-eqb c n (λ e. omega arith)
+
+plain-is-other : (q : White) (c : ℕ) → 33 ≤ c → c ≤ 127 → whiteStep q c ≡ other
+unfolding whiteStep
+plain-is-other white c low high =
+    rw (
+      le-leb 9 c (omega arith),
+      lt-leb c 13 (omega arith),
+      ne-eqb c 32 (λ e. omega arith),
+      far c 0xc2 high (omega arith),
+      far c 0xe1 high (omega arith),
+      far c 0xe2 high (omega arith),
+      far c 0xe3 high (omega arith),
+    )
+plain-is-other inC2 c low high = rw (far c 0x85 high (omega arith), far c 0xa0 high (omega arith))
+plain-is-other inE1 c low high = rw (far c 0x9a high (omega arith))
+plain-is-other inE19A c low high = rw (far c 0x80 high (omega arith))
+plain-is-other inE2 c low high = rw (far c 0x80 high (omega arith), far c 0x81 high (omega arith))
+plain-is-other inE280 c low high =
+    rw (lt-leb 0x80 c (omega arith), far c 0xa8 high (omega arith), far c 0xa9 high (omega arith), far c 0xaf high (omega arith))
+plain-is-other inE281 c low high = rw (far c 0x9f high (omega arith))
+plain-is-other inE3 c low high = rw (far c 0x80 high (omega arith))
+plain-is-other inE380 c low high = rw (far c 0x80 high (omega arith))
+plain-is-other other c low high = refl
 
 dead : (l : List ℕ) → isAllWhite (foldl whiteStep other l) ≡ false
 unfolding isAllWhite
@@ -167,6 +182,13 @@ module _ (q : White) (end b at : ℕ) (l : List ℕ) where
   trim-past h k =
       let e : at + 1 + n ≡ at + length (trim (b ∷ l)) = omega (arith, trim-keep b l (other-of (whiteStep white b) k)) in
       trim-start (at + 1) l ∙ e ∙ sym (fails h)
+
+  -- the byte is ASCII from `!` on
+  pub trim-plain : within 33 127 b ≡ true → trimFrom white (at + 1) (at + 1) l ≡ trimFrom q end at (b ∷ l)
+  trim-plain h =
+      let low = leb-true 33 b (and-left (leb 33 b) (leb b 127) h) in
+      let high = leb-true b 127 (and-right (leb 33 b) (leb b 127) h) in
+      trim-past (ap isOther (plain-is-other q b low high)) (ap isOther (plain-is-other white b low high))
 
 -- THE ROW
 -- what is left of a row from a position, cut

@@ -1,15 +1,16 @@
 -- The rows of a text, one after the other, by position; and a byte above 127.
 use Prim.Native.Nat.{ℕ, suc, _+_, _-_, _<_, _≤_}
-use mathlib.Core.Path.{_≡_, sym, ap, _∙_}
-use mathlib.Core.Bool.{true, false, cond}
+use mathlib.Core.Path.{_≡_, refl, sym, ap, _∙_}
+use mathlib.Core.Bool.{Bool, true, false, cond, _||_}
 use mathlib.Core.List.{List, [], _∷_}
 use native.Mathlib.Numerals.{add-one}
 use native.Mathlib.Omega.{arith}
+use borrow.Author.Tests.{ltb-true, ltb-false, lt-ltb, le-ltb}
 use lib.Dec.{eqb, ltb}
 use lib.ListN.{length, getD, take, drop, length-drop, drop-of-length-le}
 use lib.Seq.{drop-cons, drop-drop}
 use Rattle.laws.specs.Bytes.{part}
-use Rattle.laws.proofs.Bools.{by-test}
+use Rattle.laws.proofs.Bools.{by-test, or-left, or-none}
 use Rattle.reader.specs.Text.{push, rows, hasHigh}
 use Rattle.text.specs.Lines.{LineEnd}
 
@@ -53,6 +54,36 @@ pub rows-over : (t : List ℕ) (i : ℕ) → length t ≤ i → rows (drop i t) 
 unfolding rows
 rows-over t i h = rw (drop-of-length-le t h)
 
+-- the greater of two is above 127 where one of them is
+pub high-second : (a b : ℕ) → a < b → ltb 127 b ≡ (ltb 127 a || ltb 127 b)
+high-second a b h =
+    by-test (ltb 127 a) (λ e. let k : 127 < a = ltb-true 127 a e in lt-ltb 127 b (omega arith) ∙ sym (or-left (ltb 127 a) (ltb 127 b) e)) (λ e. rw e)
+
+pub high-first : (a b : ℕ) → b ≤ a → ltb 127 a ≡ (ltb 127 a || ltb 127 b)
+high-first a b h =
+    by-test (ltb 127 a) (λ e. e ∙ sym (or-left (ltb 127 a) (ltb 127 b) e))
+    (λ e. let k : a ≤ 127 = ltb-false 127 a e in e ∙ sym (or-none (ltb 127 a) (ltb 127 b) e (le-ltb 127 b (omega arith))))
+
+-- the greatest byte so far
+pub high-next : (t : List ℕ) (i m n : ℕ) → i < length t → ltb 127 n ≡ (ltb 127 m || ltb 127 (getD t i 0))
+    → (ltb 127 m || hasHigh (drop i t)) ≡ hasHigh t → (ltb 127 n || hasHigh (drop (i + 1) t)) ≡ hasHigh t
+unfolding hasHigh
+high-next t i m n h e k =
+    ap (λ (b : Bool). b || hasHigh (drop (i + 1) t)) e ∙ three (ltb 127 m) (ltb 127 (getD t i 0)) (hasHigh (drop (i + 1) t))
+    ∙ ap (λ (l : List ℕ). ltb 127 m || hasHigh l) (sym (drop-cons t i 0 h ∙ ap (λ (n : ℕ). getD t i 0 ∷ drop n t) (sym (add-one i)))) ∙ k
+  where
+    three : (a b c : Bool) → ((a || b) || c) ≡ (a || (b || c))
+    three true b c = refl
+    three false b c = refl
+
+pub high-over : (t : List ℕ) (i m : ℕ) → length t ≤ i → (ltb 127 m || hasHigh (drop i t)) ≡ hasHigh t → ltb 127 m ≡ hasHigh t
+unfolding hasHigh
+high-over t i m h k = sym (last (ltb 127 m)) ∙ ap (λ (l : List ℕ). ltb 127 m || hasHigh l) (sym (drop-of-length-le t h)) ∙ k
+  where
+    last : (a : Bool) → (a || false) ≡ a
+    last true = refl
+    last false = refl
+
 module _ (t : List ℕ) (i : ℕ) where
   -- a row goes on, ends with its line feed, ends with the text
   pub row-on : i < length t → eqb (getD t i 0) 10 ≡ false → i + 1 + rowLength (drop (i + 1) t) ≡ i + rowLength (drop i t)
@@ -68,16 +99,3 @@ module _ (t : List ℕ) (i : ℕ) where
   pub row-end : length t ≤ i → rowLength (drop i t) ≡ 0
   unfolding rowLength
   row-end h = rw (drop-of-length-le t h)
-
-  -- a byte above 127 at a position
-  pub high-here : i < length t → ltb 127 (getD t i 0) ≡ true → hasHigh (drop i t) ≡ true
-  unfolding hasHigh
-  high-here h e = rw (drop-cons t i 0 h, e)
-
-  pub high-on : i < length t → ltb 127 (getD t i 0) ≡ false → hasHigh (drop i t) ≡ hasHigh (drop (i + 1) t)
-  unfolding hasHigh
-  high-on h e = rw (add-one i, drop-cons t i 0 h, e)
-
-  pub high-end : length t ≤ i → hasHigh (drop i t) ≡ false
-  unfolding hasHigh
-  high-end h = rw (drop-of-length-le t h)

@@ -87,8 +87,8 @@ fn is_between(q: Utf8) -> bool
     }
 }
 
-// The text is UTF-8.
-pub fn is_utf8(text: &[u8]) -> bool
+// The text is UTF-8, read byte by byte.
+fn reads_utf8(text: &[u8]) -> bool
     ensures { λ r. ⌜ r ≡ isUtf8 (now (text .entry)) ⌝ }
 {
     let mut q = Utf8::Between;
@@ -98,4 +98,14 @@ pub fn is_utf8(text: &[u8]) -> bool
         i += 1;
     }
     is_between(q)
+}
+
+// The text is UTF-8, as ASCII is.
+pub fn is_utf8(text: &[u8]) -> bool
+    ensures { λ r. ⌜ r ≡ isUtf8 (now (text .entry)) ⌝ }
+{
+    if text::has_high(text) {
+        return reads_utf8(text);
+    }
+    true
 }

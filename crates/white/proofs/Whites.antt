@@ -1,7 +1,7 @@
 -- White space at a position.
 use Prim.Native.Nat.{ℕ, _+_, _≤_, _<_}
 use mathlib.Core.Path.{_≡_, refl, sym, ap, _∙_}
-use mathlib.Core.Bool.{Bool, true, false, cond}
+use mathlib.Core.Bool.{Bool, true, false, cond, false≢true}
 use mathlib.Core.List.{List, [], _∷_}
 use native.Mathlib.Numerals.{add-one}
 use native.Mathlib.Omega.{arith}
@@ -10,6 +10,7 @@ use lib.Seq.{drop-cons}
 use Rattle.laws.specs.Lists.{foldl}
 use Rattle.reader.specs.Text.{White, white, inC2, inE1, inE19A, inE2, inE280, inE281, inE3, inE380, other, whiteStep, isAllWhite, isBlank}
 use Rattle.reader.specs.Pieces.{whiteAt}
+use Rattle.white.specs.States.{isOther}
 
 -- a fold at a position: one byte further, and at the end
 module _ {S : Type 0} (step : S → ℕ → S) (q : S) (t : List ℕ) (i : ℕ) where
@@ -38,6 +39,29 @@ pub other-stays : (l : List ℕ) → foldl whiteStep other l ≡ other
 unfolding whiteStep
 other-stays [] = refl
 other-stays (c ∷ l) = other-stays l
+
+pub other-of : (q : White) → isOther q ≡ true → q ≡ other
+other-of white h = absurd (false≢true h)
+other-of inC2 h = absurd (false≢true h)
+other-of inE1 h = absurd (false≢true h)
+other-of inE19A h = absurd (false≢true h)
+other-of inE2 h = absurd (false≢true h)
+other-of inE280 h = absurd (false≢true h)
+other-of inE281 h = absurd (false≢true h)
+other-of inE3 h = absurd (false≢true h)
+other-of inE380 h = absurd (false≢true h)
+other-of other h = refl
+
+-- a text in which the reading comes to something else is not blank
+pub other-is-not-blank : (t : List ℕ) (i : ℕ) (q : White) → i < length t → foldl whiteStep q (drop i t) ≡ foldl whiteStep white t
+    → isOther (whiteStep q (getD t i 0)) ≡ true → false ≡ isBlank t
+unfolding isBlank isAllWhite
+other-is-not-blank t i q h e o =
+    ap isAllWhite
+    (sym (other-stays (drop (i + 1) t))
+    ∙ ap (λ (p : White). foldl whiteStep p (drop (i + 1) t)) (sym (other-of (whiteStep q (getD t i 0)) o))
+    ∙ sym (foldl-at whiteStep q t i h)
+    ∙ e)
 
 -- A WHITE CHARACTER at the front, by the first three bytes, 0 past the end
 abbrev pub after1 : List ℕ → White

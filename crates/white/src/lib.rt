@@ -161,6 +161,9 @@ pub fn is_blank(text: &[u8]) -> bool
     let mut i: usize = 0;
     while i < text.len() {
         q = white_step(q, text[i]);
+        if is_other(q) {
+            return false;
+        }
         i += 1;
     }
     is_all_white(q)

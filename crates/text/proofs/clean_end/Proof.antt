@@ -28,8 +28,8 @@ returns c =
     let t = c .before .before .before in
     cleaning-off _ _ _ _ _ _ (t .before .loop .inv) (t .loop-test .taken) (eq-eqb _ _ (c .before .if1 .taken)) _ (c .trim-done .ensures)
 
-trim-step-requires : tie.Need-trim-step-requires Inv-loop μ-loop
-trim-step-requires c κs = omega (arith, c .before .before .before .before .before .fits .to)
+trim-byte-requires : tie.Need-trim-byte-requires Inv-loop μ-loop
+trim-byte-requires c κs = omega (arith, c .before .before .before .before .before .fits .to)
 
 add-i : tie.Need-add-i Inv-loop μ-loop
 add-i c = omega (arith, c .before .before .before .before .before .before .fits .to)
@@ -40,7 +40,7 @@ loop-less c = omega arith
 loop-again : tie.Need-loop-again Inv-loop μ-loop
 loop-again c =
     let t = c .before .before .before in
-    cleaning-on _ _ _ _ _ _ (t .before .loop .inv) (t .loop-test .taken) (ne-eqb _ _ (c .before .if1 .left)) _ _ (c .trim-step .ensures)
+    cleaning-on _ _ _ _ _ _ (t .before .loop .inv) (t .loop-test .taken) (ne-eqb _ _ (c .before .if1 .left)) _ _ (c .trim-byte .ensures)
 
 trim-done-requires-2 : tie.Need-trim-done-requires-2 Inv-loop μ-loop
 trim-done-requires-2 c κs = search needs
@@ -58,7 +58,7 @@ clean-end-spec =
     shared-slice-read-b
     trim-done-requires
     returns
-    trim-step-requires
+    trim-byte-requires
     add-i
     loop-less
     loop-again
