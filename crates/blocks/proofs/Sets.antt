@@ -7,7 +7,7 @@ use mathlib.Core.Option.{Option, none, some}
 use mathlib.Core.List.{List, [], _∷_}
 use native.Mathlib.Omega.{arith}
 use Rattle.laws.specs.Lists.{All, all, any}
-use Rattle.laws.proofs.Bools.{and-left, and-right, and-both, both-true}
+use Rattle.laws.proofs.Bools.{not-true, and-left, and-right, and-both, both-true}
 use Rattle.laws.proofs.Lists.{all-All, All-map}
 use Rattle.standard.specs.Bytes.{ascii}
 use Rattle.standard.specs.Fields.{Meter}
@@ -229,10 +229,6 @@ all-leave = refl
 
 sets-what : (r : Row) → not (noField r) ≡ true → Quiet r → ⊥
 sets-what r h q = both-true (noField r) (quiet-field r q) (not-true (noField r) h)
-  where
-    not-true : (b : Bool) → not b ≡ true → b ≡ false
-    not-true true e = absurd (false≢true e)
-    not-true false e = refl
 
 pub setting-sets : All (λ r. Quiet r → ⊥) setting
 setting-sets = All-map (λ r. not (noField r) ≡ true) (λ r. Quiet r → ⊥) sets-what setting (all-All (λ r. not (noField r)) setting all-set)

@@ -11,7 +11,7 @@ use lib.ListN.{length, getD, length-append}
 use Rattle.laws.specs.Lists.{All, sum}
 use Rattle.laws.specs.Bytes.{part, splice, little, le32, u32At}
 use Rattle.laws.proofs.Bools.{by-test, both-true, or-right, cond-true, cond-false, cond-ap}
-use Rattle.laws.proofs.Lists.{All-right}
+use Rattle.laws.proofs.Lists.{All-right, getD-sum}
 use Rattle.laws.proofs.Numbers.{length-little, little-bytes, little-littleAt, littleAt-own}
 use Rattle.laws.proofs.Parts.{part-all}
 use Rattle.standard.specs.Bars.{Barline, normal, repeatStart, repeatEnd, repeatBoth, double, final, endsEnding}
@@ -359,16 +359,10 @@ module _ {s : List ℕ} {at : ℕ} (n : ℕ) where
       drops-as s at heads heads n (ap dropped (q .whole) ∙ dropped-last (q .front) (q .end) more ∙ cond-false _ _ _ (sym (empty-end heads q t small) ∙ e) ∙ sym (q .whole)) (sym h) t
 
 -- WHAT CALLERS NEED
--- a count is at most all of them
-pub count-le : (cs : List ℕ) (v : ℕ) → getD cs v 0 ≤ sum (λ n. n) cs
-count-le [] v = omega arith
-count-le (c ∷ cs) zero = omega arith
-count-le (c ∷ cs) (suc v) = omega (arith, count-le cs v)
-
 small-by : (heads : List Head) → All (λ (m : Head). length (m .counts) ≡ 4) heads → sum notesIn heads < 2 ^ 32 → All Small heads
 unfolding notesIn
 small-by [] four h = tt
-small-by (m ∷ b) four h = (record { four = four .0; small = λ v l. omega (arith, count-le (m .counts) v) }, small-by b (four .1) (omega arith))
+small-by (m ∷ b) four h = (record { four = four .0; small = λ v l. omega (arith, getD-sum (m .counts) v) }, small-by b (four .1) (omega arith))
 
 -- the counts of heads that fit a log fit four bytes
 pub fits-small : (heads : List Head) (log : List (ℕ × Note)) → Fits heads log → length log < 2 ^ 32 → All Small heads

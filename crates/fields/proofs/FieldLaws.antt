@@ -1,27 +1,28 @@
 -- Laws of the values of fields by position.
 use Prim.Native.Nat.{ℕ, _+_, _-_, _≤_, _<_}
 use mathlib.Core.Path.{_≡_, refl, sym, ap, _∙_}
-use mathlib.Core.Bool.{true, false, not, _&&_}
+use mathlib.Core.Bool.{true, false}
 use mathlib.Core.Option.{Option, none, some}
 use mathlib.Core.List.{List}
 use native.Mathlib.Nat.{add-zero}
 use native.Mathlib.Decide.{decLt}
 use native.Mathlib.Omega.{arith}
-use lib.Dec.{leb, eqb}
+use lib.Dec.{eqb}
 use lib.ListN.{length, getD, take, drop}
-use borrow.Author.Tests.{leb-true, eq-eqb, ne-eqb}
-use Rattle.laws.specs.Lists.{all, any, isNil, eqText, startsWith}
+use borrow.Author.Tests.{eq-eqb, ne-eqb}
+use Rattle.laws.specs.Lists.{any, eqText, startsWith}
 use Rattle.laws.specs.Bytes.{between}
 use Rattle.laws.specs.Spans.{endIn}
-use Rattle.laws.proofs.Bools.{by-test, and-right}
+use Rattle.laws.proofs.Bools.{by-test}
 use Rattle.laws.proofs.Parts.{part-cut, getD-between, drop-between, between-none, endIn-ge, endIn-le, endIn-over}
-use Rattle.standard.specs.Bytes.{ascii, is, first, isDigit, decimal, digits}
+use Rattle.standard.specs.Bytes.{ascii, is, first}
 use Rattle.standard.specs.Fields.{namedMeter}
 use Rattle.reader.specs.Text.{isSpace}
 use Rattle.reader.specs.Pieces.{numeral, after, fieldWords, trimmed}
 use Rattle.reader.specs.Fields.{orFour, meterNumber, meterBottom, meterOr, meterText, unitText, unitNumber, orEight, lineUnit, inlineUnit, middleWord, firstWord, identifier, meterOf, unitInline}
 use Rattle.reader.specs.Token.{meter, field}
 use Rattle.reader.specs.Inline.{unitToken, keyToken, fieldToken}
+use Rattle.reader.proofs.Digits.{digits-le}
 use Rattle.numbers.specs.declared.Digits.{Digits}
 use Rattle.numbers.specs.Digits.{option}
 use Rattle.words.specs.declared.Part.{Part}
@@ -33,20 +34,6 @@ use Rattle.fields.specs.declared.UnitText.the-variants.{Absent, Bad, Num
 use Rattle.fields.specs.Values.{meterParts, numbered, readUnit, Identifier}
 
 -- A NUMBER is at most its bound
-digits-le : (top : ℕ) (s : List ℕ) (v : ℕ) → digits top s ≡ some v → v ≤ top
-unfolding digits
-digits-le top s v e =
-    by-test (not (isNil s) && all isDigit s && leb (decimal 0 s) top) (λ q. fits q (rw (q, digits) at e)) (λ q. none-fits (rw (q, digits) at e))
-  where
-    fits : (not (isNil s) && all isDigit s && leb (decimal 0 s) top) ≡ true → some (decimal 0 s) ≡ some v → v ≤ top
-    fits q z =
-        let same : decimal 0 s ≡ v = cc in
-        let le : decimal 0 s ≤ top = leb-true (decimal 0 s) top (and-right (not (isNil s) && all isDigit s) (leb (decimal 0 s) top) q) in
-        omega arith
-
-    none-fits : none ≡ some v → v ≤ top
-    none-fits z = let w : _≡_ {A = ℕ} 0 1 = cc in omega arith
-
 pub numeral-le : (top : ℕ) (s : List ℕ) (v : ℕ) → numeral top s ≡ some v → v ≤ top
 unfolding numeral
 numeral-le top s v e =

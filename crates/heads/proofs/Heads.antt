@@ -1,7 +1,7 @@
 -- THE HEAD OF A MEASURE as a row: its width, its counts read back, and what each write into it makes of it.
 use Prim.Native.Nat.{ℕ, zero, suc, _+_, _*_, _^_, _<_, _≤_}
 use mathlib.Core.Path.{_≡_, refl, sym, ap, _∙_}
-use mathlib.Core.Bool.{Bool, true, false, _&&_}
+use mathlib.Core.Bool.{true, false, _&&_}
 use mathlib.Core.Option.{Option, none, some}
 use mathlib.Core.List.{List, [], _∷_, _++_}
 use native.Mathlib.Nat.{add-zero}
@@ -11,7 +11,7 @@ use borrow.Author.Tests.{eq-eqb, ne-eqb}
 use lib.ListN.{length, getD}
 use Rattle.laws.specs.Lists.{all, alterAt}
 use Rattle.laws.specs.Bytes.{part, splice, over, little, le32, u32At}
-use Rattle.laws.proofs.Bools.{eqb-sym}
+use Rattle.laws.proofs.Bools.{and-true, eqb-sym}
 use Rattle.laws.proofs.Numbers.{littleAt-part, littleAt-little, littleAt-own}
 use Rattle.standard.specs.Keys.{Key}
 use Rattle.standard.specs.Bars.{Barline, normal}
@@ -148,10 +148,6 @@ head-empty s at m e h small =
     λ v l k. sym (littleAt-part 4 s at 28 (4 * v) k) ∙ ap (λ (r : List ℕ). u32At r (4 * v)) e ∙ head-count m v l (small v l) in
     let z : u32At s at ≡ getD (m .counts) 0 0 = ap (u32At s) (sym (add-zero at)) ∙ n 0 (omega arith) (omega arith) in
     rw (z, n 1 (omega arith) (omega arith), n 2 (omega arith) (omega arith), n 3 (omega arith) (omega arith)) (empty-by (m .counts) h)
-
-and-true : (b : Bool) → (b && true) ≡ b
-and-true true = refl
-and-true false = refl
 
 -- as the code asks: the first count that is not 0 decides
 module _ (s : List ℕ) (at a : ℕ) (ea : a ≡ u32At s at) where

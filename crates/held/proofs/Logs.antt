@@ -10,7 +10,7 @@ use lib.Dec.{eqb}
 use lib.ListN.{length, getD}
 use Rattle.laws.specs.Lists.{alterAt, cat, sum}
 use Rattle.laws.proofs.Bools.{by-test}
-use Rattle.laws.proofs.Lists.{map-append, cat-append, All-getD}
+use Rattle.laws.proofs.Lists.{map-append, cat-append, All-getD, getD-sum}
 use Rattle.standard.specs.Pitches.{Pitch}
 use Rattle.standard.specs.Notes as Notes
 use Rattle.reader.specs.State as State
@@ -32,11 +32,6 @@ last-head f (m ∷ n ∷ ms) h =
     ap (λ (l : List Head). m ∷ l) (last-head f (n ∷ ms) (omega arith)) ∙ ap (λ (k : ℕ). alterAt k f (m ∷ n ∷ ms)) e
 
 -- a count is at most the notes of its head, and those at most all
-getD-sum : (cs : List ℕ) (v : ℕ) → getD cs v 0 ≤ sum (λ n. n) cs
-getD-sum [] v = omega arith
-getD-sum (c ∷ cs) zero = omega arith
-getD-sum (c ∷ cs) (suc v) = omega (arith, getD-sum cs v)
-
 head-sum : (hs : List Head) (i : ℕ) (d : Head) → i < length hs → notesIn (getD hs i d) ≤ sum notesIn hs
 head-sum [] i d h = absurd (not-suc-le-zero h)
 head-sum (m ∷ ms) zero d h = omega arith

@@ -4,7 +4,7 @@ use mathlib.Core.Path.{_≡_, refl, sym, ap, ap₂, _∙_}
 use mathlib.Core.Bool.{Bool, true, false, not, true≢false}
 use mathlib.Core.List.{List, [], _∷_, _++_, map, append-nil}
 use Rattle.laws.specs.Lists.{startsWith, foldl, all, All, keep, isNil}
-use Rattle.laws.proofs.Bools.{by-test, and-left, and-right, and-both}
+use Rattle.laws.proofs.Bools.{by-test, not-true, and-left, and-right, and-both}
 use Rattle.laws.proofs.Lists.{foldl-kept, All-keep, keep-passes}
 use Rattle.standard.specs.Bytes.{ascii, first, lower}
 use Rattle.reader.specs.Text.{isSpace, push}
@@ -62,10 +62,6 @@ pass-words (w ∷ ws) = pass-joined unpassed w ws ∙ pass-space unpassed (joine
 -- a word: not empty, and without white space
 abbrev IsWord : List ℕ → Type 0
 IsWord w = (all notSpace w ≡ true) × (not (isNil w) ≡ true)
-
-not-true : (x : Bool) → not x ≡ true → x ≡ false
-not-true true q = sym q
-not-true false q = refl
 
 -- the pieces between white space have none
 push-plain : (c : ℕ) (ps : List (List ℕ)) → isSpace c ≡ false → All (λ w. all notSpace w ≡ true) ps → All (λ w. all notSpace w ≡ true) (push c ps)

@@ -2,7 +2,7 @@
 -- From a test to the order or the equation that it tests, and back: `borrow.Author.Tests`.
 use Prim.Native.Nat.{ℕ}
 use mathlib.Core.Path.{_≡_, refl, sym, _∙_}
-use mathlib.Core.Bool.{Bool, true, false, cond, _&&_, _||_, true≢false}
+use mathlib.Core.Bool.{Bool, true, false, cond, not, _&&_, _||_, true≢false}
 use mathlib.Core.Logic.{_⊎_, inl, inr}
 use lib.Dec.{T, eqb}
 use borrow.Author.Tests.{eqb-true, eq-eqb}
@@ -26,7 +26,23 @@ true→T false e = absurd (true≢false (sym e))
 pub both-true : (b : Bool) → b ≡ true → b ≡ false → ⊥
 both-true b p q = true≢false (sym p ∙ q)
 
+-- NOT
+-- its no passes: it fails
+pub not-true : (b : Bool) → not b ≡ true → b ≡ false
+not-true true e = sym e
+not-true false e = refl
+
+-- its no fails: it passes
+pub not-false : (b : Bool) → not b ≡ false → b ≡ true
+not-false true e = refl
+not-false false e = sym e
+
 -- AND
+-- with what passes
+pub and-true : (b : Bool) → (b && true) ≡ b
+and-true true = refl
+and-true false = refl
+
 -- both pass: so does the first
 pub and-left : (a b : Bool) → (a && b) ≡ true → a ≡ true
 and-left true b e = refl
@@ -56,6 +72,16 @@ and-either true b e = inr e
 and-either false b e = inl refl
 
 -- OR
+-- with what passes
+pub or-true : (b : Bool) → (b || true) ≡ true
+or-true true = refl
+or-true false = refl
+
+-- with what fails
+pub or-false : (b : Bool) → (b || false) ≡ b
+or-false true = refl
+or-false false = refl
+
 -- the first passes: so does one of both
 pub or-left : (a b : Bool) → a ≡ true → (a || b) ≡ true
 or-left a b p = rw p

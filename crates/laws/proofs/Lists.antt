@@ -297,6 +297,12 @@ module _ {ℓ} {A : Type ℓ} where
   sum-le f g [] h = zero-le
   sum-le f g (x ∷ xs) h = omega (arith, h .0, sum-le f g xs (h .1))
 
+-- a number of a list is at most all of them
+pub getD-sum : (ns : List ℕ) (i : ℕ) → getD ns i 0 ≤ sum (λ n. n) ns
+getD-sum [] i = zero-le
+getD-sum (n ∷ ns) zero = omega arith
+getD-sum (n ∷ ns) (suc i) = omega (arith, getD-sum ns i)
+
 -- the sum over a map
 pub sum-map {ℓ κ} : {A : Type ℓ} {B : Type κ} (f : A → B) (g : B → ℕ) (xs : List A) → sum g (map f xs) ≡ sum (λ x. g (f x)) xs
 sum-map f g [] = refl

@@ -10,6 +10,7 @@ use borrow.Author.Tests.{ne-eqb}
 use Rattle.laws.specs.Lists.{eqText}
 use Rattle.laws.specs.Spans.{endIn}
 use Rattle.laws.specs.Bytes.{between}
+use Rattle.laws.proofs.Bools.{not-false}
 use Rattle.laws.proofs.Lists.{eqText-length}
 use Rattle.laws.proofs.Parts.{length-between, getD-between, between-none, between-first, endIn-ge, endIn-le, endIn-more, endIn-stops}
 use Rattle.standard.specs.Bytes.{ascii, first, last}
@@ -23,10 +24,6 @@ use Rattle.lyric_words.specs.declared.Cursor.{Cursor}
 use Rattle.lyric_words.specs.declared.Read.{Read}
 use Rattle.lyric_words.specs.Words.{isHyphen, asSyllabic, Small, said, inWord, plainOf, ahead, WordStart, Closed, WordEnd, InWord, GoneOn, SyllableRead, PlainRead, WordRead, Ready, Settled, TokenRead, First}
 use Rattle.lyric_words.proofs.Hyphens.{noHyphen, syllabic-back, words-none, hyphens-past, piece-first, last-syllable, next-syllable, or-skip-some}
-
-not-false : (b : Bool) → not b ≡ false → b ≡ true
-not-false true e = refl
-not-false false e = sym e
 
 abbrev pub cursor : ℕ → ℕ → Bool → Bool → Cursor
 cursor at word led trailed = record { at = at; word = word; led = led; trailed = trailed }

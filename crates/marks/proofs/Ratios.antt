@@ -18,7 +18,8 @@ use Rattle.numbers.specs.declared.Digits.{Digits}
 use Rattle.numbers.specs.declared.Digits.the-variants as digit
 use Rattle.numbers.specs.Digits.{written, option}
 use Rattle.numbers.proofs.Numbers.{option-run}
-use Rattle.runs.proofs.Places.{first-at, digits-le}
+use Rattle.reader.proofs.Digits.{digits-le}
+use Rattle.runs.proofs.Places.{first-at}
 use Rattle.marks.specs.Tuplets.{numberFor, tupletIn, tupletFor}
 use Rattle.marks.specs.declared.Number.the-variants as number
 use Rattle.marks.specs.declared.Tuplet.the-variants.{Read, Nothing}

@@ -1,18 +1,15 @@
 -- The bar symbol at the front, by its first two bytes.
 use Prim.Native.Nat.{ℕ}
 use mathlib.Core.Path.{_≡_, refl, sym, _∙_}
-use mathlib.Core.Bool.{Bool, true, false, _&&_}
+use mathlib.Core.Bool.{true, false}
 use mathlib.Core.Option.{none, some}
 use mathlib.Core.List.{List, [], _∷_}
 use lib.Dec.{eqb}
 use borrow.Author.Tests.{eq-eqb, ne-eqb, eqb-false}
 use Rattle.laws.specs.Lists.{startsWith}
+use Rattle.laws.proofs.Bools.{and-true}
 use Rattle.standard.specs.Bytes.{first}
 use Rattle.standard.specs.Bars.{symbol, symbolAt, barSymbols, normal, repeatStart, repeatEnd, repeatBoth, double, final}
-
-and-true : (a : Bool) → (a && true) ≡ a
-and-true true = refl
-and-true false = refl
 
 -- a text of one byte, which is not 0
 starts-one : (p : ℕ) (s : List ℕ) → eqb p 0 ≡ false → startsWith (p ∷ []) s ≡ eqb p (first s)

@@ -18,8 +18,9 @@ use Rattle.reader.specs.PassLists.{passNumber, single, range, itemOf, lastPass}
 use Rattle.numbers.specs.declared.Digits.{Digits}
 use Rattle.numbers.specs.Digits.{written, option}
 use Rattle.numbers.proofs.Numbers.{option-run}
-use Rattle.runs.proofs.Places.{first-at, digits-le}
-use Rattle.passes.specs.Passes.{numberFor, isItemByte, itemAt, itemFor}
+use Rattle.reader.proofs.Digits.{digits-le}
+use Rattle.runs.proofs.Places.{first-at}
+use Rattle.passes.specs.Passes.{passFor, isItemByte, itemAt, itemFor}
 use Rattle.passes.specs.declared.Number.the-variants as number
 use Rattle.passes.specs.declared.Item.the-variants as item
 use Rattle.passes.proofs.Cuts.{pieces-on, pieces-last, ends-on, ends-here}
@@ -46,15 +47,15 @@ module _ (line : List ℕ) (at : ℕ) where
         rw z (sym (option-run 32 (drop at line)) ∙ ap option e)
 
 -- in the code's type
-pub number-none : (next : ℕ) (o : Option ℕ) → numberFor next o ≡ number.Nothing → o ≡ none
-unfolding numberFor
-number-none next none e = refl
-number-none next (some v) e = let z : _≡_ {A = ℕ} 0 1 = cc in absurd (omega arith)
+pub pass-none : (next : ℕ) (o : Option ℕ) → passFor next o ≡ number.Nothing → o ≡ none
+unfolding passFor
+pass-none next none e = refl
+pass-none next (some v) e = let z : _≡_ {A = ℕ} 0 1 = cc in absurd (omega arith)
 
-pub number-some : (next : ℕ) (o : Option ℕ) (v n : ℕ) → numberFor next o ≡ number.Value v n → (o ≡ some v) × (n ≡ next)
-unfolding numberFor
-number-some next none v n e = let z : _≡_ {A = ℕ} 0 1 = cc in absurd (omega arith)
-number-some next (some w) v n e = let p : w ≡ v = cc in let q : n ≡ next = cc in (ap some p, q)
+pub pass-some : (next : ℕ) (o : Option ℕ) (v n : ℕ) → passFor next o ≡ number.Value v n → (o ≡ some v) × (n ≡ next)
+unfolding passFor
+pass-some next none v n e = let z : _≡_ {A = ℕ} 0 1 = cc in absurd (omega arith)
+pass-some next (some w) v n e = let p : w ≡ v = cc in let q : n ≡ next = cc in (ap some p, q)
 
 -- ITEMS
 hyphen-apart : (c : ℕ) → is "-" c ≡ true → isDigit c ≡ false

@@ -20,9 +20,9 @@ use Rattle.passes.specs.declared.Passes.{Passes}
 use Rattle.passes.specs.declared.Passes.the-variants.{Read, Refused}
 
 -- a number, with the position after its digits
-unfoldable pub numberFor : ℕ → Option ℕ → number.Number
-numberFor next none = number-as.Nothing
-numberFor next (some v) = number-as.Value v next
+unfoldable pub passFor : ℕ → Option ℕ → number.Number
+passFor next none = number-as.Nothing
+passFor next (some v) = number-as.Value v next
 
 -- a byte of an item: digits and hyphens
 abbrev pub isItemByte : ℕ → Bool

@@ -7,7 +7,7 @@ ghost use Rattle.standard.specs.Bytes.{isDigit};
 ghost use Rattle.standard.specs.Passes.{rising};
 ghost use Rattle.reader.specs.PassLists.{passNumber, isPassByte};
 ghost use Rattle.reader.specs.Records.{passBits};
-ghost use Rattle.passes.specs.Passes.{numberFor, isItemByte, itemAt, itemFor, passesAt, passesFor, firstFor};
+ghost use Rattle.passes.specs.Passes.{passFor, isItemByte, itemAt, itemFor, passesAt, passesFor, firstFor};
 
 // A number of 1 to 32 and the position after its digits; or none.
 enum Number {
@@ -28,7 +28,7 @@ pub enum Passes {
 }
 
 fn pass_number(line: &[u8], at: usize) -> Number
-    ensures { λ r. ⌜ r ≡ numberFor (endOf isDigit (now (line .entry)) at) (passNumber (run isDigit (drop at (now (line .entry))))) ⌝ }
+    ensures { λ r. ⌜ r ≡ passFor (endOf isDigit (now (line .entry)) at) (passNumber (run isDigit (drop at (now (line .entry))))) ⌝ }
 {
     if numbers::byte_at(line, at) == b'0' {
         return Number::Nothing;

@@ -6,7 +6,7 @@ use native.Mathlib.Omega.{arith}
 use lib.Dec.{leb}
 use borrow.Author.Tests.{le-leb, lt-leb}
 use Rattle.standard.specs.Pitches.{isLetter}
-use Rattle.runs.proofs.Places.{or-false}
+use Rattle.laws.proofs.Bools.{or-false}
 
 -- a small one
 pub small-letter : (c : ℕ) → 97 ≤ c → isLetter c ≡ leb c 103

@@ -1,15 +1,15 @@
 -- Texts of digits: how far they reach, what they write, and that nothing in them is white space or a mark.
 use Prim.Native.Nat.{ℕ, suc, _+_, _≤_, _<_}
 use mathlib.Core.Path.{_≡_, refl, ap, _∙_}
-use mathlib.Core.Bool.{Bool, true, false, not, false≢true}
-use mathlib.Core.Option.{some}
+use mathlib.Core.Bool.{Bool, true, false, not, _&&_, false≢true}
+use mathlib.Core.Option.{none, some}
 use mathlib.Core.List.{List, [], _∷_, _++_}
 use native.Mathlib.Nat.{not-suc-le-zero}
 use native.Mathlib.Omega.{arith}
 use lib.Dec.{eqb, leb}
 use lib.ListN.{length}
 use borrow.Author.Tests.{eqb-true, le-leb, lt-leb, leb-true}
-use Rattle.laws.specs.Lists.{all, span}
+use Rattle.laws.specs.Lists.{all, isNil, span}
 use Rattle.laws.proofs.Bools.{by-test, both-true, and-left, and-right, and-both, or-none, and-no-right, eqb-same}
 use Rattle.laws.proofs.Spans.{span-yes}
 use Rattle.standard.specs.Bytes.{isDigit, decimal, digits}
@@ -36,6 +36,16 @@ pub digits-some : (top : ℕ) (d : List ℕ) → 0 < length d → all isDigit d 
 unfolding digits
 digits-some top [] h a l = absurd (not-suc-le-zero h)
 digits-some top (c ∷ d) h a l = rw (and-both (all isDigit (c ∷ d)) (leb (decimal 0 (c ∷ d)) top) a (le-leb (decimal 0 (c ∷ d)) top l), digits)
+
+-- it is never above
+pub digits-le : (top : ℕ) (s : List ℕ) (v : ℕ) → digits top s ≡ some v → v ≤ top
+unfolding digits
+digits-le top s v e =
+    by-test (not (isNil s) && all isDigit s && leb (decimal 0 s) top)
+    (λ t. let k : some (decimal 0 s) ≡ some v = rw (t, digits) at e in
+    let q : decimal 0 s ≡ v = cc in
+    omega (arith, leb-true (decimal 0 s) top (and-right (not (isNil s) && all isDigit s) (leb (decimal 0 s) top) t)))
+    (λ t. let k : none ≡ some v = rw (t, digits) at e in let z : _≡_ {A = ℕ} 0 1 = cc in absurd (omega arith))
 
 -- the same with a plus sign allowed
 pub numeral-some : (top : ℕ) (d : List ℕ) → 0 < length d → all isDigit d ≡ true → decimal 0 d ≤ top → numeral top d ≡ some (decimal 0 d)

@@ -6,8 +6,9 @@ use mathlib.Core.List.{List}
 use native.Mathlib.Omega.{arith}
 use lib.ListN.{length, getD, drop, drop-of-length-le}
 use borrow.Author.Tests.{ne-eqb}
+use Rattle.laws.proofs.Bools.{or-true, or-false}
 use Rattle.reader.specs.Sounds.{behind}
-use Rattle.runs.proofs.Places.{or-true, or-false, drop-here}
+use Rattle.runs.proofs.Places.{drop-here}
 use Rattle.runs.specs.Behind.{behindFor}
 
 -- WHAT STANDS AT A POSITION

@@ -6,7 +6,7 @@ use mathlib.Core.List.{List, [], _∷_, _++_, append-assoc}
 use native.Mathlib.Omega.{arith}
 use lib.Dec.{eqb}
 use borrow.Author.Tests.{ne-eqb}
-use lib.ListN.{length, getD, set, length-append, length-map}
+use lib.ListN.{length, getD, set, length-append, length-map, List·getD-eq-default}
 use Rattle.laws.specs.Bytes.{part, between, splice, le32}
 use Rattle.laws.proofs.Parts.{length-part, length-between, part-none}
 use Rattle.laws.proofs.Splices.{splice-nil, splice-snoc, spliced-next}
@@ -132,9 +132,4 @@ module _ (b : Bool) (i : ℕ) where
 
   -- a note past the last has none
   pub pieces-past : (ws : List (List Syllable)) (j : ℕ) → length ws ≤ j → pieces b i (getD ws j []) ≡ []
-  pieces-past ws j h = pieces-none (past ws j h)
-    where
-      past : (ws : List (List Syllable)) (j : ℕ) → length ws ≤ j → getD ws j [] ≡ []
-      past [] j h = refl
-      past (w ∷ ws) zero h = absurd (omega arith)
-      past (w ∷ ws) (suc j) h = past ws j (omega arith)
+  pieces-past ws j h = pieces-none (List·getD-eq-default ws [] {n = j} h)

@@ -10,7 +10,7 @@ use lib.ListN.{length, getD, drop, drop-of-length-le}
 use lib.Seq.{drop-cons}
 use borrow.Author.Tests.{eqb-true, ne-eqb}
 use Rattle.laws.specs.Lists.{all}
-use Rattle.laws.proofs.Bools.{by-test, and-left, and-right, and-no-right, eqb-sym}
+use Rattle.laws.proofs.Bools.{by-test, not-true, and-left, and-right, and-no-right, eqb-sym}
 use Rattle.laws.proofs.Finite.{below}
 use Rattle.standard.specs.Pitches.{stepOf}
 use Rattle.standard.specs.Keys.{place, tonic, inMode}
@@ -39,10 +39,6 @@ other [] f s e = refl
 other (k ∷ ks) f s e =
     rw (not-true (eqb (k .second) s) (and-left (not (eqb (k .second) s)) _ e), and-no-right (eqb (k .first) f) false refl)
     (other ks f s (and-right (not (eqb (k .second) s)) _ e))
-  where
-    not-true : (x : Bool) → not x ≡ true → x ≡ false
-    not-true true q = sym q
-    not-true false q = refl
 
 -- a second byte that is neither a sharp nor a flat makes no tonic
 no-tonic : (f s : ℕ) → eqb s 35 ≡ false → eqb s 98 ≡ false → tonic (f ∷ s ∷ []) ≡ none

@@ -10,7 +10,7 @@ use borrow.Author.Tests.{eq-eqb, ne-eqb, le-leb, lt-leb}
 use lib.ListN.{length, getD, take, drop, length-append, length-take, length-drop, take-append-drop}
 use Rattle.laws.specs.Lists.{All, keep, sum}
 use Rattle.laws.specs.Bytes.{part, splice, encAll, little, le32, u32At}
-use Rattle.laws.proofs.Lists.{sum-append, All-left, All-right}
+use Rattle.laws.proofs.Lists.{sum-append, getD-sum, All-left, All-right}
 use Rattle.laws.proofs.Parts.{length-part, getD-part, part-part}
 use Rattle.laws.proofs.Splices.{spliced-next}
 use Rattle.laws.proofs.Numbers.{length-little, littleAt-part}
@@ -26,7 +26,6 @@ use Rattle.rows.specs.Encoded.{marksByte, rowBytes, noteRow}
 use Rattle.rows.proofs.Bytes.{length-note}
 use Rattle.heads.specs.Heads.{headRow}
 use Rattle.heads.proofs.Heads.{length-head, head-row, head-count}
-use Rattle.ends.proofs.Closing.{count-le}
 use Rattle.sections.specs.declared.Wrote.{Wrote}
 use Rattle.sections.specs.declared.Wrote.the-variants.{To, NoRoom}
 use Rattle.sections.specs.Writes.{WroteIs}
@@ -134,7 +133,8 @@ pub wrote-as : {d a e : List ℕ} {r : Wrote} → WroteIs d a e r → {b : List 
 wrote-as {d} {a} {e} {r} w p = subst (λ (l : List ℕ). WroteIs d l e r) p w
 
 -- A ROW
-kind-code : (k : NoteKind) → eqb (kindCode k) 0 ≡ isSounded k
+-- a note sounds where its kind is 0
+pub kind-code : (k : NoteKind) → eqb (kindCode k) 0 ≡ isSounded k
 unfolding kindCode isSounded
 kind-code sounded = refl
 kind-code rest = refl
@@ -142,7 +142,8 @@ kind-code invisibleRest = refl
 kind-code barRest = refl
 kind-code invisibleBarRest = refl
 
-bit-le : (b : Bool) (n : ℕ) → bit b n ≤ n
+-- a flag is at most its bit
+pub bit-le : (b : Bool) (n : ℕ) → bit b n ≤ n
 unfolding bit
 bit-le true n = omega arith
 bit-le false n = omega arith
@@ -224,7 +225,7 @@ count-out s h m ms t four small =
     let place : h + 28 * 0 ≡ h = omega arith in
     let row = ap (λ (k : ℕ). part s k 28) (sym place) ∙ table-first headRow 28 length-head m ms t in
     let at : (v : ℕ) → v < 4 → 4 * v + 4 ≤ 28 → u32At s (h + 4 * v) ≡ getD (m .counts) v 0 =
-    λ v l k. sym (littleAt-part 4 s h 28 (4 * v) k) ∙ ap (λ (r : List ℕ). u32At r (4 * v)) row ∙ head-count m v l (omega (arith, count-le (m .counts) v)) in
+    λ v l k. sym (littleAt-part 4 s h 28 (4 * v) k) ∙ ap (λ (r : List ℕ). u32At r (4 * v)) row ∙ head-count m v l (omega (arith, getD-sum (m .counts) v)) in
     let z : u32At s h ≡ getD (m .counts) 0 0 = ap (u32At s) (sym (add-zero h)) ∙ at 0 (omega arith) (omega arith) in
     rw (z, at 1 (omega arith) (omega arith), at 2 (omega arith) (omega arith), at 3 (omega arith) (omega arith)) (sym (four-sum (m .counts) four))
 

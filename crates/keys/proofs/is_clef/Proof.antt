@@ -1,7 +1,7 @@
 -- `keys::is_clef` meets its contract: the names one after the other.
 use mathlib.Core.Path.{sym, _∙_}
 use Rattle.reader.specs.Keys.{clefs}
-use Rattle.words.proofs.Stands.{or-false}
+use Rattle.laws.proofs.Bools.{or-false}
 use borrow.Author.Needs.{needs}
 use Rattle.keys.proofs.is_clef.Statement.{statement}
 use Rattle.keys.proofs.is_clef.Tie as tie

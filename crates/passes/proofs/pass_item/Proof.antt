@@ -11,7 +11,7 @@ use Rattle.laws.specs.Spans.{run, endOf}
 use Rattle.laws.proofs.Spans.{run-within}
 use Rattle.standard.specs.Bytes.{isDigit}
 use Rattle.reader.specs.PassLists.{passNumber}
-use Rattle.passes.proofs.Items.{number-none, number-some, no-first, low-first, one-pass, no-second, low-second, a-third, two-passes}
+use Rattle.passes.proofs.Items.{pass-none, pass-some, no-first, low-first, one-pass, no-second, low-second, a-third, two-passes}
 use borrow.Author.Needs.{needs}
 use Rattle.passes.proofs.pass_item.Statement.{statement}
 use Rattle.passes.proofs.pass_item.Tie as tie
@@ -39,11 +39,11 @@ abbrev of-to : tie.After-to → tie.After-from
 of-to c = c .before .before .before .before .before .before .before
 
 first : (c : tie.After-from) → (passNumber (run isDigit (drop (place c) (text c))) ≡ some (c .from .given .0 .0)) × (c .from .given .0 .1 .0 ≡ endOf isDigit (text c) (place c))
-first c = number-some _ _ _ _ (sym (c .before .before .pass-number .ensures) ∙ c .from .given .1)
+first c = pass-some _ _ _ _ (sym (c .before .before .pass-number .ensures) ∙ c .from .given .1)
 
 second : (c : tie.After-to) → (passNumber (run isDigit (drop (of-to c .from .given .0 .1 .0 + 1) (text (of-to c)))) ≡ some (c .to .given .0 .0))
     × (c .to .given .0 .1 .0 ≡ endOf isDigit (text (of-to c)) (of-to c .from .given .0 .1 .0 + 1))
-second c = number-some _ _ _ _ (sym (c .before .before .pass-number2 .ensures) ∙ c .to .given .1)
+second c = pass-some _ _ _ _ (sym (c .before .before .pass-number2 .ensures) ∙ c .to .given .1)
 
 hyphen : (c : tie.Else2) → getD (text (c .before .before .before .before)) (c .before .before .before .before .from .given .0 .1 .0) 0 ≡ 45
 hyphen c = sym (c .before .byte-at .ensures) ∙ c .if2 .left
@@ -51,7 +51,7 @@ hyphen c = sym (c .before .byte-at .ensures) ∙ c .if2 .left
 returns : tie.Need-returns
 returns c =
     let a = c .before .before .before .before .args in
-    no-first (a .line .now) (a .at) (a .low) _ refl _ (number-none _ _ (sym (c .before .before .pass-number .ensures) ∙ c .enum-told .given .1))
+    no-first (a .line .now) (a .at) (a .low) _ refl _ (pass-none _ _ (sym (c .before .before .pass-number .ensures) ∙ c .enum-told .given .1))
 
 returns-2 : tie.Need-returns-2
 returns-2 c =
@@ -84,7 +84,7 @@ returns-4 : tie.Need-returns-4
 returns-4 c =
     let e = c .before .before .before in
     let p = e .before .before .before .before in
-    no-second (text p) (place p) (bound p) _ (first p .1) _ (first p .0) (e .before .before .if1 .left) (hyphen e) _ refl _ (number-none _ _ (sym (c .before .before .pass-number2 .ensures) ∙ c .enum-told2 .given .1))
+    no-second (text p) (place p) (bound p) _ (first p .1) _ (first p .0) (e .before .before .if1 .left) (hyphen e) _ refl _ (pass-none _ _ (sym (c .before .before .pass-number2 .ensures) ∙ c .enum-told2 .given .1))
 
 returns-5 : tie.Need-returns-5
 returns-5 c =

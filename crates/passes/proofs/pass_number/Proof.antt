@@ -7,7 +7,7 @@ use Rattle.standard.specs.Bytes.{isDigit}
 use Rattle.numbers.specs.Digits.{numberAt, written}
 use Rattle.numbers.specs.declared.Read.{Read}
 use Rattle.numbers.proofs.Numbers.{value-le}
-use Rattle.passes.specs.Passes.{numberFor}
+use Rattle.passes.specs.Passes.{passFor}
 use Rattle.passes.proofs.Items.{zero-leads, number-by}
 use borrow.Author.Needs.{needs}
 use Rattle.passes.proofs.pass_number.Statement.{statement}
@@ -22,7 +22,7 @@ unfolding numberAt
 told c = sym (ap (λ (r : Read). r .digits) (c .read-number .ensures))
 
 returns : tie.Need-returns
-unfolding numberFor
+unfolding passFor
 returns c =
     let a = c .before .before .before .args in
     rw (zero-leads (a .line .now) (a .at) (sym (c .before .byte-at .ensures) ∙ c .if1 .taken))
@@ -46,21 +46,21 @@ cast-t10 c =
     omega (arith, value-le 32 (run isDigit (drop (a .at) (a .line .now))) (c .before .digits .given .0 .0) (told n ∙ c .before .digits .given .1))
 
 returns-2 : tie.Need-returns-2
-unfolding numberFor
+unfolding passFor
 returns-2 c =
     let n = c .before .before in
     let a = n .before .before .before .before .args in
     rw (number-by (a .line .now) (a .at) (λ k. n .before .if1 .left (n .before .before .byte-at .ensures ∙ k)) _ (told n), c .enum-told .given .1)
 
 returns-3 : tie.Need-returns-3
-unfolding numberFor
+unfolding passFor
 returns-3 c =
     let n = c .before .before in
     let a = n .before .before .before .before .args in
     rw (number-by (a .line .now) (a .at) (λ k. n .before .if1 .left (n .before .before .byte-at .ensures ∙ k)) _ (told n), c .enum-told2 .given .1)
 
 returns-4 : tie.Need-returns-4
-unfolding numberFor numberAt
+unfolding passFor numberAt
 returns-4 c =
     let n = c .before .before .before in
     let a = n .before .before .before .before .args in
