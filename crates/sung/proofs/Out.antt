@@ -9,7 +9,7 @@ use native.Mathlib.Omega.{arith}
 use lib.Dec.{eqb}
 use borrow.Author.Tests.{eq-eqb, ne-eqb}
 use lib.Seq.{drop-drop}
-use lib.ListN.{length, getD, take, drop, length-append, length-take, length-drop, take-append-drop, drop-of-length-le}
+use lib.ListN.{length, getD, take, drop, length-append, length-take, length-drop, take-append-drop, drop-of-length-le, List·getD-eq-default}
 use Rattle.laws.specs.Lists.{All, cat, sum}
 use Rattle.laws.specs.Bytes.{part, splice, encAll, le32}
 use Rattle.laws.proofs.Bools.{by-test, and-both, and-no-left, and-no-right}
@@ -17,10 +17,10 @@ use Rattle.laws.proofs.Lists.{map-map, drop-next, cat-singles, keep-yes, keep-n
 use Rattle.laws.proofs.Splices.{lent-back}
 use Rattle.laws.proofs.Numbers.{length-little}
 use Rattle.laws.proofs.Rows.{encAll-none, encAll-append, length-encAll}
-use Rattle.standard.specs.Notes.{NoteKind, sounded, rest, invisibleRest, barRest, invisibleBarRest, isSounded}
+use Rattle.standard.specs.Notes.{isSounded}
 use Rattle.reader.specs.State.{Note}
 use Rattle.reader.specs.Lyrics.{Syllable}
-use Rattle.reader.specs.Codes.{kindCode, bit}
+use Rattle.reader.specs.Codes.{bit}
 use Rattle.reader.specs.Records.{isSung, lyricBytes, lyricsOf, section}
 use Rattle.layout.specs.Log.{Head}
 use Rattle.layout.specs.Sections as layout
@@ -36,7 +36,7 @@ use Rattle.sections.specs.Writes.{WroteIs}
 use Rattle.sections.proofs.Writes.{count-last}
 use Rattle.writers.specs.Out.{noteCount, NotesIn}
 use Rattle.writers.proofs.Tables.{table-rest, table-take, table-drop, table-first}
-use Rattle.writers.proofs.Out.{wrote-as, byte-kind, byte-voice, count-out}
+use Rattle.writers.proofs.Out.{wrote-as, kind-code, bit-le, byte-kind, byte-voice, count-out}
 use Rattle.writers.proofs.Sung.{sungIn, lyrics-none, lyrics-passed, lyrics-taken, lyrics-measure}
 use Rattle.pitched.specs.Out.{musicOut, PitchesIn}
 use Rattle.pitched.proofs.Out.{music-section}
@@ -67,11 +67,6 @@ module _ (s : List ℕ) (p : ℕ) where
   is-sung e = rw e
 
 -- STEPS, as the loops take them
-bit-low : (b : Bool) → bit b 1 ≤ 1
-unfolding bit
-bit-low true = omega arith
-bit-low false = omega arith
-
 pub sung-step : (s : List ℕ) (p k : ℕ) → 0 < k → sungRows s p k ≡ bit (sungRow s p) 1 + sungRows s (p + 16) (k - 1)
 unfolding sungRows
 sung-step s p zero h = absurd (omega arith)
@@ -84,7 +79,7 @@ sung-none s p k h = rw h
 pub sung-low : (s : List ℕ) (p k : ℕ) → sungRows s p k ≤ k
 unfolding sungRows
 sung-low s p zero = omega arith
-sung-low s p (suc k) = omega (arith, bit-low (sungRow s p), sung-low s (p + 16) k)
+sung-low s p (suc k) = omega (arith, bit-le (sungRow s p) 1, sung-low s (p + 16) k)
 
 module _ (b : Bool) (ws : List (List Syllable)) (s : List ℕ) where
   rows-step : (i j p k : ℕ) → 0 < k
@@ -140,11 +135,6 @@ lyrics-next : (i j : ℕ) (x : ℕ × Note) (xs : List (ℕ × Note)) (ws : List
     → lyricsOf i (x ∷ xs) (drop j ws) ≡ map (λ y. (i, y)) (getD ws j []) ++ lyricsOf (i + 1) xs (drop (j + 1) ws)
 lyrics-next i j x xs ws e = go (decLt j (length ws))
   where
-    past : (vs : List (List Syllable)) (k : ℕ) → length vs ≤ k → getD vs k [] ≡ []
-    past [] k h = refl
-    past (v ∷ vs) zero h = absurd (omega arith)
-    past (v ∷ vs) (suc k) h = past vs k (omega arith)
-
     one : suc i ≡ i + 1
     one = omega arith
 
@@ -158,17 +148,9 @@ lyrics-next i j x xs ws e = go (decLt j (length ws))
         let m : length ws ≤ j + 1 = omega arith in
         let b : drop (j + 1) ws ≡ [] = drop-of-length-le ws m in
         ap (lyricsOf i (x ∷ xs)) a ∙ lyrics-none i (x ∷ xs)
-        ∙ sym ((λ k. map (λ y. (i, y)) (past ws j n k) ++ lyricsOf (i + 1) xs (b k)) ∙ lyrics-none (i + 1) xs)
+        ∙ sym ((λ k. map (λ y. (i, y)) (List·getD-eq-default ws [] {n = j} n k) ++ lyricsOf (i + 1) xs (b k)) ∙ lyrics-none (i + 1) xs)
 
 -- A ROW OF A TABLE
-kind-code : (k : NoteKind) → eqb (kindCode k) 0 ≡ isSounded k
-unfolding kindCode isSounded
-kind-code sounded = refl
-kind-code rest = refl
-kind-code invisibleRest = refl
-kind-code barRest = refl
-kind-code invisibleBarRest = refl
-
 module _ (s : List ℕ) (p : ℕ) (x : ℕ × Note) (xs : List (ℕ × Note)) (t : Table noteRow 16 s p (x ∷ xs)) where
   row : part s p 16 ≡ noteRow x
   row = let place : p + 16 * 0 ≡ p = omega arith in ap (λ (k : ℕ). part s k 16) (sym place) ∙ table-first noteRow 16 length-note x xs t

@@ -7,6 +7,7 @@ use lib.Dec.{eqb}
 use lib.ListN.{getD, drop}
 use lib.Seq.{drop-drop}
 use borrow.Author.Tests.{eqb-false}
+use Rattle.laws.proofs.Bools.{not-true}
 use Rattle.laws.proofs.Finite.{below}
 use Rattle.standard.specs.Notes as Notes
 use Rattle.standard.specs.Bytes.{first}
@@ -59,10 +60,6 @@ unread b = not (eqb (classCode (classOf b)) 18)
 seen : (b : ℕ) → b < 256 → unread b ≡ true
 unfolding unread classCode classOf classIn classes
 seen b h = below 256 unread refl b h
-
-not-true : (b : Bool) → not b ≡ true → b ≡ false
-not-true true e = sym e
-not-true false e = refl
 
 pub never-18 : (b : ℕ) → b < 256 → classCode (classOf b) ≡ 18 → ⊥
 unfolding unread
