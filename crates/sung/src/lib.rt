@@ -142,8 +142,8 @@ fn count_of(texts: bool, len: usize) -> usize
     if texts { len } else { len / 11 }
 }
 
-// The section of the lyrics, or of their texts. Its count is written last.
-fn write_section(
+// The section of the lyrics, or of their texts, from all notes. Its count is written last.
+fn write_sung(
     text: &[u8],
     store: &[u8],
     sheet: lyrics::Sheet,
@@ -167,6 +167,26 @@ fn write_section(
     let low = syllables::low32(count);
     store::put_u32(to, 0, low);
     Wrote::To(4 + len)
+}
+
+// The section of the lyrics, or of their texts. Where no row is written it is empty, and no note is asked.
+fn write_section(
+    text: &[u8],
+    store: &[u8],
+    sheet: lyrics::Sheet,
+    heads: usize,
+    n: usize,
+    notes: usize,
+    texts: bool,
+    to: &mut [u8],
+) -> Wrote
+    requires { ⌜ (Tables (now store) sheet) × (sheet .count + 1 < 18446744073709551616) × (heads + 28 * n ≤ length (now store)) × (notes + 16 * total (now store) heads n ≤ length (now store)) ⌝ }
+    ensures { λ r. ⌜ WroteIs (now (to .entry)) (sectionOut texts (syllablesIn (now (text .entry)) (now (store .entry)) sheet) (now (store .entry)) heads n notes) (now (to .exit)) r ⌝ }
+{
+    if sheet.count == 0 {
+        return sections::write_u32(to, 0);
+    }
+    write_sung(text, store, sheet, heads, n, notes, texts, to)
 }
 
 // Measures, notes, pitches and lyrics.

@@ -1,26 +1,16 @@
--- `sung::write_section` meets its contract: the records, and before them their count.
-use native.Mathlib.Omega.{arith}
+-- `sung::write_section` meets its contract.
+use mathlib.Core.Path.{sym}
 use borrow.Author.Needs.{needs}
-use Rattle.sections.proofs.Writes.{told}
-use Rattle.sung.proofs.Out.{section-short, section-none, section-fits, section-wrote}
+use Rattle.writers.proofs.Out.{wrote-as}
+use Rattle.sung.proofs.Silent.{section-silent}
 use Rattle.sung.proofs.write_section.Statement.{statement}
 use Rattle.sung.proofs.write_section.Tie as tie
 
 returns : tie.Need-returns
-returns c = section-short _ _ _ _ _ _ (c .if1 .taken)
+returns c = wrote-as (c .before .before .write-u32 .ensures) (sym (section-silent _ _ _ _ _ _ _ (c .before .before .before .before .if1 .taken)))
 
 returns-2 : tie.Need-returns-2
-returns-2 c = section-none _ _ _ _ _ _ (c .before .before .before .before .before .before .before .before .before .before .args .to .now) (c .before .before .before .before .before .before .if1 .left) (told (c .before .before .before .before .write-measures .ensures) (c .enum-told .given .1))
-
-add-t12 : tie.Need-add-t12
-add-t12 c =
-    let d = c .before .before .before .before .before .before .before .before .before .before .before .before .before .before .before .before .before .args .to .now in
-    omega (arith, section-fits _ _ _ _ _ _ d (c .before .before .before .before .before .before .before .before .before .before .before .before .before .if1 .left) (told (c .before .before .before .before .before .before .before .before .before .before .before .write-measures .ensures) (c .before .before .before .before .before .before .before .len .given .1)), c .before .before .before .before .before .before .before .before .before .before .before .before .before .before .before .before .before .good)
-
-returns-3 : tie.Need-returns-3
-returns-3 c =
-    section-wrote _ _ _ _ _ _ (c .before .before .before .before .before .before .before .before .before .before .before .before .before .before .before .before .before .args .to .now) _ _ _ (c .before .before .before .before .before .before .before .before .before .before .before .before .before .if1 .left) (told (c .before .before .before .before .before .before .before .before .before .before .before .write-measures .ensures) (c .before .before .before .before .before .before .before .len .given .1)) (c .before .before .before .before .low32 .ensures) (c .before .before .before .before .before .count-of .ensures)
-    (c .before .before .put-u32 .ensures)
+returns-2 c = c .before .before .write-sung .ensures
 
 pub write-section-spec : {M : Type 1} → statement M
-write-section-spec = tie.close (tie.spec returns (λ c. search needs) (λ c. search needs) (λ c. search needs) (λ c κs. search needs) (λ c. search needs) (λ c. search needs) (λ c. search needs) returns-2 (λ c κs. search needs) (λ c κs. search needs) (λ c κs. search needs) add-t12 (λ c. search needs) returns-3)
+write-section-spec = tie.close (tie.spec (λ c κs. search needs) (λ c. search needs) returns (λ c κs. search needs) (λ c. search needs) returns-2)
