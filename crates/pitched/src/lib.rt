@@ -88,8 +88,8 @@ fn write_voice(
     Wrote::To(at)
 }
 
-// The pitches of one measure, whose k rows begin at `place`: voice 0 to 3, each as written.
-fn write_measure(store: &[u8], place: usize, k: usize, pitches: usize, to: &mut [u8]) -> Wrote
+// The pitches of the k rows from `place` on: voice 0 to 3, each as written.
+fn write_voices(store: &[u8], place: usize, k: usize, pitches: usize, to: &mut [u8]) -> Wrote
     requires { ⌜ (place + 16 * k ≤ length (now store)) × (pitches + 5 * pitchTotal (now store) place k ≤ length (now store)) ⌝ }
     ensures { λ r. ⌜ WroteIs (now (to .entry)) (voicesOut (now (store .entry)) place pitches k 0 4) (now (to .exit)) r ⌝ }
 {
@@ -103,6 +103,18 @@ fn write_measure(store: &[u8], place: usize, k: usize, pitches: usize, to: &mut 
         voice += 1;
     }
     Wrote::To(at)
+}
+
+// The pitches of one measure, whose k rows begin at `place`. Those of one voice stand as they are written.
+fn write_measure(store: &[u8], place: usize, k: usize, pitches: usize, to: &mut [u8]) -> Wrote
+    requires { ⌜ (place + 16 * k ≤ length (now store)) × (pitches + 5 * pitchTotal (now store) place k ≤ length (now store)) ⌝ }
+    ensures { λ r. ⌜ WroteIs (now (to .entry)) (voicesOut (now (store .entry)) place pitches k 0 4) (now (to .exit)) r ⌝ }
+{
+    if writers::is_lead(store, place, k) {
+        let end = pitches_end(store, place, k, pitches);
+        return write_run(store, pitches, end - pitches, to);
+    }
+    write_voices(store, place, k, pitches, to)
 }
 
 // The pitches of all notes, measure by measure.

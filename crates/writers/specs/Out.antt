@@ -1,7 +1,7 @@
 -- THE NOTES OF A PART in the order of the reading, as the bytes of its tables in scratch give them; and tables that hold heads and notes.
 use Prim.Native.Nat.{ℕ, zero, suc, _+_, _*_, _%_, _^_, _<_}
 use mathlib.Core.Path.{_≡_}
-use mathlib.Core.Bool.{Bool, cond, _&&_}
+use mathlib.Core.Bool.{Bool, true, cond, _&&_}
 use mathlib.Core.List.{List, [], _∷_, _++_}
 use lib.Dec.{eqb, leb}
 use lib.ListN.{length, getD}
@@ -35,6 +35,11 @@ voiceOut s v p (suc k) = cond (eqb (getD s (p + 12) 0) v) (noteOut s p) [] ++ vo
 unfoldable pub voicesOut : List ℕ → ℕ → ℕ → ℕ → ℕ → List ℕ
 voicesOut s p k v zero = []
 voicesOut s p k v (suc j) = voiceOut s v p k ++ voicesOut s p k (suc v) j
+
+-- the k rows from p on are all of voice 0
+unfoldable pub leads : List ℕ → ℕ → ℕ → Bool
+leads s p zero = true
+leads s p (suc k) = eqb (getD s (p + 12) 0) 0 && leads s (p + 16) k
 
 -- how many notes the head at h counts
 unfoldable pub noteCount : List ℕ → ℕ → ℕ

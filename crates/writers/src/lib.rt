@@ -13,7 +13,7 @@ ghost use Rattle.layout.specs.Sections.{headBytes, inOrder};
 ghost use Rattle.rows.specs.Table.{Table};
 ghost use Rattle.heads.specs.Heads.{headRow};
 ghost use Rattle.sections.specs.Writes.{WroteIs};
-ghost use Rattle.writers.specs.Out.{flagsOut, noteOut, voiceOut, voicesOut, noteCount, notesOut, total, NotesIn};
+ghost use Rattle.writers.specs.Out.{flagsOut, noteOut, voiceOut, voicesOut, leads, noteCount, notesOut, total, NotesIn};
 use sections::Wrote;
 
 // MEASURES
@@ -105,8 +105,25 @@ fn write_voice(store: &[u8], place: usize, k: usize, voice: u8, to: &mut [u8]) -
     Wrote::To(at)
 }
 
-// The records of one measure, whose k rows begin at `place`: voice 0 to 3, each as written.
-fn write_measure_notes(store: &[u8], place: usize, k: usize, to: &mut [u8]) -> Wrote
+// The k rows from `place` on are all of voice 0.
+pub fn is_lead(store: &[u8], place: usize, k: usize) -> bool
+    requires { ⌜ place + 16 * k ≤ length (now store) ⌝ }
+    ensures { λ r. ⌜ r ≡ leads (now (store .entry)) place k ⌝ }
+{
+    let mut p = place;
+    let mut left = k;
+    while 0 < left {
+        if store[p + 12] != 0 {
+            return false;
+        }
+        p += 16;
+        left -= 1;
+    }
+    true
+}
+
+// The records of the k rows from `place` on: voice 0 to 3, each as written.
+fn write_voices(store: &[u8], place: usize, k: usize, to: &mut [u8]) -> Wrote
     requires { ⌜ place + 16 * k ≤ length (now store) ⌝ }
     ensures { λ r. ⌜ WroteIs (now (to .entry)) (voicesOut (now (store .entry)) place k 0 4) (now (to .exit)) r ⌝ }
 {
@@ -120,6 +137,17 @@ fn write_measure_notes(store: &[u8], place: usize, k: usize, to: &mut [u8]) -> W
         voice += 1;
     }
     Wrote::To(at)
+}
+
+// The records of one measure, whose k rows begin at `place`. Most have one voice.
+fn write_measure_notes(store: &[u8], place: usize, k: usize, to: &mut [u8]) -> Wrote
+    requires { ⌜ place + 16 * k ≤ length (now store) ⌝ }
+    ensures { λ r. ⌜ WroteIs (now (to .entry)) (voicesOut (now (store .entry)) place k 0 4) (now (to .exit)) r ⌝ }
+{
+    if is_lead(store, place, k) {
+        return write_voice(store, place, k, 0, to);
+    }
+    write_voices(store, place, k, to)
 }
 
 // How many notes the head at `place` counts.
