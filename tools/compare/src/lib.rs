@@ -122,23 +122,3 @@ pub fn reading_len(known: &Known) -> usize {
         _ => 0,
     }
 }
-
-/// Cuts pieces out of a text as long as `unlike` holds of it.
-pub fn shrink(text: &[u8], mut unlike: impl FnMut(&[u8]) -> bool) -> Vec<u8> {
-    let mut text = text.to_vec();
-    let mut size = text.len().div_ceil(2);
-    while size > 0 {
-        let mut at = 0;
-        while at < text.len() {
-            let mut shorter = text.clone();
-            shorter.drain(at..(at + size).min(text.len()));
-            if unlike(&shorter) {
-                text = shorter;
-            } else {
-                at += size;
-            }
-        }
-        size /= 2;
-    }
-    text
-}

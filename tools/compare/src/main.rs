@@ -1,5 +1,5 @@
 //! The port of `parse_abc` beside the Rust on whole texts: `tools/differential-texts --help`.
-use compare::{Known, Stores, known, reading_len, shrink};
+use compare::{Known, Stores, known, reading_len};
 use oracle::generate::{self, Rng};
 use sindvaelo::{MOST_BYTES, reading_bytes, scratch_bytes};
 use std::collections::BTreeMap;
@@ -37,7 +37,7 @@ impl Run {
         let Some(words) = self.stores.difference(text, known, reading, scratch) else { return };
         if self.sum.differences.len() < 5 {
             let (more, under) = (reading as isize - reading_len(known) as isize, scratch as isize - scratch_bytes(text.len()) as isize);
-            let small = shrink(text, |t| {
+            let small = oracle::shrink(text.to_vec(), |t| {
                 let k = compare::known(t);
                 let (r, s) = ((reading_len(&k) as isize + more).max(0) as usize, (scratch_bytes(t.len()) as isize + under).max(0) as usize);
                 Stores::default().difference(t, &k, r, s).is_some()

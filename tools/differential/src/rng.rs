@@ -1,26 +1,26 @@
-//! Random numbers (splitmix64) and what the generators share.
-pub struct Rng(u64);
+//! The oracle's random numbers, and what the generators of leaves' inputs share.
+use oracle::generate;
+use std::ops::{Deref, DerefMut};
+
+pub struct Rng(generate::Rng);
+
+impl Deref for Rng {
+    type Target = generate::Rng;
+
+    fn deref(&self) -> &generate::Rng {
+        &self.0
+    }
+}
+
+impl DerefMut for Rng {
+    fn deref_mut(&mut self) -> &mut generate::Rng {
+        &mut self.0
+    }
+}
 
 impl Rng {
     pub fn new(seed: u64) -> Self {
-        Rng(seed ^ 0x9e37_79b9_7f4a_7c15)
-    }
-
-    pub fn next(&mut self) -> u64 {
-        self.0 = self.0.wrapping_add(0x9e37_79b9_7f4a_7c15);
-        let mut z = self.0;
-        z = (z ^ (z >> 30)).wrapping_mul(0xbf58_476d_1ce4_e5b9);
-        z = (z ^ (z >> 27)).wrapping_mul(0x94d0_49bb_1331_11eb);
-        z ^ (z >> 31)
-    }
-
-    pub fn below(&mut self, n: usize) -> usize {
-        (self.next() % n as u64) as usize
-    }
-
-    /// True in `percent` of 100 cases.
-    pub fn chance(&mut self, percent: usize) -> bool {
-        self.below(100) < percent
+        Rng(generate::Rng::new(seed))
     }
 
     pub fn pick<T: Copy>(&mut self, from: &[T]) -> T {

@@ -2,8 +2,9 @@
 use super::{Input, Leaf, Verdict, ask, bytes, pair};
 use crate::port::Export;
 use crate::rng::Rng;
-use acorde_core::{Barline, VoltaBracket};
+use acorde_core::VoltaBracket;
 use acorde_io::abc::leaves as rust;
+use oracle::barline_code;
 
 pub fn leaves() -> [Leaf; 3] {
     [
@@ -13,23 +14,11 @@ pub fn leaves() -> [Leaf; 3] {
     ]
 }
 
-pub fn bar_code(barline: &Barline) -> u8 {
-    match barline {
-        Barline::Normal => 0,
-        Barline::RepeatStart => 1,
-        Barline::RepeatEnd => 2,
-        Barline::RepeatBoth => 3,
-        Barline::Double => 4,
-        Barline::Final => 5,
-        other => panic!("000 makes no {other:?}"),
-    }
-}
-
 fn barline(input: &Input) -> Verdict {
     let Some(line) = input.chars() else { return super::HIGH };
     let at = input.position();
     let (bar, end) = match rust::barline(&line, at) {
-        Some((right, left, end)) => (65536 + bytes(bar_code(&right), bar_code(&left)), end as u64),
+        Some((right, left, end)) => (65536 + bytes(barline_code(&right), barline_code(&left)), end as u64),
         None => (0, 0),
     };
     Verdict::Same(vec![ask(Export::Barline, at, bar), ask(Export::BarlineEnd, at, end)])

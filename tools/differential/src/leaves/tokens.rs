@@ -1,13 +1,14 @@
 //! Music lines token by token: where 000's walk through a line stops, and what it appends on the way.
 use super::{Ask, Input, Leaf, Verdict, ask, bytes, pair, probed, value_code};
 use crate::leaves::fields::inline_effect;
-use crate::leaves::marks::{bar_code, pass_bits};
+use crate::leaves::marks::pass_bits;
 use crate::port::Export;
 use crate::rng::Rng;
 use acorde_core::Note;
 use acorde_io::abc::leaves as rust;
 use acorde_io::abc_probe::leaves as probe;
 use acorde_io::probe::{Step, keep_steps, outside_domain, take_steps};
+use oracle::barline_code;
 
 pub fn leaves() -> [Leaf; 1] {
     [Leaf { name: "parse_body_line: tokens", limits: lines, random: Some(line), rust: tokens }]
@@ -64,7 +65,7 @@ fn token(line: &[char], step: &Step, end: usize, after: Option<&Step>) -> u64 {
         '|' | ':' => match rust::barline(line, at) {
             Some((right, left, next)) => {
                 let opens = line.get(next) != Some(&']');
-                pair(9, u32::from(bar_code(&right)) << 16 | bytes(bar_code(&left), u8::from(opens)) as u32)
+                pair(9, u32::from(barline_code(&right)) << 16 | bytes(barline_code(&left), u8::from(opens)) as u32)
             }
             None => pair(19, 0),
         },
