@@ -53,9 +53,9 @@ fn place(last: Last, voice: usize, at: u32) -> Last
     requires { ⌜ voice < 4 ⌝ }
     ensures { λ r. ⌜ r ≡ placed last voice at ⌝ }
 {
-    let mut l = last;
-    l.places[voice] = at;
-    l
+    let before = last.places;
+    let places = scopes::with_place(before, voice, at);
+    Last { places }
 }
 
 // A note of voice 0 that is no rest is counted for the lyrics.

@@ -7,7 +7,7 @@ use mathlib.Core.List.{List, [], _∷_, _++_}
 use native.Mathlib.Nat.{add-zero, not-suc-le-zero, le-of-suc-le-suc}
 use native.Mathlib.Omega.{arith}
 use lib.Dec.{eqb}
-use borrow.Author.Tests.{eq-eqb, ne-eqb}
+use borrow.Author.Tests.{eq-eqb, ne-eqb, eqb-true, eqb-false}
 use lib.ListN.{length, getD}
 use Rattle.laws.specs.Bytes.{splice}
 use Rattle.laws.specs.Lists.{alterAt}
@@ -32,13 +32,14 @@ use Rattle.registers.specs.declared.Tables.{Tables}
 use Rattle.registers.specs.declared.Counts.{Counts}
 use Rattle.registers.specs.declared.Line.{Line}
 use Rattle.registers.specs.declared.Registers.{Registers}
+use Rattle.registers.specs.declared.Half.the-variants as half
 use Rattle.registers.specs.Notes.{beams, brokenRow, runAgain}
 use Rattle.registers.proofs.Notes.{beams-is, run-is, broken-is}
 use Rattle.held.specs.Held.{Room, Stored, Held, Holding, pitchesIn, Grows, Does}
 use Rattle.held.proofs.Stores.{note-altered, scoped-behind}
 use Rattle.held.proofs.Logs.{place-at, place-pitches, broken-pitches}
 use Rattle.held.proofs.Appending.{someNote, stored-pitches}
-use Rattle.rhythm.specs.Rhythm.{placeOf, brokenValue, valueBytes, brokenStore, againBeam, againStore, halfWaits, runs}
+use Rattle.rhythm.specs.Rhythm.{placeOf, brokenValue, valueBytes, brokenStore, brokenIn, againBeam, againStore, againIn, againRun, halfAfter, halfWaits, runs}
 
 -- the counts as they are
 same-counts : (c : Counts) → Grows c c 0 0 0 0
@@ -140,7 +141,7 @@ broken-at up times zero l h = absurd (not-suc-le-zero h)
 broken-at up times (suc i) l h = refl
 
 waits-held : {t : Tables} {s : List ℕ} {r : Registers} (up : Bool) (times : ℕ) (l : LogState) → Held t s r [] l
-    → Held t s (halfWaits r up times) [] (setLine (withHalf (some (record { up = up; times = times })) (l .line)) l)
+    → Held t s (halfWaits r (half.Waits up times)) [] (setLine (withHalf (some (record { up = up; times = times })) (l .line)) l)
 waits-held up times l h =
     record {
       stored = h .stored;
@@ -169,7 +170,7 @@ module _ {t : Tables} {s : List ℕ} {r : Registers} (room : Room t (r .counts) 
       }
 
   pub broken-does : 0 < placeOf r → (s′ : List ℕ) → s′ ≡ brokenStore s (t .notes + 16 * (placeOf r - 1)) up times
-      → Does t s r s′ (halfWaits r (not up) times) 0 0 0 0 (λ l. onToken l (token.broken up times))
+      → Does t s r s′ (halfWaits r (half.Waits (not up) times)) 0 0 0 0 (λ l. onToken l (token.broken up times))
   unfolding onToken
   broken-does is s′ e =
       let place = t .notes + 16 * (placeOf r - 1) in
@@ -180,7 +181,7 @@ module _ {t : Tables} {s : List ℕ} {r : Registers} (room : Room t (r .counts) 
         holds =
             λ l st h.
             let x = getD (l .log) (placeOf r - 1) someNote in
-            subst (Held t s′ (halfWaits r (not up) times) []) (broken-at up times (lastPlace l) l (omega (arith, is, place-is l st h)))
+            subst (Held t s′ (halfWaits r (half.Waits (not up) times)) []) (broken-at up times (lastPlace l) l (omega (arith, is, place-is l st h)))
             (waits-held (not up) times (setLog (atPlace (lastPlace l) (brokenNote (record { up = up; times = times })) (l .log)) l)
             (last-held room s′ 1 bytes e (omega arith) is l st h (brokenNote (record { up = up; times = times })) (broken-pitches (record { up = up; times = times }))
             ((λ i. splice (noteRow x) 1 (valueBytes (brokenValue up times (value-is is l st h i) (dots-is is l st h i)))) ∙ broken-row up times x)));
@@ -282,29 +283,62 @@ module _ {t : Tables} {s : List ℕ} {r : Registers} (room : Room t (r .counts) 
 -- FROM THE CODE'S VALUES: the place read, and the registers given back
 module _ {t : Tables} {s : List ℕ} {r : Registers} (room : Room t (r .counts) (length s) 0 0 0 0) (a : Holding t s r) (p : ℕ) (ep : p ≡ placeOf r) where
   -- there is room for its row
-  pub row-inside : (p ≡ 0 → ⊥) → t .notes + 16 * (p - 1) + 16 ≤ length s
-  row-inside n = omega (arith, ep, place-small a, room .for-notes, room .for-pitches, room .for-scopes, room .ends)
+  pub row-inside : t .notes + 16 * p ≤ length s
+  row-inside = omega (arith, ep, place-small a, room .for-notes, room .for-pitches, room .for-scopes, room .ends)
 
   some-place : (p ≡ 0 → ⊥) → 0 < placeOf r
   some-place n = omega (arith, ep)
 
-  pub broken-first : p ≡ 0 → (up : Bool) (times : ℕ) → Does t s r s r 0 0 0 0 (λ l. onToken l (token.broken up times))
-  broken-first z up times = broken-none room a up times (sym ep ∙ z)
+  -- of the store and registers given back
+  given : {s₀ s′ : List ℕ} {x₀ x : Registers} (f : LogState → LogState) → s′ ≡ s₀ → x ≡ x₀ → Does t s r s₀ x₀ 0 0 0 0 f → Does t s r s′ x 0 0 0 0 f
+  given {s₀} {s′} {x₀} {x} f e ex h = subst (λ (y : Registers). Does t s r s′ y 0 0 0 0 f) (sym ex) (subst (λ (q : List ℕ). Does t s r q x₀ 0 0 0 0 f) (sym e) h)
 
-  pub broken-on : (p ≡ 0 → ⊥) → (up : Bool) (times : ℕ) (s′ : List ℕ) → s′ ≡ brokenStore s (t .notes + 16 * (p - 1)) up times → (x : Registers) → x ≡ halfWaits r (not up) times
+  pub broken-by : (up : Bool) (times : ℕ) (s′ : List ℕ) → s′ ≡ brokenIn s (t .notes) p up times → (x : Registers) → x ≡ halfWaits r (halfAfter (not (eqb p 0)) (r .waiting .half) (not up) times)
       → Does t s r s′ x 0 0 0 0 (λ l. onToken l (token.broken up times))
-  broken-on n up times s′ e x ex =
-      subst (λ (y : Registers). Does t s r s′ y 0 0 0 0 (λ l. onToken l (token.broken up times))) (sym ex)
-      (broken-does room a up times (some-place n) s′ (e ∙ ap (λ (q : ℕ). brokenStore s (t .notes + 16 * (q - 1)) up times) ep))
+  unfolding brokenIn halfAfter
+  broken-by up times s′ e x ex =
+      by-test (eqb p 0)
+      (λ y. given (λ l. onToken l (token.broken up times)) (rw y at e) (rw y at ex) (broken-none room a up times (sym ep ∙ eqb-true p 0 y)))
+      (λ n.
+      given (λ l. onToken l (token.broken up times)) (rw n at e) (rw n at ex)
+      (broken-does room a up times (some-place (eqb-false p 0 n)) (brokenStore s (t .notes + 16 * (p - 1)) up times) (ap (λ (q : ℕ). brokenStore s (t .notes + 16 * (q - 1)) up times) ep)))
 
-  pub nothing-first : p ≡ 0 → (x : Registers) → x ≡ runs r 0 → Does t s r s x 0 0 0 0 (λ l. onToken l token.nothing)
-  nothing-first z x ex = subst (λ (y : Registers). Does t s r s y 0 0 0 0 (λ l. onToken l token.nothing)) (sym ex) (nothing-none room a (sym ep ∙ z))
+  pub nothing-by : (s′ : List ℕ) → s′ ≡ againIn s (t .notes) p (r .line .run) → (run : ℕ) → run ≡ againRun s (t .notes) p (r .line .run) → (x : Registers) → x ≡ runs r run
+      → Does t s r s′ x 0 0 0 0 (λ l. onToken l token.nothing)
+  unfolding againIn againRun
+  nothing-by s′ e run er x ex =
+      by-test (eqb p 0)
+      (λ y. given (λ l. onToken l token.nothing) (rw y at e) (ex ∙ ap (runs r) (rw y at er)) (nothing-none room a (sym ep ∙ eqb-true p 0 y)))
+      (λ n.
+      let place : ℕ → ℕ = λ q. t .notes + 16 * (q - 1) in
+      given (λ l. onToken l token.nothing) (rw n at e) (ex ∙ ap (runs r) (rw n at er))
+      (nothing-does room a (some-place (eqb-false p 0 n)) _ _ (ap (λ (q : ℕ). getD s (place q) 0) ep) (ap (λ (q : ℕ). getD s (place q + 1) 0) ep)
+      (againStore s (place p) (r .line .run) (getD s (place p) 0) (getD s (place p + 1) 0)) (ap (λ (q : ℕ). againStore s (place q) (r .line .run) (getD s (place p) 0) (getD s (place p + 1) 0)) ep)))
 
-  pub nothing-on : (p ≡ 0 → ⊥) → (w : Written)
-      → w ≡ record { kind = getD s (t .notes + 16 * (p - 1)) 0; value = getD s (t .notes + 16 * (p - 1) + 1) 0; dots = getD s (t .notes + 16 * (p - 1) + 2) 0 }
-      → (s′ : List ℕ) → s′ ≡ againStore s (t .notes + 16 * (p - 1)) (r .line .run) (w .kind) (w .value) → (run : ℕ) → run ≡ runAgain (r .line .run) (w .kind) (w .value)
-      → (x : Registers) → x ≡ runs r run → Does t s r s′ x 0 0 0 0 (λ l. onToken l token.nothing)
-  nothing-on n w dw s′ e run er x ex =
-      subst (λ (y : Registers). Does t s r s′ y 0 0 0 0 (λ l. onToken l token.nothing)) (sym (ex ∙ ap (runs r) er))
-      (nothing-does room a (some-place n) (w .kind) (w .value) ((λ i. dw i .kind) ∙ ap (λ (q : ℕ). getD s (t .notes + 16 * (q - 1)) 0) ep)
-      ((λ i. dw i .value) ∙ ap (λ (q : ℕ). getD s (t .notes + 16 * (q - 1) + 1) 0) ep) s′ (e ∙ ap (λ (q : ℕ). againStore s (t .notes + 16 * (q - 1)) (r .line .run) (w .kind) (w .value)) ep))
+-- FROM THE TESTS of the small functions
+module _ (s : List ℕ) (at p : ℕ) where
+  pub broken-none-at : p ≡ 0 → (up : Bool) (times : ℕ) → s ≡ brokenIn s at p up times
+  unfolding brokenIn
+  broken-none-at z up times = rw (eq-eqb p 0 z)
+
+  pub broken-some-at : (p ≡ 0 → ⊥) → (up : Bool) (times : ℕ) (s′ : List ℕ) → s′ ≡ brokenStore s (at + 16 * (p - 1)) up times → s′ ≡ brokenIn s at p up times
+  unfolding brokenIn
+  broken-some-at n up times s′ e = rw (ne-eqb p 0 n) e
+
+  pub again-none-at : p ≡ 0 → (run : ℕ) → s ≡ againIn s at p run
+  unfolding againIn
+  again-none-at z run = rw (eq-eqb p 0 z)
+
+  pub run-none-at : p ≡ 0 → (run : ℕ) → 0 ≡ againRun s at p run
+  unfolding againRun
+  run-none-at z run = rw (eq-eqb p 0 z)
+
+  module _ (n : p ≡ 0 → ⊥) (run : ℕ) (w : Written)
+      (e : w ≡ record { kind = getD s (at + 16 * (p - 1)) 0; value = getD s (at + 16 * (p - 1) + 1) 0; dots = getD s (at + 16 * (p - 1) + 2) 0 }) where
+    pub again-some-at : (s′ : List ℕ) → s′ ≡ againStore s (at + 16 * (p - 1)) run (w .kind) (w .value) → s′ ≡ againIn s at p run
+    unfolding againIn
+    again-some-at s′ d = rw (ne-eqb p 0 n) (d ∙ (λ i. againStore s (at + 16 * (p - 1)) run (e i .kind) (e i .value)))
+
+    pub run-some-at : (m : ℕ) → m ≡ runAgain run (w .kind) (w .value) → m ≡ againRun s at p run
+    unfolding againRun
+    run-some-at m d = rw (ne-eqb p 0 n) (d ∙ (λ i. runAgain run (e i .kind) (e i .value)))

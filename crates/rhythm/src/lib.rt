@@ -5,7 +5,7 @@ ghost use lib.ListN.{length};
 ghost use Rattle.reader.specs.Token as token;
 ghost use Rattle.layout.specs.Log.{onToken};
 ghost use Rattle.held.specs.Held.{Room, Holding, Does};
-ghost use Rattle.rhythm.specs.Rhythm.{brokenStore, againStore, placeOf, halfWaits, runs};
+ghost use Rattle.rhythm.specs.Rhythm.{brokenStore, brokenIn, againStore, againIn, againRun, placeOf, halfAfter, halfWaits, runs};
 use registers::Half;
 use registers::Registers;
 use registers::Tables;
@@ -46,16 +46,55 @@ fn break_note(store: &mut [u8], at: usize, i: usize, up: bool, times: u8)
     rows::set_note_value(store, at, i, m.value, m.dots);
 }
 
-// The other half waits for the next note.
-fn wait_for(r: Registers, up: bool, times: u8) -> Registers
-    ensures { λ x. ⌜ x ≡ halfWaits r up times ⌝ }
+// Where a note is broken its other half waits for the next one.
+fn half_after(half: Half, broken: bool, up: bool, times: u8) -> Half
+    ensures { λ h. ⌜ h ≡ halfAfter broken half up times ⌝ }
 {
-    let waiting = Waiting {
-        half: Half::Waits { up, times },
+    match half {
+        Half::Nothing => {
+            if broken {
+                return Half::Waits { up, times };
+            }
+            Half::Nothing
+        }
+        Half::Waits {
+            up: other,
+            times: count,
+        } => {
+            if broken {
+                return Half::Waits { up, times };
+            }
+            Half::Waits {
+                up: other,
+                times: count,
+            }
+        }
+    }
+}
+
+fn wait_for(r: Registers, broken: bool, up: bool, times: u8) -> Registers
+    ensures { λ x. ⌜ x ≡ halfWaits r (halfAfter broken (r .waiting .half) up times) ⌝ }
+{
+    let waiting = r.waiting;
+    let half = waiting.half;
+    let waits = Waiting {
+        half: half_after(half, broken, up, times),
     };
     let mut x = r;
-    x.waiting = waiting;
+    x.waiting = waits;
     x
+}
+
+// The note at a place, from 1, is broken; nothing is at 0.
+fn break_at(store: &mut [u8], at: usize, place: u32, up: bool, times: u8)
+    requires { ⌜ at + 16 * place ≤ length (now store) ⌝ }
+    ensures { λ _. ⌜ now (store .exit) ≡ brokenIn (now (store .entry)) at place up times ⌝ }
+{
+    if place == 0 {
+        return;
+    }
+    let i = (place - 1) as usize;
+    break_note(store, at, i, up, times);
 }
 
 // `times` signs `>` (up) or `<`: the voice's last note, and a half for the next one. Nothing, where there is no last note.
@@ -64,12 +103,8 @@ pub fn on_broken(store: &mut [u8], t: Tables, r: Registers, up: bool, times: u8)
     ensures { λ x. ⌜ Does t (now (store .entry)) r (now (store .exit)) x 0 0 0 0 (λ l. onToken l (token.broken up times)) ⌝ }
 {
     let place = last_place(r);
-    if place == 0 {
-        return r;
-    }
-    let i = (place - 1) as usize;
-    break_note(store, t.notes, i, up, times);
-    wait_for(r, !up, times)
+    break_at(store, t.notes, place, up, times);
+    wait_for(r, place != 0, !up, times)
 }
 
 // THE BEAM STEP ONCE MORE
@@ -97,18 +132,27 @@ fn run_on(r: Registers, run: u8) -> Registers
     x
 }
 
+// The beam step on the note at a place, from 1, and the run after it; none at 0.
+fn run_again(store: &mut [u8], at: usize, place: u32, run: u8) -> u8
+    requires { ⌜ at + 16 * place ≤ length (now store) ⌝ }
+    ensures { λ n. ⌜ n ≡ againRun (now (store .entry)) at place run ⌝ }
+    ensures { λ _. ⌜ now (store .exit) ≡ againIn (now (store .entry)) at place run ⌝ }
+{
+    if place == 0 {
+        return 0;
+    }
+    let i = (place - 1) as usize;
+    let w = rows::get_written(store, at, i);
+    beam_again(store, at, i, run, w.kind, w.value);
+    registers::update_abc_beam_run(run, w.kind, w.value)
+}
+
 // An empty chord, or an accidental without a note: the beam step on the voice's last note. Where there is none, no beam runs.
 pub fn on_nothing(store: &mut [u8], t: Tables, r: Registers) -> Registers
     requires { ⌜ Room t (r .counts) (length (now store)) 0 0 0 0 × Holding t (now store) r ⌝ }
     ensures { λ x. ⌜ Does t (now (store .entry)) r (now (store .exit)) x 0 0 0 0 (λ l. onToken l token.nothing) ⌝ }
 {
     let place = last_place(r);
-    if place == 0 {
-        return run_on(r, 0);
-    }
-    let run = r.line.run;
-    let i = (place - 1) as usize;
-    let w = rows::get_written(store, t.notes, i);
-    beam_again(store, t.notes, i, run, w.kind, w.value);
-    run_on(r, registers::update_abc_beam_run(run, w.kind, w.value))
+    let run = run_again(store, t.notes, place, r.line.run);
+    run_on(r, run)
 }

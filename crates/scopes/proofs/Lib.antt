@@ -1,2 +1,3 @@
 pub mod Keys
 pub mod Resolving
+pub mod Places

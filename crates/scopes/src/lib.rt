@@ -1,8 +1,9 @@
 // The accidentals of a measure: for each overlay voice a chain of rows in scratch, one for each step and octave, and the pitches that they and the key give.
 ghost use mathlib.Core.Path.{_≡_};
+ghost use mathlib.Core.Bool.{cond};
 ghost use mathlib.Core.List.{List, [], _∷_, _++_};
 ghost use Prim.Native.Nat.{ℕ, _+_, _-_, _*_, _^_, _≤_, _<_};
-ghost use lib.ListN.{length, getD};
+ghost use lib.ListN.{length, getD, set};
 ghost use Rattle.laws.specs.Bytes.{splice, le32};
 ghost use Rattle.standard.specs.Keys.{Key, keyAlter};
 ghost use Rattle.standard.specs.Pitches as standard;
@@ -103,14 +104,37 @@ fn put_accidental(store: &mut [u8], at: usize, i: u32, p: Sounded, next: u32)
     store::put_u32(store, row + 4, next);
 }
 
+fn pick(yes: bool, a: u32, b: u32) -> u32
+    ensures { λ r. ⌜ r ≡ cond yes a b ⌝ }
+{
+    if yes { a } else { b }
+}
+
+// Four places with another one for a voice. Each is written, at an index that the compiler knows, so that they need not stand in memory.
+pub fn with_place(places: [u32; 4], voice: usize, place: u32) -> [u32; 4]
+    requires { ⌜ voice < 4 ⌝ }
+    ensures { λ r. ⌜ r ≡ set places voice place ⌝ }
+{
+    let mut p = places;
+    p[0] = pick(voice == 0, place, p[0]);
+    p[1] = pick(voice == 1, place, p[1]);
+    p[2] = pick(voice == 2, place, p[2]);
+    p[3] = pick(voice == 3, place, p[3]);
+    p
+}
+
 // The scope of an overlay voice begins at another place.
 fn enter(state: AbcPartParseState, voice: usize, place: u32) -> AbcPartParseState
     requires { ⌜ voice < 4 ⌝ }
     ensures { λ r. ⌜ r ≡ entered state voice place ⌝ }
 {
-    let mut s = state;
-    s.scopes[voice] = place;
-    s
+    let before = state.scopes;
+    let scopes = with_place(before, voice, place);
+    AbcPartParseState {
+        fifths: state.fifths,
+        minor: state.minor,
+        scopes,
+    }
 }
 
 // A pitch by its own accidental, which is remembered; else by the one remembered for its step and octave; else by the key.
