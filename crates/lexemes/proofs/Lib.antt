@@ -2,4 +2,5 @@ pub mod Closed
 pub mod Ratio
 mod Bar
 mod Ending
-mod Sounding
+mod Plain
+pub mod Sounding

@@ -8,6 +8,7 @@ use lib.ListN.{length, getD, drop, length-drop, drop-of-length-le}
 use lib.Seq.{drop-drop}
 use Rattle.laws.proofs.Bools.{by-test}
 use Rattle.standard.specs.Pitches.{isLetter, stepOf}
+use Rattle.standard.specs.Bytes.{first}
 use Rattle.standard.specs.Notes as standard
 use Rattle.reader.specs.Lengths.{Length, lengthOf}
 use Rattle.reader.specs.Pitches.{octaveFrom, octaveOf, Before, accidentalOf}
@@ -15,7 +16,7 @@ use Rattle.reader.specs.Sounds.{behind, noteAs, noteAfter, noteOf}
 use Rattle.reader.specs.Tokens.{pitched, tokenAs}
 use Rattle.lengths.specs.declared.Suffix.{Suffix}
 use Rattle.lengths.specs.Values.{suffixAt}
-use Rattle.runs.proofs.Places.{drop-here}
+use Rattle.runs.proofs.Places.{drop-here, first-at}
 use Rattle.runs.specs.declared.Behind as runs
 use Rattle.runs.specs.Behind.{behindFor}
 use Rattle.pitches.specs.Pitches.{noteChar, markFor, markOf, beforeFor, octaveFor}
@@ -26,8 +27,9 @@ use Rattle.pitches.specs.declared.Before as code
 use Rattle.pitches.proofs.Octaves.{fine, refused}
 use Rattle.pitches.proofs.Walk.{mark-back}
 use Rattle.pitches.proofs.InChord.{mark-forth}
-use Rattle.lexemes.specs.Lexemes.{lexemeFor, cutFor}
+use Rattle.lexemes.specs.Lexemes.{isPlain, lexemeFor, cutFor}
 use Rattle.lexemes.specs.declared.Lexeme.the-variants.{Note, Nothing, Refused}
+use Rattle.lexemes.proofs.Plain.{plain-note}
 
 -- FROM THE LETTER ON
 note-out : (a : Before) (c : ℕ) (s : List ℕ) → octaveOf c s .fine ≡ false → (at : ℕ) → record { lexeme = Refused 12; next = at + (a .used + 1 + length s) } ≡ cutFor at (noteAs a c s)
@@ -59,6 +61,16 @@ module _ (line : List ℕ) (at : ℕ) (h : at < length line) (mark : Mark) (l : 
       by-test (o .fine)
       (λ f. let k = fine (at + 1) o f in let z : _≡_ {A = ℕ} 0 1 = cc in absurd (omega arith))
       (λ f. ap (λ x. record { lexeme = Refused 12; next = x }) n ∙ note-out (record { mark = markOf mark; used = 0 }) (getD line at 0) s f at)
+
+  -- a letter alone
+  pub letter-plain : isPlain (getD line (at + 1) 0) ≡ true
+      → record { lexeme = Note (record { step = l .step; octave = l .octave; mark = mark }) 1 1 false false; next = at + 1 } ≡ cutFor at (noteAs (record { mark = markOf mark; used = 0 }) (getD line at 0) (drop (at + 1) line))
+  unfolding lexemeFor
+  letter-plain p =
+      let q : isPlain (first (drop (at + 1) line)) ≡ true = ap isPlain (first-at line (at + 1)) ∙ p in
+      let m : mark ≡ markFor (markOf mark) = sym (mark-forth mark) in
+      (λ j. record { lexeme = Note (record { step = e j .step; octave = e j .octave; mark = m j }) 1 1 false false; next = at + 1 })
+      ∙ ap (cutFor at) (sym (plain-note (record { mark = markOf mark; used = 0 }) (getD line at 0) (drop (at + 1) line) q))
 
   pub letter-in : (octave next : ℕ) (r : octaveFor (at + 1) (octaveFrom (l .octave) (drop (at + 1) line)) ≡ At octave next)
       (len : Suffix) → len ≡ suffixAt line next → (b : runs.Behind) → b ≡ behindFor (len .next) (behind (drop (len .next) line))

@@ -1,5 +1,7 @@
 -- The definitions' tokens as the code has them.
 use Prim.Native.Nat.{ℕ, suc, _+_}
+use mathlib.Core.Bool.{Bool, _||_}
+use lib.Dec.{ltb}
 use lib.ListN.{length, getD}
 use Rattle.reader.specs.Lengths.{Length}
 use Rattle.reader.specs.Token.{Token, space, overlay, quoted, broken, tuplet, slur, graceOpen, graceClose, decoration, barline, volta, unit, meter, key, field, chord, rest, note, nothing, skipped, refused, Taken}
@@ -11,6 +13,10 @@ use Rattle.pitches.specs.Pitches.{pitchFor}
 use Rattle.lexemes.specs.declared.Lexeme.{Lexeme}
 use Rattle.lexemes.specs.declared.Lexeme.the-variants.{Space, Overlay, Quoted, Broken, Tuplet, Slur, GraceOpen, GraceClose, Decoration, Barline, Volta, Unit, Meter, Key, Field, Chord, Rest, Note, Nothing, Skipped, Refused}
 use Rattle.lexemes.specs.declared.Cut.{Cut}
+
+-- right behind a note's letter: neither an octave mark nor a length nor a tie nor a slur end begins with this byte
+abbrev pub isPlain : ℕ → Bool
+isPlain c = ltb c 39 || ltb 57 c
 
 -- the token whose first byte stands at a position
 unfoldable pub lexemeFor : ℕ → Token → Lexeme

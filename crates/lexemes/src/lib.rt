@@ -10,7 +10,7 @@ ghost use Rattle.reader.specs.PassLists.{voltaOf};
 ghost use Rattle.reader.specs.Sounds.{noteAs};
 ghost use Rattle.reader.specs.Tokens.{closedBy, brokenOf, quote, paren, bars, pitched, tokenAs};
 ghost use Rattle.pitches.specs.Pitches.{markOf};
-ghost use Rattle.lexemes.specs.Lexemes.{cutFor, restFor};
+ghost use Rattle.lexemes.specs.Lexemes.{isPlain, cutFor, restFor};
 use marks::Barline;
 use pitches::Mark;
 use pitches::Pitch;
@@ -222,12 +222,35 @@ pub fn rest(line: &[u8], at: usize, kind: u8) -> Cut
     }
 }
 
-// A note from its letter on, which stands at `at`, with the accidental before it; or refusal 12.
+// Behind a note's letter `b` ends the note: it is none of `'`, `)`, `,`, `-`, `/` and the digits.
+pub fn is_plain(b: u8) -> bool
+    ensures { λ r. ⌜ r ≡ isPlain b ⌝ }
+{
+    b < 39 || 57 < b
+}
+
+// A note from its letter on, which stands at `at`, with the accidental before it; or refusal 12. Most are a letter alone.
 fn note_from_letter(line: &[u8], at: usize, mark: Mark) -> Cut
     requires { ⌜ at < length (now line) ⌝ }
     ensures { λ r. ⌜ r ≡ cutFor at (noteAs (record { mark = markOf mark; used = 0 }) (getD (now (line .entry)) at 0) (drop (at + 1) (now (line .entry)))) ⌝ }
 {
     let letter = pitches::abc_note_char(line[at]);
+    if is_plain(numbers::byte_at(line, at + 1)) {
+        return Cut {
+            lexeme: Lexeme::Note {
+                pitch: Pitch {
+                    step: letter.step,
+                    octave: letter.octave,
+                    mark,
+                },
+                num: 1,
+                den: 1,
+                tie: false,
+                slur: false,
+            },
+            next: at + 1,
+        };
+    }
     let pitches::Octave::At {
         octave,
         next: after_octave,

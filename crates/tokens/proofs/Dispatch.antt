@@ -2,24 +2,27 @@
 use Prim.Native.Nat.{ℕ, _+_, _<_}
 use mathlib.Core.Path.{_≡_, refl, sym, ap, _∙_}
 use mathlib.Core.Bool.{Bool, true, false, not}
+use mathlib.Core.Option.{Option}
 use mathlib.Core.List.{List}
 use lib.Dec.{eqb}
 use lib.ListN.{getD, drop}
 use lib.Seq.{drop-drop}
 use borrow.Author.Tests.{eqb-false}
-use Rattle.laws.proofs.Bools.{not-true}
+use Rattle.laws.proofs.Bools.{by-test, not-true}
 use Rattle.laws.proofs.Finite.{below}
 use Rattle.standard.specs.Notes as Notes
 use Rattle.standard.specs.Bytes.{first}
+use Rattle.standard.specs.Pitches.{Accidental}
 use Rattle.reader.specs.Lengths.{lengthOf, valueOf}
 use Rattle.reader.specs.Codes.{kindCode}
-use Rattle.reader.specs.Sounds.{restAs}
+use Rattle.reader.specs.Pitches.{octaveOf}
+use Rattle.reader.specs.Sounds.{restAs, noteAs}
 use Rattle.reader.specs.Token.{Token, space, overlay, quoted, broken, tuplet, slur, graceOpen, graceClose, decoration, barline, volta, unit, meter, key, field, chord, rest, note, nothing, skipped, refused, Taken, taken}
 use Rattle.reader.specs.Tokens.{Class, white, ampersand, quote, more, less, paren, braceOpen, braceClose, bang, plus, bars, bracket, pitched, none-of-these, resting, classes, classIn, classOf, tokenAs, tokenOf, effectOf}
 use Rattle.marks.specs.Classes.{classCode}
 use Rattle.runs.proofs.Places.{first-at}
 use Rattle.lexemes.specs.Lexemes.{lexemeFor, cutFor, restFor}
-use Rattle.tokens.specs.Tokens.{restLength, tokenFor, valuedFor, effectFor, effectIn}
+use Rattle.tokens.specs.Tokens.{restLength, tokenFor, tokenisedFor, valuedFor, tokenisedIn, effectFor, effectedFor, effectIn, effectedIn}
 
 -- BY CLASS
 unfoldable pub byCode : ℕ → List ℕ → Taken
@@ -153,3 +156,15 @@ effect-token at (note w l b) = refl
 effect-token at nothing = refl
 effect-token at skipped = refl
 effect-token at (refused n) = refl
+
+-- with the position after the token
+pub valued-cut : (at u : ℕ) (t : Taken) → tokenisedIn u (cutFor at t) ≡ tokenisedFor at u t
+valued-cut at u t = ap (λ x. record { token = x; next = at + t .used }) (valued-token at u (t .token))
+
+pub effected : (at : ℕ) (t : Taken) → effectedIn (cutFor at t) ≡ effectedFor at t
+effected at t = ap (λ x. record { effect = x; next = at + t .used }) (effect-token at (t .token))
+
+-- the scan does not see a note's accidental
+pub marked : (at : ℕ) (a b : Option Accidental) (c : ℕ) (s : List ℕ) → effectedFor at (noteAs (record { mark = a; used = 0 }) c s) ≡ effectedFor at (noteAs (record { mark = b; used = 0 }) c s)
+unfolding noteAs effectOf effectFor
+marked at a b c s = by-test (octaveOf c s .fine) (λ f. rw (f, noteAs)) (λ f. rw (f, noteAs))

@@ -17,6 +17,7 @@ use Rattle.lengths.specs.declared.Length.the-variants.{WholeBar}
 use Rattle.lengths.specs.Values.{lengthAs}
 use Rattle.marks.specs.Bars.{barlineFor}
 use Rattle.pitches.specs.Pitches.{pitchFor}
+use Rattle.lexemes.specs.declared.Cut.{Cut}
 use Rattle.lexemes.specs.declared.Lexeme.{Lexeme}
 use Rattle.lexemes.specs.declared.Lexeme.the-variants as lexeme
 use Rattle.tokens.specs.declared.Token as code
@@ -100,6 +101,9 @@ valuedFor unitLength lexeme.Nothing = as-token.Nothing
 valuedFor unitLength lexeme.Skipped = as-token.Skipped
 valuedFor unitLength (lexeme.Refused x) = as-token.Refused x
 
+abbrev pub tokenisedIn : ℕ → Cut → Tokenised
+tokenisedIn unitLength c = record { token = valuedFor unitLength (c .lexeme); next = c .next }
+
 unfoldable pub effectIn : Lexeme → Effect
 effectIn lexeme.Space = effect.Passes
 effectIn lexeme.Overlay = effect.Passes
@@ -122,3 +126,6 @@ effectIn (lexeme.Note pitch num den tied slurred) = effect.Counts
 effectIn lexeme.Nothing = effect.Passes
 effectIn lexeme.Skipped = effect.Passes
 effectIn (lexeme.Refused x) = effect.Refuses x
+
+abbrev pub effectedIn : Cut → Effected
+effectedIn c = record { effect = effectIn (c .lexeme); next = c .next }

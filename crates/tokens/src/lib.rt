@@ -1,11 +1,13 @@
 // One token of a music line: the reader by letter class; the token with its written value; and what the scan of the whole text wants of it.
 ghost use mathlib.Core.Path.{_≡_};
-ghost use Prim.Native.Nat.{_<_};
-ghost use lib.ListN.{length, drop};
-ghost use Rattle.reader.specs.Tokens.{tokenOf};
-ghost use Rattle.marks.specs.Classes.{classTable};
+ghost use mathlib.Core.Option.{none};
+ghost use Prim.Native.Nat.{_+_, _<_};
+ghost use lib.ListN.{length, drop, getD};
+ghost use Rattle.reader.specs.Sounds.{noteAs};
+ghost use Rattle.reader.specs.Tokens.{pitched, classOf, tokenAs, tokenOf};
+ghost use Rattle.marks.specs.Classes.{classCode, classTable};
 ghost use Rattle.lexemes.specs.Lexemes.{cutFor};
-ghost use Rattle.tokens.specs.Tokens.{tokenisedFor, valuedFor, effectIn, effectedFor};
+ghost use Rattle.tokens.specs.Tokens.{tokenisedFor, valuedFor, tokenisedIn, effectIn, effectedFor};
 use lengths::Length;
 use lexemes::Cut;
 use lexemes::Lexeme;
@@ -91,12 +93,11 @@ pub struct Effected {
     pub next: usize,
 }
 
-// The token at `at` as it stands there. `classes` is what `letter_classes` makes, once for a call.
-pub fn lexeme_at(line: &[u8], at: usize, classes: &[u8; 128]) -> Cut
-    requires { ⌜ (at < length (now line)) × (now classes ≡ classTable) ⌝ }
+// The token at `at` as it stands there, by the class of its first byte.
+fn lexeme_at(line: &[u8], at: usize, class: u8) -> Cut
+    requires { ⌜ (at < length (now line)) × (class ≡ classCode (classOf (getD (now line) at 0))) ⌝ }
     ensures { λ r. ⌜ r ≡ cutFor at (tokenOf (drop at (now (line .entry)))) ⌝ }
 {
-    let class = marks::class_of(classes, line[at]);
     match class {
         marks::WHITE => Cut {
             lexeme: Lexeme::Space,
@@ -206,18 +207,46 @@ fn valued(lexeme: Lexeme, unit: u32) -> Token
     }
 }
 
-// The token at `at`, under the unit 1 / `unit`.
+// A token with the written value of its length, and the position after it. Most are notes: these are looked for first.
+fn tokenise(cut: Cut, unit: u32) -> Tokenised
+    ensures { λ r. ⌜ r ≡ tokenisedIn unit cut ⌝ }
+{
+    let lexeme = cut.lexeme;
+    let next = cut.next;
+    let Lexeme::Note {
+        pitch,
+        num,
+        den,
+        tie,
+        slur,
+    } = lexeme
+    else {
+        return Tokenised {
+            token: valued(lexeme, unit),
+            next,
+        };
+    };
+    Tokenised {
+        token: Token::Note {
+            pitch,
+            length: lengths::abc_note_value(unit, num, den),
+            tie,
+            slur,
+        },
+        next,
+    }
+}
+
+// The token at `at`, under the unit 1 / `unit`. `classes` is what `letter_classes` makes, once for a call. A note is read without the switch of `lexeme_at`.
 pub fn token_at(line: &[u8], at: usize, unit: u32, classes: &[u8; 128]) -> Tokenised
     requires { ⌜ (at < length (now line)) × (now classes ≡ classTable) ⌝ }
     ensures { λ r. ⌜ r ≡ tokenisedFor at unit (tokenOf (drop at (now (line .entry)))) ⌝ }
 {
-    let cut = lexeme_at(line, at, classes);
-    let lexeme = cut.lexeme;
-    let next = cut.next;
-    Tokenised {
-        token: valued(lexeme, unit),
-        next,
+    let class = marks::class_of(classes, line[at]);
+    if class == marks::PITCHED {
+        return tokenise(lexemes::note(line, at), unit);
     }
+    tokenise(lexeme_at(line, at, class), unit)
 }
 
 fn effect_of(lexeme: Lexeme) -> Effect
@@ -279,12 +308,75 @@ fn effect_of(lexeme: Lexeme) -> Effect
     }
 }
 
-// What the scan wants of the token at `at`: no written value is sought.
+// What the scan wants of a note from its letter on, which stands at `at`: its end alone is sought.
+fn letter_effect(line: &[u8], at: usize) -> Effected
+    requires { ⌜ at < length (now line) ⌝ }
+    ensures { λ r. ⌜ r ≡ effectedFor at (noteAs (record { mark = none; used = 0 }) (getD (now (line .entry)) at 0) (drop (at + 1) (now (line .entry)))) ⌝ }
+{
+    if lexemes::is_plain(numbers::byte_at(line, at + 1)) {
+        return Effected {
+            effect: Effect::Counts,
+            next: at + 1,
+        };
+    }
+    let letter = pitches::abc_note_char(line[at]);
+    let pitches::Octave::At {
+        octave: _,
+        next: after_octave,
+    } = pitches::octave_marks(line, at + 1, letter.octave)
+    else {
+        return Effected {
+            effect: Effect::Refuses(12),
+            next: line.len(),
+        };
+    };
+    let length = lengths::parse_duration_suffix(line, after_octave);
+    let after_length = length.next;
+    let behind = runs::note_annotations(line, after_length);
+    Effected {
+        effect: Effect::Counts,
+        next: behind.next,
+    }
+}
+
+// What the scan wants of a note with its accidentals.
+fn note_effect(line: &[u8], at: usize) -> Effected
+    requires { ⌜ at < length (now line) ⌝ }
+    ensures { λ r. ⌜ r ≡ effectedFor at (tokenAs pitched (drop at (now (line .entry)))) ⌝ }
+{
+    let before = pitches::accidental_before(line, at);
+    let place = before.next;
+    if line.len() <= place {
+        return Effected {
+            effect: Effect::Passes,
+            next: place,
+        };
+    }
+    if pitches::is_letter(line[place]) {
+        return letter_effect(line, place);
+    }
+    Effected {
+        effect: Effect::Passes,
+        next: place + 1,
+    }
+}
+
+// What the scan wants of the token at `at`: no written value is sought, and of a note or white space no lexeme is made.
 pub fn effect_at(line: &[u8], at: usize, classes: &[u8; 128]) -> Effected
     requires { ⌜ (at < length (now line)) × (now classes ≡ classTable) ⌝ }
     ensures { λ r. ⌜ r ≡ effectedFor at (tokenOf (drop at (now (line .entry)))) ⌝ }
 {
-    let cut = lexeme_at(line, at, classes);
+    let class = marks::class_of(classes, line[at]);
+    if class == marks::PITCHED {
+        return note_effect(line, at);
+    }
+    if class == marks::WHITE {
+        return Effected {
+            effect: Effect::Passes,
+            next: at + 1,
+        };
+    }
+    let cut = lexeme_at(line, at, class);
     let lexeme = cut.lexeme;
     let next = cut.next;
     Effected {

@@ -1,10 +1,38 @@
 -- `tokens::effect_at` meets its contract.
+use mathlib.Core.Path.{sym, ap, _∙_}
 use lib.ListN.{drop}
-use Rattle.reader.specs.Tokens.{tokenOf}
-use Rattle.tokens.proofs.Dispatch.{effect-token}
+use Rattle.reader.specs.Tokens.{tokenAs, tokenOf, effectOf}
+use Rattle.tokens.specs.Tokens.{effectFor, effectedFor}
+use Rattle.tokens.proofs.Dispatch.{byCode, classed, effect-token}
 use borrow.Author.Needs.{needs}
 use Rattle.tokens.proofs.effect_at.Statement.{statement}
 use Rattle.tokens.proofs.effect_at.Tie as tie
+
+shared-slice-read-class-of : tie.Need-shared-slice-read-class-of
+shared-slice-read-class-of c = search needs
+
+class-of-requires : tie.Need-class-of-requires
+class-of-requires c κs = search needs
+
+note-effect-requires : tie.Need-note-effect-requires
+note-effect-requires c κs = search needs
+
+returns : tie.Need-returns
+unfolding byCode
+returns c =
+    let k = c .before .before in
+    let a = k .before .before .before .args in
+    c .note-effect .ensures ∙ ap (effectedFor (a .at)) (sym (classed (a .line .now) (a .at) (k .class-of .result) 17 (k .class-of .ensures) (c .before .if1 .taken)))
+
+add-t12 : tie.Need-add-t12
+add-t12 c = search needs
+
+returns-2 : tie.Need-returns-2
+unfolding byCode tokenAs effectOf effectFor
+returns-2 c =
+    let k = c .before .before in
+    let a = k .before .before .before .args in
+    ap (effectedFor (a .at)) (sym (classed (a .line .now) (a .at) (k .class-of .result) 1 (k .class-of .ensures) (c .if2 .taken)))
 
 lexeme-at-requires : tie.Need-lexeme-at-requires
 lexeme-at-requires c κs = search needs
@@ -12,10 +40,21 @@ lexeme-at-requires c κs = search needs
 effect-of-requires : tie.Need-effect-of-requires
 effect-of-requires c κs = search needs
 
-returns : tie.Need-returns
-returns c =
-    let a = c .before .before .before .args in
+returns-3 : tie.Need-returns-3
+returns-3 c =
+    let a = c .before .before .before .before .before .before .before .args in
     rw (c .effect-of .ensures, c .before .lexeme-at .ensures, effect-token (a .at) (tokenOf (drop (a .at) (a .line .now)) .token))
 
 pub effect-at-spec : {M : Type 1} → statement M
-effect-at-spec = tie.close (tie.spec lexeme-at-requires effect-of-requires returns)
+effect-at-spec =
+    tie.close
+    (tie.spec
+    shared-slice-read-class-of
+    class-of-requires
+    note-effect-requires
+    returns
+    add-t12
+    returns-2
+    lexeme-at-requires
+    effect-of-requires
+    returns-3)

@@ -12,17 +12,11 @@ use borrow.Author.Needs.{needs}
 use Rattle.tokens.proofs.lexeme_at.Statement.{statement}
 use Rattle.tokens.proofs.lexeme_at.Tie as tie
 
-shared-slice-read-class-of : tie.Need-shared-slice-read-class-of
-shared-slice-read-class-of c = search needs
+add-t6 : tie.Need-add-t6
+add-t6 c = search needs
 
-class-of-requires : tie.Need-class-of-requires
-class-of-requires c κs = search needs
-
-add-t9 : tie.Need-add-t9
-add-t9 c = search needs
-
-add-t11 : tie.Need-add-t11
-add-t11 c = search needs
+add-t8 : tie.Need-add-t8
+add-t8 c = search needs
 
 quoted-text-requires : tie.Need-quoted-text-requires
 quoted-text-requires c κs = search needs
@@ -36,11 +30,11 @@ broken-requires-2 c κs = search needs
 tuplet-or-slur-requires : tie.Need-tuplet-or-slur-requires
 tuplet-or-slur-requires c κs = search needs
 
-add-t13 : tie.Need-add-t13
-add-t13 c = search needs
+add-t10 : tie.Need-add-t10
+add-t10 c = search needs
 
-add-t15 : tie.Need-add-t15
-add-t15 c = search needs
+add-t12 : tie.Need-add-t12
+add-t12 c = search needs
 
 decoration-requires : tie.Need-decoration-requires
 decoration-requires c κs = search needs
@@ -69,138 +63,135 @@ rest-requires-4 c κs = search needs
 note-requires : tie.Need-note-requires
 note-requires c κs = search needs
 
-add-t17 : tie.Need-add-t17
-add-t17 c = search needs
+add-t14 : tie.Need-add-t14
+add-t14 c = search needs
 
 -- the token, where the class is known
-by-class : (c : tie.After-class-of) (n : ℕ) → c .class-of .result ≡ n
-    → tokenOf (drop (c .before .before .before .args .at) (c .before .before .before .args .line .now)) ≡ byCode n (drop (c .before .before .before .args .at) (c .before .before .before .args .line .now))
-by-class c n e = classed (c .before .before .before .args .line .now) (c .before .before .before .args .at) (c .class-of .result) n (c .class-of .ensures) e
+by-class : (c : tie.Start) (n : ℕ) → c .args .class ≡ n → tokenOf (drop (c .args .at) (c .args .line .now)) ≡ byCode n (drop (c .args .at) (c .args .line .now))
+by-class c n e = classed (c .args .line .now) (c .args .at) (c .args .class) n (c .pre .1) e
 
 returns : tie.Need-returns
 unfolding byCode tokenAs lexemeFor
 returns c =
-    let k = c .before in
-    ap (cutFor (k .before .before .before .args .at)) (sym (by-class k 1 (c .match .keys1)))
+    let k = c .before .before in
+    ap (cutFor (k .args .at)) (sym (by-class k 1 (c .match .keys1)))
 
 returns-2 : tie.Need-returns-2
 unfolding byCode tokenAs lexemeFor
 returns-2 c =
-    let k = c .before in
-    ap (cutFor (k .before .before .before .args .at)) (sym (by-class k 2 (c .match .keys2)))
+    let k = c .before .before in
+    ap (cutFor (k .args .at)) (sym (by-class k 2 (c .match .keys2)))
 
 returns-3 : tie.Need-returns-3
 unfolding byCode
 returns-3 c =
-    let k = c .before .before in
-    c .quoted-text .ensures ∙ ap (cutFor (k .before .before .before .args .at)) (sym (by-class k 3 (c .before .match .keys3)))
+    let k = c .before .before .before in
+    c .quoted-text .ensures ∙ ap (cutFor (k .args .at)) (sym (by-class k 3 (c .before .match .keys3)))
 
 returns-4 : tie.Need-returns-4
 unfolding byCode tokenAs
 returns-4 c =
-    let k = c .before .before in
-    c .broken .ensures ∙ ap (cutFor (k .before .before .before .args .at)) (sym (by-class k 4 (c .before .match .keys4)))
+    let k = c .before .before .before in
+    c .broken .ensures ∙ ap (cutFor (k .args .at)) (sym (by-class k 4 (c .before .match .keys4)))
 
 returns-5 : tie.Need-returns-5
 unfolding byCode tokenAs
 returns-5 c =
-    let k = c .before .before in
-    c .broken2 .ensures ∙ ap (cutFor (k .before .before .before .args .at)) (sym (by-class k 5 (c .before .match .keys5)))
+    let k = c .before .before .before in
+    c .broken2 .ensures ∙ ap (cutFor (k .args .at)) (sym (by-class k 5 (c .before .match .keys5)))
 
 returns-6 : tie.Need-returns-6
 unfolding byCode
 returns-6 c =
-    let k = c .before .before in
-    c .tuplet-or-slur .ensures ∙ ap (cutFor (k .before .before .before .args .at)) (sym (by-class k 6 (c .before .match .keys6)))
+    let k = c .before .before .before in
+    c .tuplet-or-slur .ensures ∙ ap (cutFor (k .args .at)) (sym (by-class k 6 (c .before .match .keys6)))
 
 returns-7 : tie.Need-returns-7
 unfolding byCode tokenAs lexemeFor
 returns-7 c =
-    let k = c .before in
-    ap (cutFor (k .before .before .before .args .at)) (sym (by-class k 7 (c .match .keys7)))
+    let k = c .before .before in
+    ap (cutFor (k .args .at)) (sym (by-class k 7 (c .match .keys7)))
 
 returns-8 : tie.Need-returns-8
 unfolding byCode tokenAs lexemeFor
 returns-8 c =
-    let k = c .before in
-    ap (cutFor (k .before .before .before .args .at)) (sym (by-class k 8 (c .match .keys8)))
+    let k = c .before .before in
+    ap (cutFor (k .args .at)) (sym (by-class k 8 (c .match .keys8)))
 
 returns-9 : tie.Need-returns-9
 unfolding byCode tokenAs
 returns-9 c =
-    let k = c .before .before in
-    c .decoration .ensures ∙ ap (cutFor (k .before .before .before .args .at)) (sym (by-class k 9 (c .before .match .keys9)))
+    let k = c .before .before .before in
+    c .decoration .ensures ∙ ap (cutFor (k .args .at)) (sym (by-class k 9 (c .before .match .keys9)))
 
 returns-10 : tie.Need-returns-10
 unfolding byCode tokenAs
 returns-10 c =
-    let k = c .before .before in
-    c .decoration2 .ensures ∙ ap (cutFor (k .before .before .before .args .at)) (sym (by-class k 10 (c .before .match .keys10)))
+    let k = c .before .before .before in
+    c .decoration2 .ensures ∙ ap (cutFor (k .args .at)) (sym (by-class k 10 (c .before .match .keys10)))
 
 returns-11 : tie.Need-returns-11
 unfolding byCode
 returns-11 c =
-    let k = c .before .before in
-    c .bar-line .ensures ∙ ap (cutFor (k .before .before .before .args .at)) (sym (by-class k 11 (c .before .match .keys11)))
+    let k = c .before .before .before in
+    c .bar-line .ensures ∙ ap (cutFor (k .args .at)) (sym (by-class k 11 (c .before .match .keys11)))
 
 returns-12 : tie.Need-returns-12
 unfolding byCode
 returns-12 c =
-    let k = c .before .before in
-    c .bracket .ensures ∙ ap (cutFor (k .before .before .before .args .at)) (sym (by-class k 12 (c .before .match .keys12)))
+    let k = c .before .before .before in
+    c .bracket .ensures ∙ ap (cutFor (k .args .at)) (sym (by-class k 12 (c .before .match .keys12)))
 
 returns-13 : tie.Need-returns-13
 unfolding byCode tokenAs kindCode
 returns-13 c =
-    let k = c .before .before in
-    c .rest .ensures ∙ rest-cut (k .before .before .before .args .line .now) (k .before .before .before .args .at) Notes.rest ∙ ap (cutFor (k .before .before .before .args .at)) (sym (by-class k 13 (c .before .match .keys13)))
+    let k = c .before .before .before in
+    c .rest .ensures ∙ rest-cut (k .args .line .now) (k .args .at) Notes.rest ∙ ap (cutFor (k .args .at)) (sym (by-class k 13 (c .before .match .keys13)))
 
 returns-14 : tie.Need-returns-14
 unfolding byCode tokenAs kindCode
 returns-14 c =
-    let k = c .before .before in
-    c .rest2 .ensures ∙ rest-cut (k .before .before .before .args .line .now) (k .before .before .before .args .at) Notes.invisibleRest ∙ ap (cutFor (k .before .before .before .args .at)) (sym (by-class k 14 (c .before .match .keys14)))
+    let k = c .before .before .before in
+    c .rest2 .ensures ∙ rest-cut (k .args .line .now) (k .args .at) Notes.invisibleRest ∙ ap (cutFor (k .args .at)) (sym (by-class k 14 (c .before .match .keys14)))
 
 returns-15 : tie.Need-returns-15
 unfolding byCode tokenAs kindCode
 returns-15 c =
-    let k = c .before .before in
-    c .rest3 .ensures ∙ rest-cut (k .before .before .before .args .line .now) (k .before .before .before .args .at) Notes.barRest ∙ ap (cutFor (k .before .before .before .args .at)) (sym (by-class k 15 (c .before .match .keys15)))
+    let k = c .before .before .before in
+    c .rest3 .ensures ∙ rest-cut (k .args .line .now) (k .args .at) Notes.barRest ∙ ap (cutFor (k .args .at)) (sym (by-class k 15 (c .before .match .keys15)))
 
 returns-16 : tie.Need-returns-16
 unfolding byCode tokenAs kindCode
 returns-16 c =
-    let k = c .before .before in
-    c .rest4 .ensures ∙ rest-cut (k .before .before .before .args .line .now) (k .before .before .before .args .at) Notes.invisibleBarRest ∙ ap (cutFor (k .before .before .before .args .at)) (sym (by-class k 16 (c .before .match .keys16)))
+    let k = c .before .before .before in
+    c .rest4 .ensures ∙ rest-cut (k .args .line .now) (k .args .at) Notes.invisibleBarRest ∙ ap (cutFor (k .args .at)) (sym (by-class k 16 (c .before .match .keys16)))
 
 returns-17 : tie.Need-returns-17
 unfolding byCode
 returns-17 c =
-    let k = c .before .before in
-    c .note .ensures ∙ ap (cutFor (k .before .before .before .args .at)) (sym (by-class k 17 (c .before .match .keys17)))
+    let k = c .before .before .before in
+    c .note .ensures ∙ ap (cutFor (k .args .at)) (sym (by-class k 17 (c .before .match .keys17)))
 
 returns-18 : tie.Need-returns-18
 unfolding lexemeFor
 returns-18 c =
-    let k = c .before in
-    let a = k .before .before .before .args in
-    let h : getD (a .line .now) (a .at) 0 < 256 = omega (arith, k .before .shared-slice-known2 .given (a .at)) in
-    ap (cutFor (a .at)) (unclassed (a .line .now) (a .at) (k .class-of .result) h (k .class-of .ensures) (c .match .rest .0 .0 .0 .0 .0 .0 .0 .0 .0 .0 .0 .0 .0 .0 .0 .0 .1) (c .match .rest .0 .0 .0 .0 .0 .0 .0 .0 .0 .0 .0 .0 .0 .0 .0 .1) (c .match .rest .0 .0 .0 .0 .0 .0 .0 .0 .0 .0 .0 .0 .0 .0 .1) (c .match .rest .0 .0 .0 .0 .0 .0 .0 .0 .0 .0 .0 .0 .0 .1) (c .match .rest .0 .0 .0 .0 .0 .0 .0 .0 .0 .0 .0 .0 .1) (c .match .rest .0 .0 .0 .0 .0 .0 .0 .0 .0 .0 .0 .1) (c .match .rest .0 .0 .0 .0 .0 .0 .0 .0 .0 .0 .1) (c .match .rest .0 .0 .0 .0 .0 .0 .0 .0 .0 .1) (c .match .rest .0 .0 .0 .0 .0 .0 .0 .0 .1) (c .match .rest .0 .0 .0 .0 .0 .0 .0 .1) (c .match .rest .0 .0 .0 .0 .0 .0 .1) (c .match .rest .0 .0 .0 .0 .0 .1) (c .match .rest .0 .0 .0 .0 .1) (c .match .rest .0 .0 .0 .1) (c .match .rest .0 .0 .1) (c .match .rest .0 .1) (c .match .rest .1))
+    let k = c .before .before in
+    let a = k .args in
+    let h : getD (a .line .now) (a .at) 0 < 256 = omega (arith, c .before .shared-slice-known .given (a .at)) in
+    ap (cutFor (a .at)) (unclassed (a .line .now) (a .at) (a .class) h (k .pre .1) (c .match .rest .0 .0 .0 .0 .0 .0 .0 .0 .0 .0 .0 .0 .0 .0 .0 .0 .1) (c .match .rest .0 .0 .0 .0 .0 .0 .0 .0 .0 .0 .0 .0 .0 .0 .0 .1) (c .match .rest .0 .0 .0 .0 .0 .0 .0 .0 .0 .0 .0 .0 .0 .0 .1) (c .match .rest .0 .0 .0 .0 .0 .0 .0 .0 .0 .0 .0 .0 .0 .1) (c .match .rest .0 .0 .0 .0 .0 .0 .0 .0 .0 .0 .0 .0 .1) (c .match .rest .0 .0 .0 .0 .0 .0 .0 .0 .0 .0 .0 .1) (c .match .rest .0 .0 .0 .0 .0 .0 .0 .0 .0 .0 .1) (c .match .rest .0 .0 .0 .0 .0 .0 .0 .0 .0 .1) (c .match .rest .0 .0 .0 .0 .0 .0 .0 .0 .1) (c .match .rest .0 .0 .0 .0 .0 .0 .0 .1) (c .match .rest .0 .0 .0 .0 .0 .0 .1) (c .match .rest .0 .0 .0 .0 .0 .1) (c .match .rest .0 .0 .0 .0 .1) (c .match .rest .0 .0 .0 .1) (c .match .rest .0 .0 .1) (c .match .rest .0 .1) (c .match .rest .1))
 
 pub lexeme-at-spec : {M : Type 1} → statement M
 lexeme-at-spec =
     tie.close
     (tie.spec
-    shared-slice-read-class-of
-    class-of-requires
-    add-t9
-    add-t11
+    add-t6
+    add-t8
     quoted-text-requires
     broken-requires
     broken-requires-2
     tuplet-or-slur-requires
-    add-t13
-    add-t15
+    add-t10
+    add-t12
     decoration-requires
     decoration-requires-2
     bar-line-requires
@@ -210,7 +201,7 @@ lexeme-at-spec =
     rest-requires-3
     rest-requires-4
     note-requires
-    add-t17
+    add-t14
     returns
     returns-2
     returns-3

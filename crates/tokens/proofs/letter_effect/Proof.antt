@@ -1,0 +1,106 @@
+-- `tokens::letter_effect` meets its contract.
+use Prim.Native.Nat.{_+_}
+use mathlib.Core.Path.{_≡_, sym, ap, _∙_, refl}
+use mathlib.Core.Bool.{true}
+use mathlib.Core.Option.{none}
+use lib.ListN.{getD, drop}
+use Rattle.reader.specs.Sounds.{noteAs}
+use Rattle.pitches.specs.Pitches.{noteChar}
+use Rattle.pitches.specs.declared.Mark.the-variants as mark
+use Rattle.lexemes.specs.Lexemes.{isPlain}
+use Rattle.lexemes.proofs.Sounding.{letter-out, letter-plain, letter-in}
+use Rattle.tokens.specs.Tokens.{effectIn, effectedIn}
+use Rattle.tokens.proofs.Dispatch.{effected}
+use borrow.Author.Needs.{needs}
+use Rattle.tokens.proofs.letter_effect.Statement.{statement}
+use Rattle.tokens.proofs.letter_effect.Tie as tie
+
+add-byte-at : tie.Need-add-byte-at
+add-byte-at c = search needs
+
+byte-at-requires : tie.Need-byte-at-requires
+byte-at-requires c κs = search needs
+
+is-plain-requires : tie.Need-is-plain-requires
+is-plain-requires c κs = search needs
+
+add-t12 : tie.Need-add-t12
+add-t12 c = search needs
+
+returns : tie.Need-returns
+unfolding effectIn
+returns c =
+    let p = c .before in
+    let s = p .before .before .before in
+    let line = s .args .line .now in
+    let at = s .args .at in
+    let e : isPlain (getD line (at + 1) 0) ≡ true = ap isPlain (sym (p .before .byte-at .ensures)) ∙ sym (p .is-plain .ensures) ∙ c .if1 .taken in
+    ap effectedIn (letter-plain line at (s .pre) mark.Nothing (noteChar (getD line at 0)) refl e) ∙ effected at (noteAs (record { mark = none; used = 0 }) (getD line at 0) (drop (at + 1) line))
+
+shared-slice-read-abc-note-char : tie.Need-shared-slice-read-abc-note-char
+shared-slice-read-abc-note-char c = search needs
+
+abc-note-char-requires : tie.Need-abc-note-char-requires
+abc-note-char-requires c κs = search needs
+
+add-octave-marks : tie.Need-add-octave-marks
+add-octave-marks c = search needs
+
+octave-marks-requires : tie.Need-octave-marks-requires
+octave-marks-requires c κs = search needs
+
+enum-known-after-octave : tie.Need-enum-known-after-octave
+enum-known-after-octave c = search needs
+
+enum-told : tie.Need-enum-told
+enum-told c = search needs
+
+returns-2 : tie.Need-returns-2
+unfolding effectIn
+returns-2 c =
+    let o = c .before .before in
+    let n = o .before in
+    let s = n .before .before .before .before .before .before in
+    let line = s .args .line .now in
+    let at = s .args .at in
+    ap effectedIn (letter-out line at (s .pre) mark.Nothing (n .abc-note-char .result) (n .abc-note-char .ensures) (sym (o .octave-marks .ensures) ∙ c .enum-told .given .1))
+    ∙ effected at (noteAs (record { mark = none; used = 0 }) (getD line at 0) (drop (at + 1) line))
+
+parse-duration-suffix-requires : tie.Need-parse-duration-suffix-requires
+parse-duration-suffix-requires c κs = search needs
+
+note-annotations-requires : tie.Need-note-annotations-requires
+note-annotations-requires c κs = search needs
+
+returns-3 : tie.Need-returns-3
+unfolding effectIn
+returns-3 c =
+    let o = c .before .before .before .before .before in
+    let n = o .before in
+    let s = n .before .before .before .before .before .before in
+    let line = s .args .line .now in
+    let at = s .args .at in
+    let g = c .before .before .before .after-octave .given in
+    ap effectedIn (letter-in line at (s .pre) mark.Nothing (n .abc-note-char .result) (n .abc-note-char .ensures) (g .0 .0) (g .0 .1 .0) (sym (o .octave-marks .ensures) ∙ g .1)
+    (c .before .parse-duration-suffix .result) (c .before .parse-duration-suffix .ensures) (c .note-annotations .result) (c .note-annotations .ensures))
+    ∙ effected at (noteAs (record { mark = none; used = 0 }) (getD line at 0) (drop (at + 1) line))
+
+pub letter-effect-spec : {M : Type 1} → statement M
+letter-effect-spec =
+    tie.close
+    (tie.spec
+    add-byte-at
+    byte-at-requires
+    is-plain-requires
+    add-t12
+    returns
+    shared-slice-read-abc-note-char
+    abc-note-char-requires
+    add-octave-marks
+    octave-marks-requires
+    enum-known-after-octave
+    enum-told
+    returns-2
+    parse-duration-suffix-requires
+    note-annotations-requires
+    returns-3)

@@ -1,0 +1,72 @@
+-- `tokens::note_effect` meets its contract.
+use Prim.Native.Nat.{_+_}
+use mathlib.Core.Path.{sym, ap, _∙_}
+use mathlib.Core.Option.{none}
+use lib.ListN.{getD, drop}
+use Rattle.reader.specs.Sounds.{noteAs}
+use Rattle.reader.specs.Tokens.{pitched, tokenAs}
+use Rattle.pitches.specs.Pitches.{markOf}
+use Rattle.lexemes.proofs.Sounding.{note-ends, note-other, note-letter}
+use Rattle.tokens.specs.Tokens.{effectIn, effectedIn}
+use Rattle.tokens.proofs.Dispatch.{effected, marked}
+use borrow.Author.Needs.{needs}
+use Rattle.tokens.proofs.note_effect.Statement.{statement}
+use Rattle.tokens.proofs.note_effect.Tie as tie
+
+accidental-before-requires : tie.Need-accidental-before-requires
+accidental-before-requires c κs = search needs
+
+returns : tie.Need-returns
+unfolding effectIn
+returns c =
+    let b = c .before in
+    let a = b .before .before .args in
+    ap effectedIn (note-ends (a .line .now) (a .at) (b .accidental-before .result) (b .accidental-before .ensures) (c .if1 .taken)) ∙ effected (a .at) (tokenAs pitched (drop (a .at) (a .line .now)))
+
+shared-slice-read-is-letter : tie.Need-shared-slice-read-is-letter
+shared-slice-read-is-letter c = search needs
+
+is-letter-requires : tie.Need-is-letter-requires
+is-letter-requires c κs = search needs
+
+letter-effect-requires : tie.Need-letter-effect-requires
+letter-effect-requires c κs = search needs
+
+returns-2 : tie.Need-returns-2
+returns-2 c =
+    let e = c .before .before .before .before in
+    let b = e .before in
+    let a = b .before .before .args in
+    let before = b .accidental-before .result in
+    let place = before .next in
+    let line = a .line .now in
+    c .letter-effect .ensures
+    ∙ marked place none (markOf (before .mark)) (getD line place 0) (drop (place + 1) line)
+    ∙ sym (effected place (noteAs (record { mark = markOf (before .mark); used = 0 }) (getD line place 0) (drop (place + 1) line)))
+    ∙ ap effectedIn (note-letter line (a .at) before (b .accidental-before .ensures) (e .if1 .left) (sym (c .before .before .is-letter .ensures) ∙ c .before .if2 .taken))
+    ∙ effected (a .at) (tokenAs pitched (drop (a .at) line))
+
+add-t5 : tie.Need-add-t5
+add-t5 c = search needs
+
+returns-3 : tie.Need-returns-3
+unfolding effectIn
+returns-3 c =
+    let e = c .before .before .before in
+    let b = e .before in
+    let a = b .before .before .args in
+    ap effectedIn (note-other (a .line .now) (a .at) (b .accidental-before .result) (b .accidental-before .ensures) (e .if1 .left) (sym (c .before .is-letter .ensures) ∙ c .if2 .left))
+    ∙ effected (a .at) (tokenAs pitched (drop (a .at) (a .line .now)))
+
+pub note-effect-spec : {M : Type 1} → statement M
+note-effect-spec =
+    tie.close
+    (tie.spec
+    accidental-before-requires
+    returns
+    shared-slice-read-is-letter
+    is-letter-requires
+    letter-effect-requires
+    returns-2
+    add-t5
+    returns-3)
