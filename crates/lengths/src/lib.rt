@@ -30,10 +30,23 @@ enum Best {
     Found(u8, u8, u64),
 }
 
-// The number of 32 bits at `at`; `other` where there is none, or it is past 32 bits.
+// The number of 32 bits at `at`; `other` where there is none, or it is past 32 bits. Most have one digit, or none.
 fn number_or(line: &[u8], at: usize, other: u32) -> Number
     ensures { λ r. ⌜ r ≡ numberOr other (now (line .entry)) at ⌝ }
 {
+    let first = numbers::byte_at(line, at);
+    if !numbers::is_digit(first) {
+        return Number {
+            value: other,
+            next: at,
+        };
+    }
+    if !numbers::is_digit(numbers::byte_at(line, at + 1)) {
+        return Number {
+            value: (first - 48) as u32,
+            next: at + 1,
+        };
+    }
     let read = numbers::read_number(line, at, 4294967295);
     let digits = read.digits;
     let next = read.next;
