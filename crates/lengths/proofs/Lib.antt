@@ -1,4 +1,5 @@
 pub mod Suffixes
 pub mod Sizes
 pub mod Searches
+pub mod Common
 pub mod Broken

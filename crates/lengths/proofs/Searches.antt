@@ -9,14 +9,14 @@ use native.Mathlib.Numerals.{add-one}
 use native.Mathlib.Omega.{arith}
 use lib.Dec.{leb, ltb, eqb}
 use lib.ListN.{length, getD}
-use borrow.Author.Tests.{leb-true, le-leb, lt-leb, ltb-true, ltb-false, eqb-true, eqb-false, ne-eqb, lt-ltb}
-use Rattle.laws.proofs.Bools.{by-test, and-left, and-right, and-no-left, and-no-right}
+use borrow.Author.Tests.{leb-true, le-leb, lt-leb, ltb-true, ltb-false, eqb-true, eqb-false, eq-eqb, ne-eqb, lt-ltb}
+use Rattle.laws.proofs.Bools.{by-test, and-left, and-right, and-no-left, and-no-right, same-test}
 use Rattle.laws.proofs.Finite.{below, below₂}
 use Rattle.standard.specs.Lengths.{Value, ticks, tenValues, withDots, forty}
 use Rattle.reader.specs.Lengths.{quarterNote, longa, notAbove, writtenAs}
 use Rattle.lengths.specs.declared.Best.{Best}
 use Rattle.lengths.specs.declared.Best.the-variants.{Nothing, Found}
-use Rattle.lengths.specs.Values.{written, longerOf}
+use Rattle.lengths.specs.Values.{written, fraction, longerOf}
 use Rattle.lengths.proofs.Sizes.{size-pos, bounded-leb}
 
 -- THE DEFINITION
@@ -205,51 +205,55 @@ abbrev pub answer : Best → Value
 answer Nothing = quarterNote
 answer (Found v d s) = written v d
 
-module _ (num parts : ℕ) (small : num < 2 ^ 32) where
+-- the bound leaves the answer as it is
+pub written-bounded : (num parts : ℕ) → num < 2 ^ 32 → writtenAs (fraction num (min parts (2 ^ 43))) ≡ writtenAs (fraction num parts)
+unfolding writtenAs
+written-bounded num parts small =
+    let l = min parts (2 ^ 43) in
+    let e : eqb l 0 ≡ eqb parts 0 = same-test _ _ (λ z. eq-eqb parts 0 (omega (arith, eqb-true l 0 z))) (λ z. eq-eqb l 0 (omega (arith, eqb-true parts 0 z))) in
+    let f : (eqb num 0 && eqb l 0) ≡ (eqb num 0 && eqb parts 0) = ap (λ b. eqb num 0 && b) e in
+    by-test (eqb num 0 && eqb parts 0) (λ z. rw (z, f ∙ z, writtenAs)) (λ z. rw (z, f ∙ z, writtenAs) (sym (notAbove-bounded forty (num * 1024) parts (omega arith))))
+
+module _ (num parts : ℕ) where
   not-both : (num ≡ 0 → parts ≡ 0 → ⊥) → (eqb num 0 && eqb parts 0) ≡ false
   not-both n =
       by-test (eqb num 0) (λ e. and-no-right (eqb num 0) (eqb parts 0) (ne-eqb parts 0 (λ z. n (eqb-true num 0 e) z)))
       (λ e. and-no-left (eqb num 0) (eqb parts 0) e)
 
-  searched : (num ≡ 0 → parts ≡ 0 → ⊥) → writtenAs (record { over = num; under = parts }) ≡ notAbove forty (num * 1024) (min parts (2 ^ 43))
+  searched : (num ≡ 0 → parts ≡ 0 → ⊥) → writtenAs (fraction num parts) ≡ notAbove forty (num * 1024) parts
   unfolding writtenAs
-  searched n = rw (not-both n, writtenAs) (notAbove-bounded forty (num * 1024) parts (omega arith))
+  searched n = rw (not-both n, writtenAs)
 
-  best-is : (best : Best) → Among (num * 1024) (min parts (2 ^ 43)) 40 best → notAbove forty (num * 1024) (min parts (2 ^ 43)) ≡ answer best
-  best-is Nothing a = none-fits (num * 1024) (min parts (2 ^ 43)) a
+  best-is : (best : Best) → Among (num * 1024) parts 40 best → notAbove forty (num * 1024) parts ≡ answer best
+  best-is Nothing a = none-fits (num * 1024) parts a
   best-is (Found v d s) (hv, hd, e, f, g) =
       let j : 4 * v + d < 40 = omega arith in
       let q : ticks (at (4 * v + d)) ≡ s = ap ticks (at-both v d hd) ∙ sym e in
-      greatest-is (num * 1024) (min parts (2 ^ 43)) (4 * v + d) j (rw q f) (rw q g) ∙ at-both v d hd
+      greatest-is (num * 1024) parts (4 * v + d) j (rw q f) (rw q g) ∙ at-both v d hd
 
   -- all forty are tried
-  pub value-over : (best : Best) → Searching (num * 1024) (min parts (2 ^ 43)) 40 best → writtenAs (record { over = num; under = parts }) ≡ answer best
-  value-over best r =
-      searched (λ p q. let z : 40 ≡ 0 = r .first (omega arith) (omega arith) in omega arith) ∙ best-is best (r .among)
+  pub value-over : (k : ℕ) (best : Best) → Searching (num * 1024) parts k best → k ≡ 40 → writtenAs (fraction num parts) ≡ answer best
+  value-over k best r h =
+      searched (λ p q. let z : k ≡ 0 = r .first (omega arith) q in omega arith) ∙ best-is best (rw h at (r .among))
 
-  -- the length is met
-  pub value-met : (k : ℕ) (best : Best) → Searching (num * 1024) (min parts (2 ^ 43)) k best → k < 40
-      → ticks (at k) * min parts (2 ^ 43) ≡ num * 1024 → writtenAs (record { over = num; under = parts }) ≡ at k
+  -- the length is met by some parts
+  pub value-met : (k : ℕ) → k < 40 → 0 < parts → ticks (at k) * parts ≡ num * 1024 → writtenAs (fraction num parts) ≡ at k
+  value-met k h pos e =
+      searched (λ _ q. omega arith)
+      ∙ greatest-is (num * 1024) parts k h (omega arith) (λ i o f. le-of-mul-le-mul-right (rw e f) pos)
+
+  -- the search meets it: no parts at the first of the forty alone
+  search-met : (k : ℕ) (best : Best) → Searching (num * 1024) parts k best → k < 40 → ticks (at k) * parts ≡ num * 1024 → writtenAs (fraction num parts) ≡ at k
   unfolding writtenAs
-  value-met k best r h e =
+  search-met k best r h e =
       by-test (eqb parts 0)
       (λ z. let none : parts ≡ 0 = eqb-true parts 0 z in
-      let el : min parts (2 ^ 43) ≡ 0 = omega arith in
-      let et : num * 1024 ≡ 0 = sym e ∙ ap (λ x. ticks (at k) * x) el ∙ mul-zero (ticks (at k)) in
+      let et : num * 1024 ≡ 0 = sym e ∙ ap (λ x. ticks (at k) * x) none ∙ mul-zero (ticks (at k)) in
       let n : num ≡ 0 = omega arith in
-      let o : k ≡ 0 = r .first et el in
+      let o : k ≡ 0 = r .first et none in
       rw (n, none, o))
-      (λ z. let some-parts = eqb-false parts 0 z in
-      let pos : 0 < min parts (2 ^ 43) = omega arith in
-      searched (λ _ q. some-parts q)
-      ∙ greatest-is (num * 1024) (min parts (2 ^ 43)) k h (omega arith) (λ i o f. le-of-mul-le-mul-right (rw e f) pos))
+      (λ z. value-met k h (omega (arith, eqb-false parts 0 z)) e)
 
-  -- the same from the loops, whose parts are l
-  module _ (l : ℕ) (e : l ≡ min parts (2 ^ 43)) where
-    pub over-at : (k : ℕ) (best : Best) → Searching (num * 1024) l k best → k ≡ 40 → writtenAs (record { over = num; under = parts }) ≡ answer best
-    over-at k best r h = value-over best (rw (e, h) at r)
-
-    pub met-at : (v d : ℕ) (best : Best) → Searching (num * 1024) l (4 * v + d) best → v < 10 → d < 4 → ticks (written v d) * l ≡ num * 1024
-        → writtenAs (record { over = num; under = parts }) ≡ written v d
-    met-at v d best r hv hd m =
-        value-met (4 * v + d) best (rw e at r) (omega arith) (rw (at-both v d hd, ← e) m) ∙ at-both v d hd
+  pub met-at : (v d : ℕ) (best : Best) → Searching (num * 1024) parts (4 * v + d) best → v < 10 → d < 4 → ticks (written v d) * parts ≡ num * 1024
+      → writtenAs (fraction num parts) ≡ written v d
+  met-at v d best r hv hd m = search-met (4 * v + d) best r (omega arith) (rw (at-both v d hd) m) ∙ at-both v d hd

@@ -1,6 +1,6 @@
 -- The numbers and the slash of a length suffix, by position.
-use Prim.Native.Nat.{ℕ, suc, _+_, _-_, _^_, _≤_, _<_}
-use mathlib.Core.Path.{_≡_, refl}
+use Prim.Native.Nat.{ℕ, suc, _+_, _-_, _*_, _^_, _≤_, _<_}
+use mathlib.Core.Path.{_≡_, refl, sym, ap, _∙_}
 use mathlib.Core.Bool.{true, false, cond}
 use mathlib.Core.List.{List, [], _∷_}
 use native.Mathlib.Nat.{add-zero}
@@ -8,18 +8,18 @@ use native.Mathlib.Omega.{arith}
 use lib.Dec.{leb, ltb, eqb}
 use lib.ListN.{length, getD, take, drop}
 use lib.Seq.{drop-drop, getD-drop}
-use borrow.Author.Tests.{leb-true, leb-false, lt-ltb, le-ltb, eq-eqb, ne-eqb}
+use borrow.Author.Tests.{leb-true, leb-false, le-leb, lt-ltb, le-ltb, eq-eqb, ne-eqb}
 use Rattle.laws.specs.Lists.{span}
 use Rattle.laws.specs.Spans.{run}
 use Rattle.laws.proofs.Bools.{by-test}
-use Rattle.laws.proofs.Spans.{span-yes, span-no, run-within}
+use Rattle.laws.proofs.Spans.{span-yes, span-no, span-on, span-off, run-on, run-off, run-within}
 use Rattle.standard.specs.Bytes.{isDigit, is, first, decimal}
 use Rattle.reader.specs.Lengths.{number, denominator, lengthOf}
 use Rattle.numbers.specs.declared.Digits.{Digits}
 use Rattle.numbers.specs.declared.Digits.the-variants.{Nothing, Value, Past}
 use Rattle.numbers.specs.declared.Read.{Read}
 use Rattle.numbers.specs.Digits.{upTo, written, numberAt}
-use Rattle.numbers.proofs.Numbers.{value-le}
+use Rattle.numbers.proofs.Numbers.{digit-high, value-le}
 use Rattle.lengths.specs.Values.{numberOr, suffixAt}
 
 -- a number, or another where there is none
@@ -47,6 +47,24 @@ pub number-at : (d : ℕ) (line : List ℕ) (at : ℕ) (r : Read) → r ≡ numb
     → record { value = orElse d x; next = r .next } ≡ numberOr d line at
 unfolding numberAt numberOr
 number-at d line at r e x f = rw (← f, e, number-run d (drop at line))
+
+-- no digit
+pub number-none : (d : ℕ) (line : List ℕ) (at : ℕ) → isDigit (getD line at 0) ≡ false → record { value = d; next = at } ≡ numberOr d line at
+unfolding numberOr number
+number-none d line at n = rw (span-off isDigit refl line at n, add-zero at)
+
+-- one digit
+pub number-one : (d : ℕ) (line : List ℕ) (at : ℕ) → isDigit (getD line at 0) ≡ true → isDigit (getD line (at + 1) 0) ≡ false
+    → record { value = getD line at 0 - 48; next = at + 1 } ≡ numberOr d line at
+unfolding numberOr written decimal
+number-one d line at y n =
+    let c = getD line at 0 in
+    let one : run isDigit (drop at line) ≡ c ∷ [] = run-on isDigit refl line at y ∙ ap (λ s. c ∷ s) (run-off isDigit refl line (at + 1) n) in
+    let z : 0 * 10 + (c - 48) ≡ c - 48 = omega arith in
+    let small : leb (c - 48) (2 ^ 32 - 1) ≡ true = le-leb (c - 48) (2 ^ 32 - 1) (omega (arith, digit-high c y)) in
+    let v : number d (span isDigit (drop at line)) (drop at line) ≡ c - 48 = sym (number-run d (drop at line)) ∙ ap (λ s. orElse d (written (2 ^ 32 - 1) s)) one ∙ rw (z, small) refl in
+    let k : span isDigit (drop at line) ≡ 1 = span-on isDigit refl line at y ∙ ap suc (span-off isDigit refl line (at + 1) n) in
+    λ i. record { value = sym v i; next = at + sym k i }
 
 -- where the slash is looked for, and where the denominator begins
 slash-there : (s : List ℕ) (i n : ℕ) → first (drop n (drop i s)) ≡ getD s (i + n) 0

@@ -1,12 +1,12 @@
 -- Lengths as the code has them, and what they mean.
-use Prim.Native.Nat.{ℕ, _+_}
-use mathlib.Core.Bool.{Bool, cond}
-use mathlib.Core.List.{List}
-use lib.Dec.{ltb}
+use Prim.Native.Nat.{ℕ, zero, suc, _+_, _*_}
+use mathlib.Core.Bool.{Bool, true, false, cond}
+use mathlib.Core.List.{List, [], _∷_}
+use lib.Dec.{ltb, eqb}
 use lib.ListN.{drop}
 use Rattle.laws.specs.Lists.{span}
 use Rattle.standard.specs.Bytes.{isDigit}
-use Rattle.standard.specs.Lengths.{Value, dotted, halved}
+use Rattle.standard.specs.Lengths.{Fraction, Value, ticks, dotted, halved}
 use Rattle.reader.specs.Lengths.{number, lengthOf}
 use Rattle.lengths.specs.declared.Number.{Number}
 use Rattle.lengths.specs.declared.Suffix.{Suffix}
@@ -35,6 +35,24 @@ numberOr other line at = record { value = number other (span isDigit (drop at li
 -- the length at a position, and the position after it
 unfoldable pub suffixAt : List ℕ → ℕ → Suffix
 suffixAt line at = let l = lengthOf (drop at line) in record { num = l .num; den = l .den; next = at + l .used }
+
+-- num / parts of a whole note
+abbrev pub fraction : ℕ → ℕ → Fraction
+fraction num parts = record { over = num; under = parts }
+
+-- the first of the values that is exactly t / l 1024ths of a whole note
+unfoldable pub firstMet : List Value → ℕ → ℕ → Best
+firstMet [] t l = Nothing
+firstMet (w ∷ ws) t l = elim (eqb (ticks w * l) t) [ true ↦ Found (w .value) (w .dots) (ticks w) | false ↦ firstMet ws t l ]
+
+-- eighth, quarter, sixteenth, half, dotted quarter, dotted eighth, dotted half, 32nd: what tunes write most
+abbrev pub common : List Value
+common = written 5 0 ∷ written 4 0 ∷ written 6 0 ∷ written 3 0 ∷ written 4 1 ∷ written 5 1 ∷ written 3 1 ∷ written 7 0 ∷ []
+
+-- one of them, where num / parts of a whole note is it; a length of 0 is none
+unfoldable pub commonOf : ℕ → ℕ → Best
+commonOf zero parts = Nothing
+commonOf (suc n) parts = firstMet common (suc n * 1024) parts
 
 -- the longer of the best so far and one more, which has the size s
 unfoldable pub longerOf : Best → ℕ → ℕ → ℕ → Best

@@ -1,9 +1,9 @@
 // Lengths of notes: the suffix that writes one, the written value that it gets, and broken rhythm.
 ghost use mathlib.Core.Path.{_≡_};
-ghost use Prim.Native.Nat.{_+_, _*_, _<_, _^_, min, max};
+ghost use Prim.Native.Nat.{_+_, _*_, _<_, _≤_, _^_, min, max};
 ghost use Rattle.standard.specs.Lengths.{lengthFraction, ticks};
 ghost use Rattle.reader.specs.Lengths.{writtenAs};
-ghost use Rattle.lengths.specs.Values.{numberOr, suffixAt, written, lengthAs, longerOf, brokenLength, asValue};
+ghost use Rattle.lengths.specs.Values.{numberOr, suffixAt, written, lengthAs, fraction, commonOf, longerOf, brokenLength, asValue};
 
 // A numerator or denominator, and the position after it.
 struct Number {
@@ -30,10 +30,23 @@ enum Best {
     Found(u8, u8, u64),
 }
 
-// The number of 32 bits at `at`; `other` where there is none, or it is past 32 bits.
+// The number of 32 bits at `at`; `other` where there is none, or it is past 32 bits. Most have one digit, or none.
 fn number_or(line: &[u8], at: usize, other: u32) -> Number
     ensures { λ r. ⌜ r ≡ numberOr other (now (line .entry)) at ⌝ }
 {
+    let first = numbers::byte_at(line, at);
+    if !numbers::is_digit(first) {
+        return Number {
+            value: other,
+            next: at,
+        };
+    }
+    if !numbers::is_digit(numbers::byte_at(line, at + 1)) {
+        return Number {
+            value: (first - 48) as u32,
+            next: at + 1,
+        };
+    }
     let read = numbers::read_number(line, at, 4294967295);
     let digits = read.digits;
     let next = read.next;
@@ -110,13 +123,49 @@ fn longer(best: Best, value: u8, dots: u8, size: u64) -> Best
     }
 }
 
-// The written value of num / den of the unit, which is 1 / unit_den of a whole note: the longest of the forty
-// that is not above it. The search leaves both of its loops where the length is met exactly.
-pub fn abc_note_value(unit_den: u32, num: u32, den: u32) -> Length
-    ensures { λ r. ⌜ r ≡ lengthAs (writtenAs (lengthFraction «unit_den» num den)) ⌝ }
+// One of the values that tunes write most, where the length is that value exactly. A length of 0 is none of them.
+fn common_value(num: u32, parts: u64) -> Best
+    requires { ⌜ parts ≤ 2 ^ 43 ⌝ }
+    ensures { λ r. ⌜ r ≡ commonOf num parts ⌝ }
+{
+    if num == 0 {
+        return Best::Nothing;
+    }
+    let length = (num as u64) * 1024;
+    if 128 * parts == length {
+        return Best::Found(5, 0, 128);
+    }
+    if 256 * parts == length {
+        return Best::Found(4, 0, 256);
+    }
+    if 64 * parts == length {
+        return Best::Found(6, 0, 64);
+    }
+    if 512 * parts == length {
+        return Best::Found(3, 0, 512);
+    }
+    if 384 * parts == length {
+        return Best::Found(4, 1, 384);
+    }
+    if 192 * parts == length {
+        return Best::Found(5, 1, 192);
+    }
+    if 768 * parts == length {
+        return Best::Found(3, 1, 768);
+    }
+    if 32 * parts == length {
+        return Best::Found(7, 0, 32);
+    }
+    Best::Nothing
+}
+
+// The written value of num / parts of a whole note: the longest of the forty that is not above it.
+// The search leaves both of its loops where the length is met exactly.
+fn search_value(num: u32, parts: u64) -> Length
+    requires { ⌜ parts ≤ 2 ^ 43 ⌝ }
+    ensures { λ r. ⌜ r ≡ lengthAs (writtenAs (fraction num parts)) ⌝ }
 {
     let length = (num as u64) * 1024;
-    let parts = bounded(product(den, at_least_one(unit_den)));
     let mut best = Best::Nothing;
     'search: for value in 0u8..10 {
         for dots in 0u8..4 {
@@ -135,6 +184,18 @@ pub fn abc_note_value(unit_den: u32, num: u32, den: u32) -> Length
         Best::Found(value, dots, _) => Length::Written(value, dots),
         Best::Nothing => Length::Written(4, 0),
     }
+}
+
+// The written value of num / den of the unit, which is 1 / unit_den of a whole note. The common values come
+// before the search, which begins at the longa and meets an eighth at its twenty-first value.
+pub fn abc_note_value(unit_den: u32, num: u32, den: u32) -> Length
+    ensures { λ r. ⌜ r ≡ lengthAs (writtenAs (lengthFraction «unit_den» num den)) ⌝ }
+{
+    let parts = bounded(product(den, at_least_one(unit_den)));
+    let Best::Found(value, dots, _) = common_value(num, parts) else {
+        return search_value(num, parts);
+    };
+    Length::Written(value, dots)
 }
 
 // a + b, at most `top`.

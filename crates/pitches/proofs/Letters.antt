@@ -1,20 +1,19 @@
--- Letters of notes, by the half of the alphabet.
-use Prim.Native.Nat.{ℕ, _≤_, _<_}
-use mathlib.Core.Path.{_≡_}
-use mathlib.Core.Bool.{_&&_}
-use native.Mathlib.Omega.{arith}
+-- Letters of notes, with the bit set that tells a small one from a capital.
+use Prim.Native.Nat.{ℕ, _<_}
+use mathlib.Core.Path.{_≡_, refl, sym}
+use mathlib.Core.Bool.{Bool, true, false, not, cond, _&&_}
+use lib.Bits.{bitOr}
 use lib.Dec.{leb}
-use borrow.Author.Tests.{le-leb, lt-leb}
 use Rattle.standard.specs.Pitches.{isLetter}
-use Rattle.laws.proofs.Bools.{or-false}
+use Rattle.laws.proofs.Bools.{not-true}
+use Rattle.laws.proofs.Finite.{below}
 
--- a small one
-pub small-letter : (c : ℕ) → 97 ≤ c → isLetter c ≡ leb c 103
-small-letter c h =
-    let k : 71 < c = omega arith in
-    let l : 65 ≤ c = omega arith in
-    rw (lt-leb c 71 k, le-leb 65 c l, le-leb 97 c h)
+same : (a b : Bool) → cond a b (not b) ≡ true → a ≡ b
+same true b e = sym e
+same false b e = sym (not-true b e)
 
--- a capital
-pub capital-letter : (c : ℕ) → c < 97 → isLetter c ≡ (leb 65 c && leb c 71)
-capital-letter c h = rw (lt-leb 97 c h) (or-false (leb 65 c && leb c 71))
+abbrev pub smallLetter : ℕ → Bool
+smallLetter c = leb 97 (bitOr c 32) && leb (bitOr c 32) 103
+
+pub letter-small : (c : ℕ) → c < 256 → smallLetter c ≡ isLetter c
+letter-small c h = same (smallLetter c) (isLetter c) (below 256 (λ x. cond (smallLetter x) (isLetter x) (not (isLetter x))) refl c h)

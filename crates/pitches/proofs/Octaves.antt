@@ -1,16 +1,17 @@
 -- Octave marks, by position.
 use Prim.Native.Nat.{ℕ, _+_, _-_, _≤_, _<_}
-use mathlib.Core.Path.{_≡_, sym, ap, _∙_}
+use mathlib.Core.Path.{_≡_, refl, sym, ap, _∙_}
 use mathlib.Core.Bool.{true, false, _&&_}
 use mathlib.Core.List.{List}
 use native.Mathlib.Omega.{arith}
 use lib.Dec.{eqb, leb}
-use lib.ListN.{drop}
+use lib.ListN.{drop, getD}
 use lib.Seq.{drop-drop}
-use borrow.Author.Tests.{le-leb, lt-leb}
+use borrow.Author.Tests.{le-leb, lt-leb, ne-eqb}
 use Rattle.laws.specs.Lists.{span}
 use Rattle.laws.specs.Spans.{endOf}
 use Rattle.laws.proofs.Bools.{and-no-left, and-no-right, and-both}
+use Rattle.laws.proofs.Spans.{end-off}
 use Rattle.reader.specs.Pitches.{Octave, octaveFrom}
 use Rattle.pitches.specs.Pitches.{octaveFor}
 use Rattle.pitches.specs.declared.Octave.the-variants.{At, Out}
@@ -60,3 +61,11 @@ module _ (line : List ℕ) (at start down up : ℕ) (e : down ≡ endOf (λ c. e
       let n : at + (down - at + (up - down)) ≡ up = omega (arith, e, f) in
       let m : start - (down - at) + (up - down) ≤ 255 = omega arith in
       sym (fine at (octaveFrom start (drop at line)) (fine-by ∙ and-both _ _ (le-leb _ _ h) (le-leb _ _ m)) ∙ read-as ∙ ap (At (start - (down - at) + (up - down))) n)
+
+-- a byte above the comma: no mark
+pub marks-none : (line : List ℕ) (at start : ℕ) → 44 < getD line at 0 → start ≤ 255 → At start at ≡ octaveFor at (octaveFrom start (drop at line))
+marks-none line at start h l =
+    let b = getD line at 0 in
+    let no : (m : ℕ) → m ≤ 44 → eqb b m ≡ false = λ m k. ne-eqb b m (λ e. omega arith) in
+    let z : start - (at - at) + (at - at) ≡ start = omega arith in
+    rw z at (marks-at line at start at at (sym (end-off (λ c. eqb c 44) refl line at (no 44 (omega arith)))) (sym (end-off (λ c. eqb c 39) refl line at (no 39 (omega arith)))) (omega arith) (omega arith) l)

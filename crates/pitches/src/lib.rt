@@ -64,14 +64,12 @@ pub fn abc_note_char(c: u8) -> NoteChar
     NoteChar { step, octave: 133 }
 }
 
-// A to G, a to g.
+// A to G, a to g: a capital and its small letter differ by 32 alone.
 pub fn is_letter(c: u8) -> bool
     ensures { λ r. ⌜ r ≡ isLetter c ⌝ }
 {
-    if 97 <= c {
-        return c <= 103;
-    }
-    65 <= c && c <= 71
+    let small = c | 32;
+    97 <= small && small <= 103
 }
 
 // n half tones up or down, held at 127 and −128.
@@ -153,10 +151,16 @@ pub fn accidental_before(line: &[u8], at: usize) -> Before
     }
 }
 
-// Commas, then apostrophes, from the octave `start` on.
+// Commas, then apostrophes, from the octave `start` on. No byte above the comma is a mark: most letters have none.
 pub fn octave_marks(line: &[u8], at: usize, start: u8) -> Octave
     ensures { λ r. ⌜ r ≡ octaveFor at (written.octaveFrom start (drop at (now (line .entry)))) ⌝ }
 {
+    if b',' < numbers::byte_at(line, at) {
+        return Octave::At {
+            octave: start,
+            next: at,
+        };
+    }
     let down = runs::run_end(line, at, b',');
     let up = runs::run_end(line, down, b'\'');
     let first = start as usize;

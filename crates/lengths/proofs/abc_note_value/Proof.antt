@@ -1,159 +1,65 @@
--- `lengths::abc_note_value` meets its contract. Both loops have the invariant `Searching`, at 4 × value and at 4 × value + dots.
+-- `lengths::abc_note_value` meets its contract: a common value that is met is the longest, and the bound on the parts changes nothing.
 use borrow.Author.Needs.{needs}
-use mathlib.Core.Path.{_≡_, sym, ap}
-use mathlib.Core.Logic.{⊎-elim}
-use Prim.Native.Nat.{_+_, _-_, _*_, _≤_, _<_, _^_, min, max}
-use native.Mathlib.Nat.{add-zero, mul-le-mul}
+use mathlib.Core.Path.{_≡_, sym, ap, _∙_}
+use Prim.Native.Nat.{_<_, _^_}
 use native.Mathlib.Omega.{arith}
 use Rattle.standard.specs.Lengths.{lengthFraction}
 use Rattle.reader.specs.Lengths.{writtenAs}
-use Rattle.lengths.specs.Values.{lengthAs}
-use Rattle.lengths.proofs.Searches.{Searching, searching-start, skip-at, take-at, over-at, met-at, answer}
-use Rattle.lengths.proofs.Sizes.{size-le}
+use Rattle.lengths.specs.Values.{lengthAs, fraction}
+use Rattle.lengths.proofs.Searches.{written-bounded}
+use Rattle.lengths.proofs.Common.{common-is}
 use Rattle.lengths.proofs.abc_note_value.Statement.{statement}
 use Rattle.lengths.proofs.abc_note_value.Tie as tie
 
-abbrev Inv-loop : tie.InvT-loop
-Inv-loop unit-den num den length parts best₀ value dots₀ best dots = (dots ≤ 4) × Searching length parts (4 * value + dots) best
-
-abbrev μ-loop : tie.MeasureT-loop
-μ-loop unit-den num den length parts best₀ value dots₀ best dots = 4 - dots
-
-abbrev Inv-search : tie.InvT-search
-Inv-search unit-den num den length parts best₀ value₀ best value = (value ≤ 10) × Searching length parts (4 * value) best
-
-abbrev μ-search : tie.MeasureT-search
-μ-search unit-den num den length parts best₀ value₀ best value = 10 - value
-
-mul-length : tie.Need-mul-length Inv-loop μ-loop Inv-search μ-search
-mul-length c = search needs
-
-at-least-one-requires : tie.Need-at-least-one-requires Inv-loop μ-loop Inv-search μ-search
+at-least-one-requires : tie.Need-at-least-one-requires
 at-least-one-requires c κs = search needs
 
-product-requires : tie.Need-product-requires Inv-loop μ-loop Inv-search μ-search
+product-requires : tie.Need-product-requires
 product-requires c κs = search needs
 
-bounded-requires : tie.Need-bounded-requires Inv-loop μ-loop Inv-search μ-search
+bounded-requires : tie.Need-bounded-requires
 bounded-requires c κs = search needs
 
-search-holds : tie.Need-search-holds Inv-loop μ-loop Inv-search μ-search
-search-holds c = (omega arith, searching-start _ _)
+common-value-requires : tie.Need-common-value-requires
+common-value-requires c κs = search needs
 
-loop-holds : tie.Need-loop-holds Inv-loop μ-loop Inv-search μ-search
-loop-holds c = (omega arith, rw add-zero (c .before .search .inv .1))
+enum-known-value : tie.Need-enum-known-value
+enum-known-value c = search needs
 
-size-requires : tie.Need-size-requires Inv-loop μ-loop Inv-search μ-search
-size-requires c κs = omega arith
-
--- within the loops the value and the dots are those of one of the forty
-value-lt : (c : tie.In-loop Inv-loop μ-loop Inv-search μ-search) → c .before .before .before .search .value < 10
-value-lt c = omega arith
-
-dots-lt : (c : tie.In-loop Inv-loop μ-loop Inv-search μ-search) → c .before .loop .dots < 4
-dots-lt c = omega arith
-
-mul-scaled : tie.Need-mul-scaled Inv-loop μ-loop Inv-search μ-search
-mul-scaled c =
-    let l = c .before .before in
-    let fit : c .size .result ≤ 7680 = rw (c .size .ensures) (size-le _ _ (value-lt (c .before)) (dots-lt (c .before))) in
-    let small : l .before .before .before .bounded .result ≤ 2 ^ 43 = omega arith in
-    omega (arith, mul-le-mul fit small)
-
-longer-requires : tie.Need-longer-requires Inv-loop μ-loop Inv-search μ-search
-longer-requires c κs = search needs
-
-add-dots : tie.Need-add-dots Inv-loop μ-loop Inv-search μ-search
-add-dots c = search needs
-
-loop-less : tie.Need-loop-less Inv-loop μ-loop Inv-search μ-search
-loop-less c = search needs
-
-loop-again : tie.Need-loop-again Inv-loop μ-loop Inv-search μ-search
-loop-again c =
-    let z = c .before .before in
-    let l = z .before .before in
-    let hv = value-lt (z .before) in
-    let hd = dots-lt (z .before) in
-    let b = l .before .before .before in (
-      omega arith,
-      ⊎-elim
-          (λ w. let p : z .size .result * b .bounded .result < b .before .before .before .args .num * 1024 = omega arith in
-          rw (w .2, w .1 .ensures, z .size .ensures) (take-at _ _ _ _ _ (l .loop .inv .1) hv hd (rw (z .size .ensures) at p)))
-          (λ w. let p : b .before .before .before .args .num * 1024 < z .size .result * b .bounded .result = omega arith in
-          rw (w .1) (skip-at _ _ _ _ _ (l .loop .inv .1) hv hd (rw (z .size .ensures) at p)))
-          (c .if2 .came),
-    )
-
-add-value : tie.Need-add-value Inv-loop μ-loop Inv-search μ-search
-add-value c = search needs
-
-search-less : tie.Need-search-less Inv-loop μ-loop Inv-search μ-search
-search-less c = search needs
-
-search-again : tie.Need-search-again Inv-loop μ-loop Inv-search μ-search
-search-again c =
-    let l = c .before in
-    let e : 4 * (l .before .before .search .value + 1) ≡ 4 * l .before .before .search .value + l .loop .dots = omega arith in
-    (omega arith, rw e (l .loop .inv .1))
-
-enum-known-best : tie.Need-enum-known-best Inv-loop μ-loop Inv-search μ-search
-enum-known-best c = search needs
-
-enum-told : tie.Need-enum-told Inv-loop μ-loop Inv-search μ-search
+enum-told : tie.Need-enum-told
 enum-told c = search needs
 
--- the parts as the contract has them
-parts : (c : tie.After-bounded Inv-loop μ-loop Inv-search μ-search)
-    → c .bounded .result ≡ min (c .before .before .before .args .den * max (c .before .before .before .args .unit-den) 1) (2 ^ 43)
-parts c = rw (c .bounded .ensures, c .before .product .ensures, c .before .before .at-least-one .ensures)
+search-value-requires : tie.Need-search-value-requires
+search-value-requires c κs = search needs
 
--- both ways out of the search leave the answer in `best`
-left : (c : tie.Left-search Inv-loop μ-loop Inv-search μ-search)
-    → writtenAs (lengthFraction (c .before .before .before .before .before .args .unit-den) (c .before .before .before .before .before .args .num) (c .before .before .before .before .before .args .den))
-    ≡ answer (c .search-test .best)
+-- the length over the bounded parts is the contract's
+length-is : (c : tie.After-bounded)
+    → writtenAs (fraction (c .before .before .before .args .num) (c .bounded .result))
+    ≡ writtenAs (lengthFraction (c .before .before .before .args .unit-den) (c .before .before .before .args .num) (c .before .before .before .args .den))
 unfolding lengthFraction
-left c =
-    let a = c .before .before .before .before .before .args in
+length-is c =
+    let a = c .before .before .before .args in
     let small : a .num < 2 ^ 32 = omega arith in
-    ⊎-elim
-    (λ w. let e : 4 * c .before .search .value ≡ 40 = omega arith in
-    rw (w .1) (over-at _ _ small _ (parts (c .before .before)) _ _ (c .before .search .inv .1) e))
-    (λ w. let hv : c .before .search .value < 10 = omega arith in
-    let hd : w .1 .dots < 4 = omega arith in
-    rw (w .5) (met-at _ _ small _ (parts (c .before .before)) _ _ _ (w .1 .inv .1) hv hd (rw (w .3 .ensures) at (w .4 .taken))))
-    (c .search-test .came)
+    rw (c .bounded .ensures, c .before .product .ensures, c .before .before .at-least-one .ensures) (written-bounded _ _ small)
 
-returns : tie.Need-returns Inv-loop μ-loop Inv-search μ-search
-returns c = sym (ap lengthAs (rw (c .before .best .given .1) at (left (c .before .before .before))))
+returns : tie.Need-returns
+returns c = c .search-value .ensures ∙ ap lengthAs (length-is (c .before .before .before .before))
 
-returns-2 : tie.Need-returns-2 Inv-loop μ-loop Inv-search μ-search
-returns-2 c = sym (ap lengthAs (rw (c .enum-told .given .1) at (left (c .before .before))))
+returns-2 : tie.Need-returns-2
+returns-2 c =
+    let met = sym (c .before .before .before .common-value .ensures) ∙ c .before .value .given .1 in
+    ap lengthAs (sym (common-is _ _ _ _ _ met) ∙ length-is (c .before .before .before .before))
 
 pub abc-note-value-spec : {M : Type 1} → statement M
 abc-note-value-spec =
     tie.close
     (tie.spec
-    Inv-loop
-    μ-loop
-    Inv-search
-    μ-search
-    mul-length
     at-least-one-requires
     product-requires
     bounded-requires
-    search-holds
-    loop-holds
-    size-requires
-    mul-scaled
-    longer-requires
-    add-dots
-    loop-less
-    loop-again
-    add-value
-    search-less
-    search-again
-    enum-known-best
+    common-value-requires
+    enum-known-value
     enum-told
+    search-value-requires
     returns
     returns-2)
