@@ -2,39 +2,48 @@
 ghost use lib.ListN.{length};
 ghost use Rattle.layout.specs.Log.{onLine};
 ghost use Rattle.held.specs.Lines.{Waits, Rest, Takes};
+ghost use Rattle.sounds.specs.Sounds.{Leaves};
 ghost use Rattle.body.specs.Body.{Ready, Acts};
 use registers::Registers;
 use registers::Tables;
+use sounds::Left;
 use tokens::Token;
 
-// What a token does. Quoted texts, decorations, other fields and bytes that mean nothing do nothing.
-fn on_token(line: &[u8], store: &mut [u8], t: Tables, r: Registers, token: Token) -> Registers
+// What a token does, but for the row that it leaves to be appended. Quoted texts, decorations, other fields and bytes that mean nothing do nothing.
+fn on_token(line: &[u8], store: &mut [u8], t: Tables, r: Registers, token: Token) -> Left
     requires { ⌜ Ready (now line) t (now store) r token ⌝ }
-    ensures { λ x. ⌜ Acts (now (line .entry)) t (now (store .entry)) r (now (store .exit)) x token ⌝ }
+    ensures { λ left. ⌜ Leaves t (now (store .exit)) left (λ s x. Acts (now (line .entry)) t (now (store .entry)) r s x token) ⌝ }
 {
     match token {
-        Token::Space => steps::on_space(r),
-        Token::Overlay => steps::on_overlay(r),
-        Token::Quoted => r,
-        Token::Broken { up, count } => rhythm::on_broken(store, t, r, up, count),
+        Token::Space => sounds::keep(steps::on_space(r)),
+        Token::Overlay => sounds::keep(steps::on_overlay(r)),
+        Token::Quoted => sounds::keep(r),
+        Token::Broken { up, count } => sounds::keep(rhythm::on_broken(store, t, r, up, count)),
         Token::Tuplet {
             actual,
             normal,
             count,
-        } => steps::on_tuplet(r, actual, normal, count),
-        Token::Slur => steps::on_slur(r),
-        Token::GraceOpen => steps::on_grace_open(r),
-        Token::GraceClose => steps::on_grace_close(r),
-        Token::Decoration => r,
-        Token::Barline { right, left, opens } => bars::on_barline(store, t, r, right, left, opens),
+        } => sounds::keep(steps::on_tuplet(r, actual, normal, count)),
+        Token::Slur => sounds::keep(steps::on_slur(r)),
+        Token::GraceOpen => sounds::keep(steps::on_grace_open(r)),
+        Token::GraceClose => sounds::keep(steps::on_grace_close(r)),
+        Token::Decoration => sounds::keep(r),
+        Token::Barline { right, left, opens } => sounds::keep(bars::on_barline(
+            store,
+            t,
+            r,
+            right,
+            left,
+            opens,
+        )),
         Token::Volta { first, passes } => {
             bars::on_volta(store, t, r, first, passes);
-            r
+            sounds::keep(r)
         }
-        Token::Unit(unit) => steps::on_unit(r, unit),
-        Token::Meter { top, bottom } => bars::on_meter(store, t, r, top, bottom),
-        Token::Key { fifths, minor } => steps::on_key(store, t, r, fifths, minor),
-        Token::Field => r,
+        Token::Unit(unit) => sounds::keep(steps::on_unit(r, unit)),
+        Token::Meter { top, bottom } => sounds::keep(bars::on_meter(store, t, r, top, bottom)),
+        Token::Key { fifths, minor } => sounds::keep(steps::on_key(store, t, r, fifths, minor)),
+        Token::Field => sounds::keep(r),
         Token::Chord {
             place,
             count,
@@ -42,16 +51,16 @@ fn on_token(line: &[u8], store: &mut [u8], t: Tables, r: Registers, token: Token
             tie,
             slur,
         } => chords::append_chord(line, store, t, r, place, count, length, tie, slur),
-        Token::Rest { kind, length } => sounds::append_rest(store, t, r, kind, length),
+        Token::Rest { kind, length } => sounds::append_rest(r, kind, length),
         Token::Note {
             pitch,
             length,
             tie,
             slur,
         } => sounds::append_note(store, t, r, pitch, length, tie, slur),
-        Token::Nothing => rhythm::on_nothing(store, t, r),
-        Token::Skipped => r,
-        Token::Refused(_) => r,
+        Token::Nothing => sounds::keep(rhythm::on_nothing(store, t, r)),
+        Token::Skipped => sounds::keep(r),
+        Token::Refused(_) => sounds::keep(r),
     }
 }
 
@@ -75,7 +84,8 @@ pub fn parse_body_line(
         let kept = x.line;
         let taken = tokens::token_at(line, at, kept.unit, &classes);
         let token = taken.token;
-        x = on_token(line, store, t, x, token);
+        let left = on_token(line, store, t, x, token);
+        x = sounds::append_left(store, t, left);
         at = taken.next;
     }
     x

@@ -28,8 +28,10 @@ use Rattle.registers.specs.declared.Counts.{Counts}
 use Rattle.registers.specs.declared.Tables.{Tables}
 use Rattle.registers.specs.declared.Registers.{Registers}
 use Rattle.held.specs.Held.{Room, Held, Holding}
-use Rattle.sounds.specs.Sounds.{Pushable, Pushes, Soundable, Sounds}
+use Rattle.sounds.specs.Sounds.{soundLeft, Leaves, Pushable, Pushes, Soundable, Sounds}
+use Rattle.sounds.specs.declared.Left.{Left}
 use Rattle.sounds.proofs.Sounding.{standing-scopes}
+use Rattle.sounds.proofs.Leaving.{sound-leaves}
 use Rattle.sizes.specs.Pays.{marks, marked}
 use Rattle.chords.specs.Chords.{chordIn, ChordAt, PushesAll, ChordsAs}
 use Rattle.chords.proofs.Pitches.{sounds-more, scope-more, marked-both, length-sounds, first-low}
@@ -225,7 +227,7 @@ pitches-room room =
 
 module _ {t : Tables} {s s₁ : List ℕ} {r r₁ : Registers} {ws : List Written} (a : PushesAll t s r s₁ r₁ ws) where
   -- room for the row
-  pub chord-room : Room t (r .counts) (length s) 0 1 (length ws) (marked ws) → Room t (r₁ .counts) (length s₁) 0 1 0 0
+  chord-room : Room t (r .counts) (length s) 0 1 (length ws) (marked ws) → Room t (r₁ .counts) (length s₁) 0 1 0 0
   chord-room room =
       let g = a .grows in
       record {
@@ -237,7 +239,7 @@ module _ {t : Tables} {s s₁ : List ℕ} {r r₁ : Registers} {ws : List Writte
         small = room .small;
       }
 
-  pub chord-able : {count : ℕ} → count ≡ length ws → Holding t s r → Soundable t s₁ r₁ count
+  chord-able : {count : ℕ} → count ≡ length ws → Holding t s r → Soundable t s₁ r₁ count
   chord-able e h =
       let l = h .state in
       let sc = getD (l .scopes) (l .line .overlay) [] in
@@ -249,7 +251,7 @@ module _ {t : Tables} {s s₁ : List ℕ} {r r₁ : Registers} {ws : List Writte
         held = a .holds l (h .standing) (h .held);
       }
 
-  pub chords-as : {s₂ : List ℕ} {r₂ : Registers} {w : Length} {tie slur : Bool} {count : ℕ} → count ≡ length ws → Sounds t s₁ r₁ s₂ r₂ w tie slur count → ChordsAs t s r s₂ r₂ ws w tie slur
+  chords-as : {s₂ : List ℕ} {r₂ : Registers} {w : Length} {tie slur : Bool} {count : ℕ} → count ≡ length ws → Sounds t s₁ r₁ s₂ r₂ w tie slur count → ChordsAs t s r s₂ r₂ ws w tie slur
   unfolding onSound
   chords-as {s₂} {r₂} k b =
       record {
@@ -265,3 +267,9 @@ module _ {t : Tables} {s s₁ : List ℕ} {r r₁ : Registers} {ws : List Writte
             subst (λ (u : Value). Held t s₂ r₂ [] (append (soundNote u (l .pending) e ps) (setScopes (scopesAfter l ws) (setPending (pendingAfter (l .pending) e) l)))) v
             (b .holds (setScopes (scopesAfter l ws) l) e ps (standing-after l ws st) i j (k ∙ sym (length-sounds (l .key) sc ws)) (a .holds l st h));
       }
+
+  pub chord-leaves : {left : Left} {w : Length} {tie slur : Bool} {count : ℕ} → left ≡ soundLeft r₁ w tie slur count → count ≡ length ws
+      → Room t (r .counts) (length s) 0 1 (length ws) (marked ws) → Holding t s r → Leaves t s₁ left (λ s₂ r₂. ChordsAs t s r s₂ r₂ ws w tie slur)
+  chord-leaves e k room h =
+      let b = sound-leaves e (chord-room room) (chord-able k h) in
+      record { able = b .able; done = λ s₂ r₂ f. chords-as k (b .done s₂ r₂ f) }

@@ -1,12 +1,14 @@
-// Chords: the pitches, read again from the line, are pushed one by one, then the chord's row is appended.
+// Chords: the pitches, read again from the line, are pushed one by one; the chord's row is left to be appended.
 ghost use lib.ListN.{length};
 ghost use Rattle.held.specs.Held.{Room, Holding};
 ghost use Rattle.sizes.specs.Pays.{marked};
+ghost use Rattle.sounds.specs.Sounds.{Leaves};
 ghost use Rattle.chords.specs.Chords.{chordIn, ChordAt, PushesAll, ChordsAs};
 use lengths::Length;
 use pitches::Met;
 use registers::Registers;
 use registers::Tables;
+use sounds::Left;
 
 // The pitches of the chord whose `[` stands before `place`, each resolved after the ones before it, go to the end of the pitches.
 fn push_pitches(
@@ -45,10 +47,10 @@ pub fn append_chord(
     written: Length,
     tie: bool,
     slur: bool,
-) -> Registers
+) -> Left
     requires { ⌜ Room t (r .counts) (length (now store)) 0 1 (length (chordIn (now line) place)) (marked (chordIn (now line) place)) × Holding t (now store) r × ChordAt (now line) place count ⌝ }
-    ensures { λ x. ⌜ ChordsAs t (now (store .entry)) r (now (store .exit)) x (chordIn (now (line .entry)) place) written tie slur ⌝ }
+    ensures { λ left. ⌜ Leaves t (now (store .exit)) left (λ s x. ChordsAs t (now (store .entry)) r s x (chordIn (now (line .entry)) place) written tie slur) ⌝ }
 {
     let x = push_pitches(line, store, t, r, place, count);
-    sounds::append_sound(store, t, x, written, tie, slur, count as u32)
+    sounds::append_sound(x, written, tie, slur, count as u32)
 }

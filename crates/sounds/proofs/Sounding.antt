@@ -1,43 +1,34 @@
 -- Notes and rests, from what the code calls to what the definition does.
-use Prim.Native.Nat.{ℕ, zero, suc, _+_, _-_, _*_, _^_, _≤_, _<_}
+use Prim.Native.Nat.{ℕ, _+_, _*_, _<_}
 use mathlib.Core.Path.{_≡_, refl, sym, ap, subst, _∙_}
 use mathlib.Core.Bool.{Bool, false}
 use mathlib.Core.List.{List, [], _∷_, _++_, append-assoc}
-use native.Mathlib.Nat.{add-assoc}
 use native.Mathlib.Omega.{arith}
 use lib.ListN.{length, getD}
 use Rattle.laws.specs.Lists.{alterAt}
 use Rattle.laws.specs.Bytes.{splice}
 use Rattle.laws.proofs.Lists.{alterAt-set, length-alterAt}
-use Rattle.laws.proofs.Splices.{length-spliced}
 use Rattle.standard.specs.Keys.{Key}
 use Rattle.standard.specs.Pitches as standard
 use Rattle.standard.specs.Pitches.{Written}
 use Rattle.standard.specs.Lengths.{Value}
 use Rattle.standard.specs.Notes as Notes
-use Rattle.standard.specs.Notes.{Behind, flagsOf, pendingAfter}
-use Rattle.reader.specs.Lengths as reader
-use Rattle.reader.specs.Lengths.{valueOf}
+use Rattle.standard.specs.Notes.{Behind, pendingAfter}
 use Rattle.reader.specs.Pitches.{Scope, soundOf, soundsOf, scopeAfter, scopeAfterAll}
 use Rattle.reader.specs.Codes.{kindCode, beamCode}
 use Rattle.reader.specs.Records.{pitchBytes}
-use Rattle.reader.specs.State.{Note}
 use Rattle.reader.specs.Part.{soundNote}
 use Rattle.layout.specs.Log.{LogState, lastPlace, setScopes, setPending, append, onSound}
 use Rattle.layout.proofs.Lines.{Standing}
 use Rattle.lengths.specs.declared.Length.{Length}
 use Rattle.lengths.specs.Values.{asValue}
 use Rattle.pitches.specs.declared.Pitch.{Pitch}
-use Rattle.rows.specs.declared.NoteRow.{NoteRow}
-use Rattle.rows.specs.declared.Sounded.{Sounded}
-use Rattle.rows.specs.Table.{Table, Only}
-use Rattle.rows.specs.Encoded.{marksByte, rowFor, pitchFor, pitchRow}
+use Rattle.rows.specs.Table.{Only}
+use Rattle.rows.specs.Encoded.{rowFor, pitchFor, pitchRow}
 use Rattle.rows.proofs.Bytes.{pitch-row, length-pitch-row}
-use Rattle.rows.proofs.Tables.{table-front, only-splice, only-then, only-wider}
+use Rattle.rows.proofs.Tables.{table-front, only-then, only-wider}
 use Rattle.chains.specs.Chains.{Scoped, Scopes}
-use Rattle.chains.proofs.Scoped.{scoped-chain}
 use Rattle.scopes.specs.declared.Resolved.{Resolved}
-use Rattle.scopes.specs.declared.AbcPartParseState.{AbcPartParseState}
 use Rattle.scopes.specs.Resolving.{signs, writtenOf, ResolvedAs}
 use Rattle.registers.specs.declared.Line.{Line}
 use Rattle.registers.specs.declared.Pending.{Pending}
@@ -45,12 +36,12 @@ use Rattle.registers.specs.declared.Counts.{Counts}
 use Rattle.registers.specs.declared.Tables.{Tables}
 use Rattle.registers.specs.declared.Registers.{Registers}
 use Rattle.registers.specs.Notes.{marksOf}
-use Rattle.registers.specs.States.{pendingFor, keyIn}
+use Rattle.registers.specs.States.{pendingFor}
 use Rattle.registers.proofs.Notes.{marks-is}
-use Rattle.held.specs.Held.{Room, Stored, Held, Holding, pitchesIn, Grows, Appendable, Appends}
+use Rattle.held.specs.Held.{Room, Stored, Held, Holding, pitchesIn, Appendable, Appends}
 use Rattle.held.proofs.Stores.{withPitches, pitch-pushed, pitch-pushed-only, scoped-behind}
 use Rattle.held.proofs.Appending.{room-same, stored-pitches}
-use Rattle.sounds.specs.Sounds.{restRow, soundRow, pendingOn, Restable, Rests, Pushable, Pushes, Soundable, Sounds, NotesAs}
+use Rattle.sounds.specs.Sounds.{restRow, soundRow, waitsOn, Restable, Rests, Pushable, Pushes, Soundable, Sounds, NotesAs}
 
 -- A REST
 pub rest-able : {t : Tables} {s : List ℕ} {r : Registers} {kind : ℕ} {l : Length} → Restable t s r kind l → Appendable t s r (restRow kind l)
@@ -204,11 +195,6 @@ pub sound-row-is : (w : Length) (p : Notes.Pending) (b : Behind) (ps : List stan
 unfolding soundNote kindCode beamCode
 sound-row-is w p b ps = ap (λ (k : ℕ). soundRow w k (length ps)) (marks-is p b)
 
--- with other pending marks
-abbrev pub waitsOn : Registers → Bool → Registers
-waitsOn r tie =
-    record { counts = r .counts; key = r .key; last = r .last; pending = pendingOn (r .pending) tie; line = r .line; waiting = r .waiting; group = r .group; verses = r .verses }
-
 module _ {t : Tables} {s : List ℕ} {r : Registers} (w : Length) (tie slur : Bool) (count : ℕ) where
   module _ (l : LogState) (b : Behind) (ps : List standard.Pitch) (e : b .tie ≡ tie) (f : b .slur ≡ slur) (k : count ≡ length ps) (h : Held t s r ps l) where
     row-for : soundRow w (marksOf (r .pending) tie slur) count ≡ rowFor (soundNote (asValue w) (l .pending) b ps)
@@ -311,29 +297,3 @@ module _ {t : Tables} {s s₁ : List ℕ} {r r₁ : Registers} {p : Pitch} (a : 
             subst (λ (u : Value). Held t s₂ r₂ [] (append (soundNote u (l .pending) e (x ∷ [])) (setScopes (alterAt o (λ old. scopeAfterAll (getD (l .scopes) o []) (writtenOf p ∷ [])) (l .scopes)) (setPending (pendingAfter (l .pending) e) l)))) v
             (subst (λ (y : List Scope). Held t s₂ r₂ [] (append (soundNote (asValue w) (l .pending) e (x ∷ [])) (setScopes y (setPending (pendingAfter (l .pending) e) l)))) (scope-one (l .scopes) o (writtenOf p)) q);
       }
-
--- BY THE CODE'S VALUES
--- with other pending marks
-abbrev pub withPending : Registers → Pending → Registers
-withPending r p =
-    record { counts = r .counts; key = r .key; last = r .last; pending = p; line = r .line; waiting = r .waiting; group = r .group; verses = r .verses }
-
-module _ {t : Tables} {s : List ℕ} {r : Registers} {kind : ℕ} {w : Length} (n : NoteRow) (e : n ≡ restRow kind w) where
-  pub rest-ready : Restable t s r kind w → Appendable t s r n
-  rest-ready h = subst (λ (x : NoteRow). Appendable t s r x) (sym e) (rest-able h)
-
-  pub rest-done : {s′ : List ℕ} {r′ : Registers} → Appends t s r s′ r′ n → Rests t s r s′ r′ kind w
-  rest-done {s′} {r′} a = rests-as (subst (λ (x : NoteRow). Appends t s r s′ r′ x) e a)
-
-module _ {t : Tables} {s : List ℕ} {r : Registers} (w : Length) (tie slur : Bool) (count : ℕ) (p : Pending) (m : ℕ) (n : NoteRow) (ep : p ≡ pendingOn (r .pending) tie)
-    (em : m ≡ marksOf (r .pending) tie slur) (en : n ≡ soundRow w m count) where
-  pub sound-ready : Soundable t s r count → Appendable t s (withPending r p) n
-  sound-ready h =
-      let row-made : n ≡ soundRow w (marksOf (r .pending) tie slur) count = en ∙ ap (λ (k : ℕ). soundRow w k count) em in
-      subst (λ (x : NoteRow). Appendable t s (withPending r p) x) (sym row-made) (subst (λ (q : Pending). Appendable t s (withPending r q) (soundRow w (marksOf (r .pending) tie slur) count)) (sym ep) (sound-able w tie slur count h))
-
-  pub sound-done : {s′ : List ℕ} {r′ : Registers} → Appends t s (withPending r p) s′ r′ n → Sounds t s r s′ r′ w tie slur count
-  sound-done {s′} {r′} a =
-      let row-made : n ≡ soundRow w (marksOf (r .pending) tie slur) count = en ∙ ap (λ (k : ℕ). soundRow w k count) em in
-      sounds-as w tie slur count
-      (subst (λ (q : Pending). Appends t s (withPending r q) s′ r′ (soundRow w (marksOf (r .pending) tie slur) count)) ep (subst (λ (x : NoteRow). Appends t s (withPending r p) s′ r′ x) row-made a))

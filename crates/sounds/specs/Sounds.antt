@@ -1,7 +1,7 @@
--- NOTES AND RESTS: their rows, and what each function does to every part that is held.
+-- NOTES AND RESTS: their rows, what a token leaves to be appended, and what each does to every part that is held.
 use Prim.Native.Nat.{ℕ, _+_, _<_}
 use mathlib.Core.Path.{_≡_}
-use mathlib.Core.Bool.{Bool, false}
+use mathlib.Core.Bool.{Bool, false, true}
 use mathlib.Core.List.{List, [], _∷_, _++_}
 use lib.ListN.{length, getD}
 use Rattle.laws.specs.Lists.{alterAt}
@@ -15,6 +15,7 @@ use Rattle.reader.specs.Part.{soundNote}
 use Rattle.layout.specs.Log.{LogState, setScopes, setPending, append, onSound}
 use Rattle.layout.proofs.Lines.{Standing}
 use Rattle.lengths.specs.declared.Length.{Length}
+use Rattle.lengths.specs.declared.Length.the-variants.{WholeBar}
 use Rattle.lengths.specs.Values.{asValue}
 use Rattle.pitches.specs.declared.Pitch.{Pitch}
 use Rattle.rows.specs.declared.NoteRow.{NoteRow}
@@ -24,7 +25,9 @@ use Rattle.scopes.specs.Resolving.{signs, writtenOf}
 use Rattle.registers.specs.declared.Pending.{Pending}
 use Rattle.registers.specs.declared.Tables.{Tables}
 use Rattle.registers.specs.declared.Registers.{Registers}
-use Rattle.held.specs.Held.{Held, Holding, Grows}
+use Rattle.registers.specs.Notes.{marksOf}
+use Rattle.held.specs.Held.{Room, Held, Grows, Appendable, Appends}
+use Rattle.sounds.specs.declared.Left.{Left}
 
 -- ROWS
 abbrev pub restRow : ℕ → Length → NoteRow
@@ -37,6 +40,37 @@ soundRow l marks pitches =
 
 abbrev pub pendingOn : Pending → Bool → Pending
 pendingOn p tie = record { tie = tie; slur = false; grace = p .grace }
+
+-- with the pending marks after a note
+abbrev pub waitsOn : Registers → Bool → Registers
+waitsOn r tie =
+    record { counts = r .counts; key = r .key; last = r .last; pending = pendingOn (r .pending) tie; line = r .line; waiting = r .waiting; group = r .group; verses = r .verses }
+
+-- WHAT A TOKEN LEAVES: registers, and the row that is still to be appended
+abbrev pub keptOf : Registers → Left
+keptOf r = record { registers = r; appends = false; row = restRow 0 (WholeBar 0) }
+
+abbrev pub restLeft : Registers → ℕ → Length → Left
+restLeft r kind l = record { registers = r; appends = true; row = restRow kind l }
+
+abbrev pub soundLeft : Registers → Length → Bool → Bool → ℕ → Left
+soundLeft r l tie slur pitches = record { registers = waitsOn r tie; appends = true; row = soundRow l (marksOf (r .pending) tie slur) pitches }
+
+-- its row, if there is one, can be appended
+pub record Finishable (t : Tables) (s : List ℕ) (left : Left) : Type 0 where
+  pub room : left .appends ≡ true → Room t (left .registers .counts) (length s) 0 1 0 0
+  pub able : left .appends ≡ true → Appendable t s (left .registers) (left .row)
+
+-- its row, if there is one, is appended
+pub record Finishes (t : Tables) (s : List ℕ) (left : Left) (s′ : List ℕ) (r′ : Registers) : Type 0 where
+  pub appended : left .appends ≡ true → Appends t s (left .registers) s′ r′ (left .row)
+  pub same-store : left .appends ≡ false → s′ ≡ s
+  pub same-registers : left .appends ≡ false → r′ ≡ left .registers
+
+-- P holds once that is done
+pub record Leaves (t : Tables) (s : List ℕ) (left : Left) (P : List ℕ → Registers → Type 0) : Type 0 where
+  pub able : Finishable t s left
+  pub done : (s′ : List ℕ) (r′ : Registers) → Finishes t s left s′ r′ → P s′ r′
 
 -- A REST: a note without pitches that has this row
 pub record Restable (t : Tables) (s : List ℕ) (r : Registers) (kind : ℕ) (l : Length) : Type 0 where

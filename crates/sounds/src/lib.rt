@@ -1,16 +1,23 @@
-// Notes and rests: pitches resolved and written, then the note's row appended.
+// Notes and rests: pitches resolved and written; the note's row is left to be appended, for all tokens in one place.
 ghost use mathlib.Core.Path.{_≡_};
-ghost use Prim.Native.Nat.{_+_, _*_, _^_, _≤_, _<_};
+ghost use Prim.Native.Nat.{_<_};
 ghost use lib.ListN.{length};
 ghost use Rattle.scopes.specs.Resolving.{signs};
 ghost use Rattle.held.specs.Held.{Room, Holding};
-ghost use Rattle.sounds.specs.Sounds.{restRow, soundRow, pendingOn, Pushable, Pushes, Restable, Rests, Soundable, Sounds, NotesAs};
+ghost use Rattle.sounds.specs.Sounds.{restRow, soundRow, pendingOn, keptOf, restLeft, soundLeft, Finishable, Finishes, Leaves, Pushable, Pushes, NotesAs};
 use lengths::Length;
 use pitches::Pitch;
 use registers::Pending;
 use registers::Registers;
 use registers::Tables;
 use rows::NoteRow;
+
+// What a token leaves: the registers and, if it is a note, rest or chord, the row that is still to be appended.
+pub struct Left {
+    pub registers: Registers,
+    pub appends: bool,
+    pub row: NoteRow,
+}
 
 // The row of a rest.
 fn rest_row(kind: u8, written: Length) -> NoteRow
@@ -57,18 +64,26 @@ fn after_pending(p: Pending, tie: bool) -> Pending
     }
 }
 
-// A rest.
-pub fn append_rest(
-    store: &mut [u8],
-    t: Tables,
-    r: Registers,
-    kind: u8,
-    written: Length,
-) -> Registers
-    requires { ⌜ Room t (r .counts) (length (now store)) 0 1 0 0 × Restable t (now store) r kind written ⌝ }
-    ensures { λ x. ⌜ Rests t (now (store .entry)) r (now (store .exit)) x kind written ⌝ }
+// A token without a row (this one is never read).
+pub fn keep(r: Registers) -> Left
+    ensures { λ left. ⌜ left ≡ keptOf r ⌝ }
 {
-    appends::append(store, t, r, rest_row(kind, written))
+    Left {
+        registers: r,
+        appends: false,
+        row: rest_row(0, Length::WholeBar(0)),
+    }
+}
+
+// A rest.
+pub fn append_rest(r: Registers, kind: u8, written: Length) -> Left
+    ensures { λ left. ⌜ left ≡ restLeft r kind written ⌝ }
+{
+    Left {
+        registers: r,
+        appends: true,
+        row: rest_row(kind, written),
+    }
 }
 
 // A pitch, resolved by its accidental, its scope or the key, goes to the end of the pitches.
@@ -93,23 +108,18 @@ pub fn push_pitch(store: &mut [u8], t: Tables, r: Registers, pitch: Pitch) -> Re
 }
 
 // A note or chord whose pitches are written.
-pub fn append_sound(
-    store: &mut [u8],
-    t: Tables,
-    r: Registers,
-    written: Length,
-    tie: bool,
-    slur: bool,
-    pitches: u32,
-) -> Registers
-    requires { ⌜ Room t (r .counts) (length (now store)) 0 1 0 0 × Soundable t (now store) r pitches ⌝ }
-    ensures { λ x. ⌜ Sounds t (now (store .entry)) r (now (store .exit)) x written tie slur pitches ⌝ }
+pub fn append_sound(r: Registers, written: Length, tie: bool, slur: bool, pitches: u32) -> Left
+    ensures { λ left. ⌜ left ≡ soundLeft r written tie slur pitches ⌝ }
 {
     let marks = registers::marks(r.pending, tie, slur);
-    let n = sound_row(written, marks, pitches);
+    let row = sound_row(written, marks, pitches);
     let mut x = r;
     x.pending = after_pending(r.pending, tie);
-    appends::append(store, t, x, n)
+    Left {
+        registers: x,
+        appends: true,
+        row,
+    }
 }
 
 // A note.
@@ -121,10 +131,22 @@ pub fn append_note(
     written: Length,
     tie: bool,
     slur: bool,
-) -> Registers
+) -> Left
     requires { ⌜ Room t (r .counts) (length (now store)) 0 1 1 (signs (pitch .mark)) × Holding t (now store) r × (pitch .step < 7) ⌝ }
-    ensures { λ x. ⌜ NotesAs t (now (store .entry)) r (now (store .exit)) x pitch written tie slur ⌝ }
+    ensures { λ left. ⌜ Leaves t (now (store .exit)) left (λ s x. NotesAs t (now (store .entry)) r s x pitch written tie slur) ⌝ }
 {
     let x = push_pitch(store, t, r, pitch);
-    append_sound(store, t, x, written, tie, slur, 1)
+    append_sound(x, written, tie, slur, 1)
+}
+
+// The row that a token leaves goes to the end of its voice. One call for all tokens, so that the registers need not go through memory.
+pub fn append_left(store: &mut [u8], t: Tables, left: Left) -> Registers
+    requires { ⌜ Finishable t (now store) left ⌝ }
+    ensures { λ x. ⌜ Finishes t (now (store .entry)) left (now (store .exit)) x ⌝ }
+{
+    let r = left.registers;
+    if left.appends {
+        return appends::append(store, t, r, left.row);
+    }
+    r
 }
