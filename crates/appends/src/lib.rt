@@ -3,12 +3,12 @@ ghost use mathlib.Core.Path.{_≡_};
 ghost use Prim.Native.Nat.{_+_, _*_, _^_, _≤_, _<_};
 ghost use lib.ListN.{length};
 ghost use Rattle.held.specs.Held.{Room, Appendable, Appends};
-ghost use Rattle.held.specs.Appended.{beforeStore, ranOn, placed, soundedOn, appended};
+ghost use Rattle.held.specs.Appended.{beforeStore, placed, soundedOn, appended};
 ghost use Rattle.registers.specs.Notes.{halvedRow, beamedRow};
+use registers::Counts;
 use registers::Group;
 use registers::Half;
 use registers::Last;
-use registers::Line;
 use registers::Registers;
 use registers::Tables;
 use registers::Verses;
@@ -39,14 +39,6 @@ fn as_written(run: u8, waiting: Waiting, n: NoteRow) -> NoteRow
 {
     let half = waiting.half;
     registers::after_half(registers::beamed_new(run, n), half)
-}
-
-fn run_on(line: Line, run: u8) -> Line
-    ensures { λ r. ⌜ r ≡ ranOn line run ⌝ }
-{
-    let mut l = line;
-    l.run = run;
-    l
 }
 
 fn place(last: Last, voice: usize, at: u32) -> Last
@@ -85,9 +77,16 @@ fn after_note(r: Registers, kind: u8, value: u8) -> Registers
     let notes = r.counts.notes + 1;
     let voice = line.overlay as usize;
     let mut x = r;
-    x.counts.notes = notes;
+    let c = r.counts;
+    let counts = Counts {
+        heads: c.heads,
+        notes,
+        pitches: c.pitches,
+        scopes: c.scopes,
+    };
+    x.counts = counts;
     x.last = place(r.last, voice, notes);
-    x.line = run_on(line, registers::update_abc_beam_run(line.run, kind, value));
+    x.line = registers::with_run(line, registers::update_abc_beam_run(line.run, kind, value));
     let waiting = Waiting {
         half: Half::Nothing,
     };

@@ -71,10 +71,13 @@ fn forget(k: AbcPartParseState) -> AbcPartParseState
 fn first_voice(l: Line) -> Line
     ensures { λ r. ⌜ r ≡ record { unit = l .unit; top = l .top; bottom = l .bottom; overlay = 0; run = 0 } ⌝ }
 {
-    let mut x = l;
-    x.overlay = 0;
-    x.run = 0;
-    x
+    Line {
+        unit: l.unit,
+        top: l.top,
+        bottom: l.bottom,
+        overlay: 0,
+        run: 0,
+    }
 }
 
 // After a barline: voice 0 again, no run, no accidental remembered.
@@ -82,7 +85,8 @@ fn end_measure(r: Registers) -> Registers
     ensures { λ x. ⌜ x ≡ ended r ⌝ }
 {
     let mut x = r;
-    x.counts.scopes = 0;
+    let heads = r.counts.heads;
+    x.counts = registers::with_heads(r.counts, heads, 0);
     x.key = forget(r.key);
     x.line = first_voice(r.line);
     x
@@ -97,7 +101,7 @@ fn open_measure(r: Registers) -> Registers
     let none = [0u32; 4];
     let last = Last { places: none };
     let mut x = end_measure(r);
-    x.counts.heads = heads;
+    x.counts = registers::with_heads(r.counts, heads, 0);
     x.last = last;
     x
 }

@@ -43,26 +43,44 @@ fn after_effect(p: Count, e: Effect) -> Played
     match e {
         Effect::Counts => {
             if p.notes < 100000 {
-                let notes = p.notes + 1;
-                let mut r = p;
-                r.notes = notes;
+                let r = Count {
+                    notes: p.notes + 1,
+                    unit: p.unit,
+                    top: p.top,
+                    bottom: p.bottom,
+                };
                 return Played::On(r);
             }
             Played::Refused(11)
         }
         Effect::Refuses(n) => Played::Refused(n),
         Effect::SetsUnit(u) => {
-            let mut r = p;
-            r.unit = u;
+            let r = Count {
+                notes: p.notes,
+                unit: u,
+                top: p.top,
+                bottom: p.bottom,
+            };
             Played::On(r)
         }
         Effect::SetsMeter { top, bottom } => {
-            let mut r = p;
-            r.top = top;
-            r.bottom = bottom;
+            let r = Count {
+                notes: p.notes,
+                unit: p.unit,
+                top,
+                bottom,
+            };
             Played::On(r)
         }
-        Effect::Passes => Played::On(p),
+        Effect::Passes => {
+            let r = Count {
+                notes: p.notes,
+                unit: p.unit,
+                top: p.top,
+                bottom: p.bottom,
+            };
+            Played::On(r)
+        }
     }
 }
 

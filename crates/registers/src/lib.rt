@@ -87,6 +87,33 @@ pub struct Registers {
     pub verses: Verses,
 }
 
+// PARTS OF IT CHANGED: every field is named, since a copy of several at once would put them into memory
+
+// A line with another run.
+pub fn with_run(line: Line, run: u8) -> Line
+    ensures { λ r. ⌜ r ≡ record { unit = line .unit; top = line .top; bottom = line .bottom; overlay = line .overlay; run = run } ⌝ }
+{
+    Line {
+        unit: line.unit,
+        top: line.top,
+        bottom: line.bottom,
+        overlay: line.overlay,
+        run,
+    }
+}
+
+// Counts with another number of measures and of accidentals in force.
+pub fn with_heads(c: Counts, heads: u32, scopes: u32) -> Counts
+    ensures { λ r. ⌜ r ≡ record { heads = heads; notes = c .notes; pitches = c .pitches; scopes = scopes } ⌝ }
+{
+    Counts {
+        heads,
+        notes: c.notes,
+        pitches: c.pitches,
+        scopes,
+    }
+}
+
 // WHAT A NOTE GETS
 
 // A note, from an eighth to a 128th, can be beamed.

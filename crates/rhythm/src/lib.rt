@@ -128,7 +128,7 @@ fn run_on(r: Registers, run: u8) -> Registers
     ensures { λ x. ⌜ x ≡ runs r run ⌝ }
 {
     let mut x = r;
-    x.line.run = run;
+    x.line = registers::with_run(r.line, run);
     x
 }
 

@@ -7,6 +7,7 @@ ghost use Rattle.held.specs.Held.{Room, Holding};
 ghost use Rattle.sounds.specs.Sounds.{restRow, soundRow, pendingOn, keptOf, restLeft, soundLeft, Finishable, Finishes, Leaves, Pushable, Pushes, NotesAs};
 use lengths::Length;
 use pitches::Pitch;
+use registers::Counts;
 use registers::Pending;
 use registers::Registers;
 use registers::Tables;
@@ -100,8 +101,14 @@ pub fn push_pitch(store: &mut [u8], t: Tables, r: Registers, pitch: Pitch) -> Re
     let pitches = r.counts.pitches + 1;
     let scopes = p.count;
     let mut x = r;
-    x.counts.pitches = pitches;
-    x.counts.scopes = scopes;
+    let c = r.counts;
+    let counts = Counts {
+        heads: c.heads,
+        notes: c.notes,
+        pitches,
+        scopes,
+    };
+    x.counts = counts;
     let key = p.state;
     x.key = key;
     x

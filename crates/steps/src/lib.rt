@@ -23,7 +23,7 @@ pub fn on_space(r: Registers) -> Registers
     ensures { λ x. ⌜ ((t : Tables) (s : List ℕ) → Does t s r s x 0 0 0 0 (λ l. onToken l token.space)) ⌝ }
 {
     let mut x = r;
-    x.line.run = 0;
+    x.line = registers::with_run(r.line, 0);
     x
 }
 
@@ -107,7 +107,8 @@ pub fn hear(r: Registers, fifths: u8, minor: bool) -> Registers
         scopes: none,
     };
     let mut x = r;
-    x.counts.scopes = 0;
+    let heads = r.counts.heads;
+    x.counts = registers::with_heads(r.counts, heads, 0);
     x.key = key;
     x
 }

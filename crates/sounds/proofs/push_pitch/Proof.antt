@@ -17,8 +17,8 @@ add-pitches c = let room = c .before .before .before .before .before .before .be
 
 returns : tie.Need-returns
 returns c =
-    let a = c .before .before .before .before .before .before .before .before .before .before .before .before .before .before .before .before .before .args in
-    pushes (a .t) (a .store .now) (a .r) (a .pitch) (c .before .before .before .before .before .before .before .before .before .before .before .before .before .before .before .before .before .pre .0) _ _ _ (c .before .before .before .before .before .before .before .before .before .before .before .before .resolve-abc-pitch .ensures) (c .before .before .before .before .before .before .put-pitch .ensures) (c .before .before .before .before .before .before .before .before .before .before .before .before .before .before .before .before .before .pre .1)
+    let a = c .before .before .before .before .before .before .before .before .before .before .before .before .before .before .before .before .args in
+    pushes (a .t) (a .store .now) (a .r) (a .pitch) (c .before .before .before .before .before .before .before .before .before .before .before .before .before .before .before .before .pre .0) _ _ _ (c .before .before .before .before .before .before .before .before .before .before .before .resolve-abc-pitch .ensures) (c .before .before .before .before .before .put-pitch .ensures) (c .before .before .before .before .before .before .before .before .before .before .before .before .before .before .before .before .pre .1)
 
 pub push-pitch-spec : {M : Type 1} → statement M
 push-pitch-spec = tie.close (tie.spec (λ c. search needs) resolve-abc-pitch-requires (λ c. search needs) (λ c κs. search needs) add-pitches (λ c. search needs) returns)
