@@ -1,22 +1,27 @@
 -- WALKING: what a caller says of the syllables of a note that it has met so far.
 use Prim.Native.Nat.{ℕ, _+_, _-_, _≤_, _<_}
 use mathlib.Core.Path.{_≡_, refl, sym, ap, _∙_}
+use mathlib.Core.Bool.{false}
 use mathlib.Core.List.{List, [], _∷_, _++_, map, append-nil, append-assoc}
 use native.Mathlib.Omega.{arith}
 use lib.Dec.{leb}
 use lib.ListN.{length, getD, length-map}
-use borrow.Author.Tests.{leb-true}
+use borrow.Author.Tests.{leb-true, eq-eqb, ne-eqb}
 use Rattle.laws.specs.Bytes.{part, between}
 use Rattle.laws.proofs.Lists.{keep-passes, map-append}
 use Rattle.laws.proofs.Parts.{length-between, part-suc}
 use Rattle.standard.specs.Lyrics.{syllableText}
-use Rattle.reader.specs.Lyrics.{Syllable}
+use Rattle.reader.specs.Lyrics.{Syllable, put}
 use Rattle.lyrics.specs.declared.Sheet.{Sheet}
-use Rattle.lyrics.specs.Sheet.{syllablesIn}
+use Rattle.lyrics.specs.Sheet.{syllableOf, happens, syllablesIn}
 use Rattle.lyric_walk.specs.declared.Found.{Found}
 use Rattle.lyric_walk.specs.declared.Next.the-variants as N
-use Rattle.lyric_walk.specs.Walks.{chain, HeadIs, fromVerse, syllableIs, NextIs, InText, NextIn, sungByte}
+use Rattle.lyric_walk.specs.declared.Sole.the-variants as S
+use Rattle.lyric_walk.specs.declared.Link.{Link}
+use Rattle.lyric_walk.specs.Walks.{chain, HeadIs, rowOfLink, LinkIs, fromVerse, syllableIs, NextIs, InText, NextIn, SoleIs, sungByte}
+use Rattle.lyric_walk.proofs.Chains.{chain-none}
 use Rattle.lyric_walk.proofs.Verses.{walk-start}
+use Rattle.lyric_walk.proofs.Steps.{found}
 
 -- A SYLLABLE IN THE TEXT
 same-syllable : (text : List ℕ) (f r : Found) → InText (length text) f r → syllableIs text r ≡ syllableIs text f
@@ -39,6 +44,24 @@ next-in text s log k from f r n i =
 
 pub none-in : (text s : List ℕ) (log k from : ℕ) → NextIs s log k from N.NoMore → NextIn text s log k from N.NoMore
 none-in text s log k from n = record { comes = n .goes text }
+
+-- A CHAIN OF ONE ROW, or of none
+pub sole-none : (text s : List ℕ) (log k : ℕ) → k ≡ 0 → SoleIs text s log k S.Nothing
+sole-none text s log k e = record { says = ap (chain text s log) e ∙ chain-none text s log }
+
+module _ (text s : List ℕ) (log k : ℕ) (r : Link) (is : LinkIs s log k r) (last : r .next ≡ 0) where
+  alone : chain text s log k ≡ happens text (rowOfLink r) []
+  alone = is .sung text ∙ ap (happens text (rowOfLink r)) (ap (chain text s log) last ∙ chain-none text s log)
+
+  pub sole-hold : r .code ≡ 4 → SoleIs text s log k S.Nothing
+  unfolding happens
+  sole-hold e = record { says = alone ∙ rw (eq-eqb (r .code) 4 e, happens) }
+
+  pub sole-one : (r .code ≡ 4 → ⊥) → (f : Found) → InText (length text) (found r false) f → SoleIs text s log k (S.One f)
+  unfolding happens put syllableOf syllableIs
+  sole-one n f i =
+      let one : happens text (rowOfLink r) [] ≡ syllableIs text (found r false) ∷ [] = rw (ne-eqb (r .code) 4 n, happens) in
+      record { says = (alone ∙ one ∙ ap (λ (y : Syllable). y ∷ []) (sym (same-syllable text (found r false) f i)), i .cut .order, i .cut .high) }
 
 -- WALKING
 -- `met` are the syllables of the chain below verse `from`

@@ -18,6 +18,8 @@ use Rattle.lyrics.specs.Sheet.{happens, sungFrom, syllablesIn}
 use Rattle.lyric_walk.specs.declared.Found.{Found}
 use Rattle.lyric_walk.specs.declared.Next.{Next}
 use Rattle.lyric_walk.specs.declared.Next.the-variants as N
+use Rattle.lyric_walk.specs.declared.Sole.{Sole}
+use Rattle.lyric_walk.specs.declared.Sole.the-variants as S
 use Rattle.lyric_walk.specs.declared.Link.{Link}
 
 -- the tables are within scratch
@@ -98,6 +100,15 @@ Comes text ys from N.NoMore = fromVerse from ys ≡ []
 
 pub record NextIn (text s : List ℕ) (log k from : ℕ) (r : Next) : Type 0 where
   pub comes : Comes text (chain text s log k) from r
+
+-- all of them, where there is no more than one, which stands in the text
+abbrev pub Says : List ℕ → List Syllable → Sole → Type 0
+Says text ys S.Nothing = ys ≡ []
+Says text ys (S.One f) = (ys ≡ syllableIs text f ∷ []) × (f .at ≤ f .end) × (f .end ≤ length text)
+Says text ys S.Several = Unit {0}
+
+pub record SoleIs (text s : List ℕ) (log k : ℕ) (r : Sole) : Type 0 where
+  pub says : Says text (chain text s log k) r
 
 -- a byte of a syllable's text
 abbrev pub sungByte : ℕ → ℕ

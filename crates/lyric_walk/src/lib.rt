@@ -1,10 +1,10 @@
-// What is sung to a note, read from scratch: its syllables in the order of their verses, one by one. A chain is walked twice for each syllable.
+// What is sung to a note, read from scratch: its syllables in the order of their verses, one by one. A chain of several rows is walked twice for each syllable.
 ghost use Prim.Native.Nat.{_+_, _*_, _≤_, _<_};
 ghost use mathlib.Core.Path.{_≡_};
 ghost use mathlib.Core.Bool.{cond, not, _&&_, _||_};
 ghost use lib.Dec.{eqb, ltb};
 ghost use lib.ListN.{length};
-ghost use Rattle.lyric_walk.specs.Walks.{Tables, HeadIs, LinkIs, LeastIs, better, FoundIs, NextIs, withPlace, InText, NextIn, sungByte};
+ghost use Rattle.lyric_walk.specs.Walks.{Tables, HeadIs, LinkIs, LeastIs, better, FoundIs, NextIs, withPlace, InText, NextIn, SoleIs, sungByte};
 
 // A syllable: its verse, its syllabic's number, whether a later note holds it, and its place in the text.
 pub struct Found {
@@ -18,6 +18,13 @@ pub struct Found {
 pub enum Next {
     Sung(Found),
     NoMore,
+}
+
+// What is sung to a note, if its chain has no more than one row.
+pub enum Sole {
+    Nothing,
+    One(Found),
+    Several,
 }
 
 // A row of a chain, and the place, from 1, of the row below it, 0 for none.
@@ -194,6 +201,32 @@ pub fn next_syllable(text: &[u8], scratch: &[u8], log: usize, k: usize, from: us
     };
     let g = in_text(text.len(), f);
     Next::Sung(g)
+}
+
+// What is sung to a note whose chain begins at row k, at once where it has one row or none.
+pub fn sole_syllable(text: &[u8], scratch: &[u8], log: usize, k: usize) -> Sole
+    requires { ⌜ log + 16 * k ≤ length (now scratch) ⌝ }
+    ensures { λ r. ⌜ SoleIs (now (text .entry)) (now (scratch .entry)) log k r ⌝ }
+{
+    if k == 0 {
+        return Sole::Nothing;
+    }
+    let row = get_link(scratch, log, k);
+    if row.next != 0 {
+        return Sole::Several;
+    }
+    if row.code == lyrics::HOLD {
+        return Sole::Nothing;
+    }
+    let found = Found {
+        verse: row.verse,
+        syllabic: row.code,
+        extend: false,
+        at: row.at,
+        end: row.end,
+    };
+    let f = in_text(text.len(), found);
+    Sole::One(f)
 }
 
 // A byte of a syllable as it is written: `~` is a space.

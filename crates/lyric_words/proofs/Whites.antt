@@ -7,10 +7,10 @@ use native.Mathlib.Omega.{arith}
 use lib.ListN.{length, getD, take, drop}
 use Rattle.laws.specs.Bytes.{between}
 use Rattle.laws.proofs.Parts.{length-between, between-none, between-first, take-between, drop-between}
-use Rattle.reader.specs.Text.{isBlank}
+use Rattle.reader.specs.Text.{isSpace, isBlank}
 use Rattle.reader.specs.Pieces.{words, whiteAt}
 use Rattle.reader.proofs.WordLaws.{stretch, words-mark, words-word}
-use Rattle.white.proofs.Whites.{widthBy}
+use Rattle.white.proofs.Whites.{widthBy, width-space, width-plain}
 use Rattle.lyric_words.specs.Words.{WordStart, WordEnd}
 
 -- a white character is within the text
@@ -55,6 +55,13 @@ module _ (text : List ℕ) (i end : ℕ) (h : i < end) (l : end ≤ length text)
       ∙ words-mark whiteAt (getD text i 0) (between text (i + 1) end) n (ap whiteAt (sym here) ∙ sym e)
       ∙ ap (words whiteAt) (drop-between text (i + 1) end n ∙ ap (λ (j : ℕ). between text j end) k)
 
+  -- ASCII by one byte: a space is passed over, another byte begins no white space
+  pub space-past : isSpace (getD text i 0) ≡ true → words whiteAt (between text i end) ≡ words whiteAt (between text (i + 1) end)
+  space-past e = white-past 1 (width-space (getD text i 0) (between text (i + 1) end) e ∙ ap whiteAt (sym here)) (omega arith)
+
+  pub plain-here : getD text i 0 ≤ 127 → isSpace (getD text i 0) ≡ false → whiteAt (between text i end) ≡ 0
+  plain-here k e = sym (width-plain (getD text i 0) (between text (i + 1) end) k e ∙ ap whiteAt (sym here))
+
   -- a byte that begins no white space belongs to the word
   pub stretch-on : whiteAt (between text i end) ≡ 0 → stretch whiteAt (between text i end) ≡ suc (stretch whiteAt (between text (i + 1) end))
   unfolding stretch
@@ -80,6 +87,10 @@ stretch-over text i end h = ap (stretch whiteAt) (between-none text i end h)
 pub start-here : (text : List ℕ) (at end i : ℕ) → at ≤ i → i ≤ end → words whiteAt (between text at end) ≡ words whiteAt (between text i end)
     → (i < end → whiteAt (between text i end) ≡ 0) → WordStart text at end i
 start-here text at end i a b c d = record { low = a; high = b; same = c; starts = d }
+
+-- the same from an earlier position, if white space stands between
+pub start-before : (text : List ℕ) (at end i r : ℕ) → at ≤ i → words whiteAt (between text at end) ≡ words whiteAt (between text i end) → WordStart text i end r → WordStart text at end r
+start-before text at end i r a c w = record { low = omega (arith, w .low); high = w .high; same = c ∙ w .same; starts = w .starts }
 
 -- ITS END
 pub end-here : (text : List ℕ) (at end r : ℕ) → at < end → end ≤ length text → whiteAt (between text at end) ≡ 0

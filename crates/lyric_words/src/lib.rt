@@ -33,7 +33,7 @@ pub struct Read {
 }
 
 // The first byte at or behind `at` that is no white space, or `end`.
-fn word_start(text: &[u8], at: usize, end: usize) -> usize
+fn past_white(text: &[u8], at: usize, end: usize) -> usize
     requires { ⌜ (at ≤ end) × (end ≤ length (now text)) ⌝ }
     ensures { λ r. ⌜ WordStart (now (text .entry)) at end r ⌝ }
 {
@@ -44,6 +44,25 @@ fn word_start(text: &[u8], at: usize, end: usize) -> usize
             return i;
         }
         i += w;
+    }
+    i
+}
+
+// The same, byte by byte as long as they are ASCII.
+fn word_start(text: &[u8], at: usize, end: usize) -> usize
+    requires { ⌜ (at ≤ end) × (end ≤ length (now text)) ⌝ }
+    ensures { λ r. ⌜ WordStart (now (text .entry)) at end r ⌝ }
+{
+    let mut i = at;
+    while i < end {
+        let b = text[i];
+        if 127 < b {
+            return past_white(text, i, end);
+        }
+        if !white::is_space(b) {
+            return i;
+        }
+        i += 1;
     }
     i
 }

@@ -105,13 +105,19 @@ fn write_voices(store: &[u8], place: usize, k: usize, pitches: usize, to: &mut [
     Wrote::To(at)
 }
 
-// The pitches of one measure, whose k rows begin at `place`. Those of one voice stand as they are written.
-fn write_measure(store: &[u8], place: usize, k: usize, pitches: usize, to: &mut [u8]) -> Wrote
-    requires { ⌜ (place + 16 * k ≤ length (now store)) × (pitches + 5 * pitchTotal (now store) place k ≤ length (now store)) ⌝ }
+// The pitches of one measure, whose k rows begin at `place`; they end at `end`. Those of one voice stand as they are written.
+fn write_measure(
+    store: &[u8],
+    place: usize,
+    k: usize,
+    pitches: usize,
+    end: usize,
+    to: &mut [u8],
+) -> Wrote
+    requires { ⌜ (place + 16 * k ≤ length (now store)) × (pitches + 5 * pitchTotal (now store) place k ≤ length (now store)) × (end ≡ pitches + 5 * pitchTotal (now store) place k) ⌝ }
     ensures { λ r. ⌜ WroteIs (now (to .entry)) (voicesOut (now (store .entry)) place pitches k 0 4) (now (to .exit)) r ⌝ }
 {
     if writers::is_lead(store, place, k) {
-        let end = pitches_end(store, place, k, pitches);
         return write_run(store, pitches, end - pitches, to);
     }
     write_voices(store, place, k, pitches, to)
@@ -136,11 +142,12 @@ fn write_records(
     let mut left = n;
     while 0 < left {
         let k = writers::note_count(store, h);
-        let Wrote::To(m) = write_measure(store, p, k, q, &mut to[at..]) else {
+        let end = pitches_end(store, p, k, q);
+        let Wrote::To(m) = write_measure(store, p, k, q, end, &mut to[at..]) else {
             return Wrote::NoRoom;
         };
         at += m;
-        q = pitches_end(store, p, k, q);
+        q = end;
         h += 28;
         p += 16 * k;
         left -= 1;

@@ -12,6 +12,7 @@ use Rattle.laws.specs.Lists.{keep, sum}
 use Rattle.laws.specs.Bytes.{part, between}
 use Rattle.laws.proofs.Bools.{by-test}
 use Rattle.laws.proofs.Lists.{drop-next, keep-le}
+use Rattle.laws.proofs.Parts.{part-all, length-between, between-first, between-none, between-cut}
 use Rattle.standard.specs.Pitches.{isLetter}
 use Rattle.reader.specs.Scan.{Item, born, reset, headed, keyed, metered, sung, played, Items}
 use Rattle.reader.specs.Steps.{mine}
@@ -24,7 +25,8 @@ use Rattle.table.specs.Rows.{itemAs, itemIn, itemsIn, RowIs}
 use Rattle.table.proofs.Rows.{items-get, length-items}
 use Rattle.lyrics.specs.Items.{itemAt}
 use Rattle.sizing.specs.declared.Made.{Made}
-use Rattle.sizing.specs.Counting.{madeOf, more, Few}
+use Rattle.sizing.specs.declared.Block.{Block}
+use Rattle.sizing.specs.Counting.{madeOf, more, both, asMade, Few, Under, Adds}
 
 -- A BYTE
 pub one-most : (b : Bool) → cond b 1 0 ≤ 1
@@ -49,6 +51,9 @@ byte-more m c =
 -- MORE BYTES
 abbrev noneMade : Made
 noneMade = record { bars = 0; letters = 0; rests = 0; signs = 0 }
+
+abbrev noneCounted : Block
+noneCounted = record { bars = 0; letters = 0; rests = 0; signs = 0 }
 
 more-both : (m : Made) (s t : List ℕ) → more (more m s) t ≡ more m (s ++ t)
 more-both m s t =
@@ -92,30 +97,63 @@ signs-most : (l : List ℕ) → signs l ≤ length l
 unfolding signs
 signs-most l = keep-le isSign l
 
--- with what is to come it is what these can make: so k more can be counted
-few-from : (m q : Made) (l r : List ℕ) (k : ℕ) → Few m (length l + k) → more q r ≡ more m l → Few q k
-few-from m q l r k f e =
-    record {
-      bars = omega (arith, f .bars, bars-most l, ap (λ (x : Made). x .bars) e);
-      letters = omega (arith, f .letters, letters-most l, ap (λ (x : Made). x .letters) e);
-      rests = omega (arith, f .rests, rests-most l, ap (λ (x : Made). x .rests) e);
-      signs = omega (arith, f .signs, signs-most l, ap (λ (x : Made). x .signs) e);
-    }
+-- A BLOCK from `at` up to e, of which the bytes before i are counted
+module _ (line : List ℕ) (at e : ℕ) where
+  pub block-start : more (asMade noneCounted) (between line at e) ≡ madeOf (between line at e)
+  block-start = none-more (between line at e)
+
+  module _ (q : Block) (i : ℕ) (fits : e ≤ length line) (left : more (asMade q) (between line i e) ≡ madeOf (between line at e)) where
+    pub block-under : (k : ℕ) → e - at < k → Under k q
+    block-under k h =
+        let l = between line at e in
+        let n : length l ≡ e - at = length-between line at e fits in
+        record {
+          bars = omega (arith, n, bars-most l, ap (λ (x : Made). x .bars) left);
+          letters = omega (arith, n, letters-most l, ap (λ (x : Made). x .letters) left);
+          rests = omega (arith, n, rests-most l, ap (λ (x : Made). x .rests) left);
+          signs = omega (arith, n, signs-most l, ap (λ (x : Made). x .signs) left);
+        }
+
+    pub block-next : (q′ : Block) → i < e → asMade q′ ≡ more (asMade q) (getD line i 0 ∷ []) → more (asMade q′) (between line (i + 1) e) ≡ madeOf (between line at e)
+    block-next q′ h y =
+        ap (λ (x : Made). more x (between line (i + 1) e)) y
+        ∙ more-both (asMade q) (getD line i 0 ∷ []) (between line (i + 1) e)
+        ∙ ap (more (asMade q)) (sym (between-first line i e h fits))
+        ∙ left
+
+    pub block-over : e ≤ i → asMade q ≡ madeOf (between line at e)
+    block-over h = sym (more-none (asMade q)) ∙ ap (more (asMade q)) (sym (between-none line i e h)) ∙ left
 
 -- A LINE, of which i bytes are counted
-module _ (line : List ℕ) (m q : Made) (i : ℕ) (left : more q (drop i line) ≡ more m line) where
-  pub line-few : Few m (length line + 1) → Few q 1
-  line-few f = few-from m q line (drop i line) 1 f left
+pub line-start : (line : List ℕ) (m : Made) → more m (between line 0 (length line)) ≡ more m line
+line-start line m =
+    let n : length line - 0 ≡ length line = omega arith in
+    ap (λ (k : ℕ). more m (part line 0 k)) n ∙ ap (more m) (part-all line (length line) (omega arith))
 
-  pub line-next : (q′ : Made) → i < length line → q′ ≡ more q (getD line i 0 ∷ []) → more q′ (drop (i + 1) line) ≡ more m line
-  line-next q′ h e =
-      ap (λ (x : Made). more x (drop (i + 1) line)) e
-      ∙ more-both q (getD line i 0 ∷ []) (drop (i + 1) line)
-      ∙ ap (more q) (sym (drop-next line i 0 h))
-      ∙ left
-
+module _ (line : List ℕ) (m q : Made) (i : ℕ) (left : more q (between line i (length line)) ≡ more m line) where
   pub line-over : length line ≤ i → q ≡ more m line
-  line-over h = sym (more-none q) ∙ ap (more q) (sym (drop-of-length-le line h)) ∙ left
+  line-over h = sym (more-none q) ∙ ap (more q) (sym (between-none line i (length line) h)) ∙ left
+
+  -- the block from i up to e
+  module _ (b : Block) (e : ℕ) (low : i ≤ e) (high : e ≤ length line) (is : asMade b ≡ madeOf (between line i e)) where
+    split : more (both q (asMade b)) (between line e (length line)) ≡ more m line
+    split =
+        ap (λ (x : Made). more (both q x) (between line e (length line))) is
+        ∙ more-both q (between line i e) (between line e (length line))
+        ∙ ap (more q) (sym (between-cut line i (length line) e low high))
+        ∙ left
+
+    pub line-adds : Few m (length line + 1) → Adds q b
+    line-adds f =
+        record {
+          bars = omega (arith, f .bars, bars-most line, ap (λ (x : Made). x .bars) split);
+          letters = omega (arith, f .letters, letters-most line, ap (λ (x : Made). x .letters) split);
+          rests = omega (arith, f .rests, rests-most line, ap (λ (x : Made). x .rests) split);
+          signs = omega (arith, f .signs, signs-most line, ap (λ (x : Made). x .signs) split);
+        }
+
+    pub line-next : (q′ : Made) → q′ ≡ both q (asMade b) → more q′ (between line e (length line)) ≡ more m line
+    line-next q′ y = ap (λ (x : Made). more x (between line e (length line))) y ∙ split
 
 -- AN ITEM
 -- of a kind that is no music line

@@ -4,6 +4,7 @@ use mathlib.Core.List.{List}
 use Rattle.sizes.specs.Sizes.{bars, letters, rests, signs}
 use Rattle.registers.specs.declared.Tables.{Tables}
 use Rattle.sizing.specs.declared.Made.{Made}
+use Rattle.sizing.specs.declared.Block.{Block}
 
 -- what bytes can make
 abbrev pub madeOf : List ℕ → Made
@@ -12,6 +13,28 @@ madeOf l = record { bars = bars l; letters = letters l; rests = rests l; signs =
 -- what these can make and more bytes
 abbrev pub more : Made → List ℕ → Made
 more m l = record { bars = m .bars + bars l; letters = m .letters + letters l; rests = m .rests + rests l; signs = m .signs + signs l }
+
+-- two counts in one
+abbrev pub both : Made → Made → Made
+both m k = record { bars = m .bars + k .bars; letters = m .letters + k .letters; rests = m .rests + k .rests; signs = m .signs + k .signs }
+
+-- the counts of a block
+abbrev pub asMade : Block → Made
+asMade b = record { bars = b .bars; letters = b .letters; rests = b .rests; signs = b .signs }
+
+-- each is below k
+pub record Under (k : ℕ) (b : Block) : Type 0 where
+  pub bars : b .bars < k
+  pub letters : b .letters < k
+  pub rests : b .rests < k
+  pub signs : b .signs < k
+
+-- they can be added
+pub record Adds (m : Made) (b : Block) : Type 0 where
+  pub bars : m .bars + b .bars < 2 ^ 64
+  pub letters : m .letters + b .letters < 2 ^ 64
+  pub rests : m .rests + b .rests < 2 ^ 64
+  pub signs : m .signs + b .signs < 2 ^ 64
 
 -- k more can be counted
 pub record Few (m : Made) (k : ℕ) : Type 0 where

@@ -4,12 +4,13 @@ ghost use mathlib.Core.Bool.{cond};
 ghost use mathlib.Core.List.{[], _∷_};
 ghost use Prim.Native.Nat.{_+_, _*_, _^_, _≤_, _<_};
 ghost use lib.ListN.{length};
+ghost use Rattle.laws.specs.Bytes.{between};
 ghost use Rattle.reader.specs.Steps.{mine};
 ghost use Rattle.sizes.specs.Sizes.{isBar, isRest, isSign};
 ghost use Rattle.sizes.specs.Music.{musicOf};
 ghost use Rattle.table.specs.Rows.{itemIn, itemsIn};
 ghost use Rattle.lyrics.specs.Items.{itemAt};
-ghost use Rattle.sizing.specs.Counting.{madeOf, more, Few, tablesAt};
+ghost use Rattle.sizing.specs.Counting.{madeOf, more, both, asMade, Few, Under, Adds, tablesAt};
 ghost use Rattle.sizing.specs.Room.{PartRoom, Sized};
 use registers::Tables;
 
@@ -57,18 +58,26 @@ fn is_sign(c: u8) -> bool
     c == b'='
 }
 
-fn one(b: bool) -> usize
+fn one(b: bool) -> u8
     ensures { λ r. ⌜ r ≡ cond b 1 0 ⌝ }
 {
     if b { 1 } else { 0 }
 }
 
+// The same for at most 240 bytes. Counts of one byte let a loop take many bytes at a time.
+struct Block {
+    bars: u8,
+    letters: u8,
+    rests: u8,
+    signs: u8,
+}
+
 // One byte more.
-fn with_byte(m: Made, c: u8) -> Made
-    requires { ⌜ Few m 1 ⌝ }
-    ensures { λ r. ⌜ r ≡ more m (c ∷ []) ⌝ }
+fn with_byte(m: Block, c: u8) -> Block
+    requires { ⌜ Under 255 m ⌝ }
+    ensures { λ r. ⌜ asMade r ≡ more (asMade m) (c ∷ []) ⌝ }
 {
-    Made {
+    Block {
         bars: m.bars + one(is_bar(c)),
         letters: m.letters + one(pitches::is_letter(c)),
         rests: m.rests + one(is_rest(c)),
@@ -76,7 +85,50 @@ fn with_byte(m: Made, c: u8) -> Made
     }
 }
 
-// The bytes of a line more.
+// The bytes from `at` up to `end`.
+fn block_made(line: &[u8], at: usize, end: usize) -> Block
+    requires { ⌜ (at ≤ end) × (end ≤ length (now line)) × (end ≤ at + 240) ⌝ }
+    ensures { λ r. ⌜ asMade r ≡ madeOf (between (now (line .entry)) at end) ⌝ }
+{
+    let mut q = Block {
+        bars: 0,
+        letters: 0,
+        rests: 0,
+        signs: 0,
+    };
+    let mut i = at;
+    while i < end {
+        q = with_byte(q, line[i]);
+        i += 1;
+    }
+    q
+}
+
+// A block more.
+fn with_block(m: Made, b: Block) -> Made
+    requires { ⌜ Adds m b ⌝ }
+    ensures { λ r. ⌜ r ≡ both m (asMade b) ⌝ }
+{
+    Made {
+        bars: m.bars + b.bars as usize,
+        letters: m.letters + b.letters as usize,
+        rests: m.rests + b.rests as usize,
+        signs: m.signs + b.signs as usize,
+    }
+}
+
+// Where the block at `at` ends, in a line that ends at `end`.
+fn block_end(at: usize, end: usize) -> usize
+    requires { ⌜ at < end ⌝ }
+    ensures { λ r. ⌜ (at < r) × (r ≤ end) × (r ≤ at + 240) ⌝ }
+{
+    if end - at <= 240 {
+        return end;
+    }
+    at + 240
+}
+
+// The bytes of a line more, block by block.
 fn with_line(line: &[u8], m: Made) -> Made
     requires { ⌜ Few m (length (now line) + 1) ⌝ }
     ensures { λ r. ⌜ r ≡ more m (now (line .entry)) ⌝ }
@@ -84,8 +136,10 @@ fn with_line(line: &[u8], m: Made) -> Made
     let mut q = m;
     let mut i: usize = 0;
     while i < line.len() {
-        q = with_byte(q, line[i]);
-        i += 1;
+        let end = block_end(i, line.len());
+        let b = block_made(line, i, end);
+        q = with_block(q, b);
+        i = end;
     }
     q
 }

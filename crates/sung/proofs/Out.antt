@@ -42,7 +42,9 @@ use Rattle.pitched.specs.Out.{musicOut, PitchesIn}
 use Rattle.pitched.proofs.Out.{music-section}
 use Rattle.syllables.specs.Pieces.{piece, pieces}
 use Rattle.syllables.proofs.Pieces.{length-record}
-use Rattle.sung.specs.Out.{leadRow, sungRow, sungRows, rowsOut, measuresOut, countOf, sectionOut}
+use Rattle.sung.specs.declared.Passed.{Passed}
+use Rattle.sung.specs.declared.Passed.the-variants as P
+use Rattle.sung.specs.Out.{leadRow, sungRow, sungRows, rowsOut, Says, PassedIs, measuresOut, countOf, sectionOut}
 
 -- A ROW, as the code asks for it
 module _ (s : List ℕ) (p : ℕ) where
@@ -58,19 +60,19 @@ module _ (s : List ℕ) (p : ℕ) where
   unfolding sungRow leadRow
   row-sung h g = and-both _ _ (eq-eqb _ 0 h) (eq-eqb _ 0 g)
 
-  pub not-sung : sungRow s p ≡ false → 0 ≡ bit (sungRow s p) 1
-  unfolding bit
-  not-sung e = rw e
-
-  pub is-sung : sungRow s p ≡ true → 1 ≡ bit (sungRow s p) 1
-  unfolding bit
-  is-sung e = rw e
-
 -- STEPS, as the loops take them
-pub sung-step : (s : List ℕ) (p k : ℕ) → 0 < k → sungRows s p k ≡ bit (sungRow s p) 1 + sungRows s (p + 16) (k - 1)
+sung-step : (s : List ℕ) (p k : ℕ) → 0 < k → sungRows s p k ≡ bit (sungRow s p) 1 + sungRows s (p + 16) (k - 1)
 unfolding sungRows
 sung-step s p zero h = absurd (omega arith)
 sung-step s p (suc k) h = let e : suc k - 1 ≡ k = omega arith in rw e
+
+pub sung-other : (s : List ℕ) (p k : ℕ) → 0 < k → sungRow s p ≡ false → sungRows s p k ≡ sungRows s (p + 16) (k - 1)
+unfolding bit
+sung-other s p k h e = sung-step s p k h ∙ rw e (omega arith)
+
+pub sung-one : (s : List ℕ) (p k : ℕ) → 0 < k → sungRow s p ≡ true → sungRows s p k ≡ 1 + sungRows s (p + 16) (k - 1)
+unfolding bit
+sung-one s p k h e = sung-step s p k h ∙ rw e
 
 pub sung-none : (s : List ℕ) (p k : ℕ) → k ≡ 0 → sungRows s p k ≡ 0
 unfolding sungRows
@@ -80,6 +82,13 @@ pub sung-low : (s : List ℕ) (p k : ℕ) → sungRows s p k ≤ k
 unfolding sungRows
 sung-low s p zero = omega arith
 sung-low s p (suc k) = omega (arith, bit-le (sungRow s p) 1, sung-low s (p + 16) k)
+
+-- what the rows of a measure say, where the answer is known
+pub passed-to : {d bs e : List ℕ} {j : ℕ} {r : Passed} → PassedIs d bs e j r → {n q : ℕ} → r ≡ P.To n q → WroteIs d bs e (To n) × (q ≡ j)
+passed-to {d} {bs} {e} {j} w p = subst (Says d bs e j) p (w .says)
+
+pub passed-none : {d bs e : List ℕ} {j : ℕ} {r : Passed} → PassedIs d bs e j r → r ≡ P.NoRoom → WroteIs d bs e NoRoom
+passed-none {d} {bs} {e} {j} w p = subst (Says d bs e j) p (w .says)
 
 module _ (b : Bool) (ws : List (List Syllable)) (s : List ℕ) where
   rows-step : (i j p k : ℕ) → 0 < k

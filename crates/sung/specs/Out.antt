@@ -1,6 +1,7 @@
 -- THE LYRICS OF A PART in the order of the reading, as the bytes of its tables in scratch give them: records, or texts. ws has the syllables of each note that
 -- is sung.
 use Prim.Native.Nat.{ℕ, zero, suc, _+_, _*_, _/_}
+use mathlib.Core.Path.{_≡_}
 use mathlib.Core.Bool.{Bool, cond, _&&_}
 use mathlib.Core.List.{List, [], _++_}
 use lib.Dec.{eqb}
@@ -8,8 +9,12 @@ use lib.ListN.{length, getD}
 use Rattle.laws.specs.Bytes.{le32}
 use Rattle.reader.specs.Codes.{bit}
 use Rattle.reader.specs.Lyrics.{Syllable}
+use Rattle.sections.specs.declared.Wrote.the-variants as W
+use Rattle.sections.specs.Writes.{WroteIs}
 use Rattle.writers.specs.Out.{noteCount}
 use Rattle.syllables.specs.Pieces.{pieces}
+use Rattle.sung.specs.declared.Passed.{Passed}
+use Rattle.sung.specs.declared.Passed.the-variants as P
 
 -- the row at p is of a note of voice 0
 unfoldable pub leadRow : List ℕ → ℕ → Bool
@@ -28,6 +33,14 @@ sungRows s p (suc k) = bit (sungRow s p) 1 + sungRows s (p + 16) k
 unfoldable pub rowsOut : Bool → List (List Syllable) → List ℕ → ℕ → ℕ → ℕ → ℕ → List ℕ
 rowsOut texts ws s i j p zero = []
 rowsOut texts ws s i j p (suc k) = cond (sungRow s p) (pieces texts i (getD ws j [])) [] ++ rowsOut texts ws s (i + bit (leadRow s p) 1) (j + bit (sungRow s p) 1) (p + 16) k
+
+-- bs was to be written for rows before which, and among which, j notes are sung
+abbrev pub Says : List ℕ → List ℕ → List ℕ → ℕ → Passed → Type 0
+Says d bs e j (P.To n q) = WroteIs d bs e (W.To n) × (q ≡ j)
+Says d bs e j P.NoRoom = WroteIs d bs e W.NoRoom
+
+pub record PassedIs (d bs e : List ℕ) (j : ℕ) (r : Passed) : Type 0 where
+  pub says : Says d bs e j r
 
 -- what the rows of the n heads from h on give, which begin at p
 unfoldable pub measuresOut : Bool → List (List Syllable) → List ℕ → ℕ → ℕ → ℕ → ℕ → ℕ → List ℕ

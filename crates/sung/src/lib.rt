@@ -5,7 +5,6 @@ ghost use mathlib.Core.List.{List, _++_};
 ghost use Prim.Native.Nat.{ℕ, _+_, _*_, _^_, _≤_, _<_};
 ghost use lib.ListN.{length};
 ghost use Rattle.reader.specs.State.{Note};
-ghost use Rattle.reader.specs.Codes.{bit};
 ghost use Rattle.layout.specs.Log.{Head};
 ghost use Rattle.layout.specs.Sections as layout;
 ghost use Rattle.sections.specs.Writes.{WroteIs};
@@ -13,38 +12,13 @@ ghost use Rattle.writers.specs.Out.{total};
 ghost use Rattle.pitched.specs.Out.{pitchTotal, musicOut, PitchesIn};
 ghost use Rattle.lyrics.specs.Sheet.{syllablesIn};
 ghost use Rattle.lyric_walk.specs.Walks.{Tables};
-ghost use Rattle.sung.specs.Out.{sungRow, sungRows, rowsOut, measuresOut, countOf, sectionOut};
+ghost use Rattle.sung.specs.Out.{sungRows, rowsOut, PassedIs, measuresOut, countOf, sectionOut};
 use sections::Wrote;
 
-// 1 if the row at `place` is of a note that is sung: of voice 0, and no rest.
-fn sung_row(store: &[u8], place: usize) -> usize
-    requires { ⌜ place + 16 ≤ length (now store) ⌝ }
-    ensures { λ r. ⌜ r ≡ bit (sungRow (now (store .entry)) place) 1 ⌝ }
-{
-    if store[place + 12] != 0 {
-        return 0;
-    }
-    if store[place] != 0 {
-        return 0;
-    }
-    1
-}
-
-// How many of the k rows from `place` on are sung.
-fn sung_rows(store: &[u8], place: usize, k: usize) -> usize
-    requires { ⌜ place + 16 * k ≤ length (now store) ⌝ }
-    ensures { λ r. ⌜ (r ≡ sungRows (now (store .entry)) place k) × (r ≤ k) ⌝ }
-{
-    let mut n = 0;
-    let mut p = place;
-    let mut left = k;
-    while 0 < left {
-        let one = sung_row(store, p);
-        n += one;
-        p += 16;
-        left -= 1;
-    }
-    n
+// How far the rows of a measure are written: up to where, and how many notes are sung before the next measure.
+enum Passed {
+    To(usize, usize),
+    NoRoom,
 }
 
 // The records or texts of one measure, whose k rows begin at `place`. Its notes begin at index `note`, and before them `sung` notes are sung.
@@ -58,9 +32,9 @@ fn write_rows(
     sung: usize,
     texts: bool,
     to: &mut [u8],
-) -> Wrote
+) -> Passed
     requires { ⌜ (Tables (now store) sheet) × (sheet .count + 1 < 18446744073709551616) × (place + 16 * k ≤ length (now store)) × (note + k < 18446744073709551616) × (sung + k < 18446744073709551616) ⌝ }
-    ensures { λ r. ⌜ WroteIs (now (to .entry)) (rowsOut texts (syllablesIn (now (text .entry)) (now (store .entry)) sheet) (now (store .entry)) note sung place k) (now (to .exit)) r ⌝ }
+    ensures { λ r. ⌜ PassedIs (now (to .entry)) (rowsOut texts (syllablesIn (now (text .entry)) (now (store .entry)) sheet) (now (store .entry)) note sung place k) (now (to .exit)) (sung + sungRows (now (store .entry)) place k) r ⌝ }
 {
     let mut at = 0;
     let mut i = note;
@@ -88,7 +62,7 @@ fn write_rows(
             texts,
             &mut to[at..],
         ) else {
-            return Wrote::NoRoom;
+            return Passed::NoRoom;
         };
         at += m;
         i += 1;
@@ -96,7 +70,7 @@ fn write_rows(
         p += 16;
         left -= 1;
     }
-    Wrote::To(at)
+    Passed::To(at, j)
 }
 
 // Those of all measures.
@@ -121,13 +95,13 @@ fn write_measures(
     let mut left = n;
     while 0 < left {
         let k = writers::note_count(store, h);
-        let Wrote::To(m) = write_rows(text, store, sheet, p, k, i, j, texts, &mut to[at..]) else {
+        let Passed::To(m, sung) = write_rows(text, store, sheet, p, k, i, j, texts, &mut to[at..])
+        else {
             return Wrote::NoRoom;
         };
         at += m;
-        let here = sung_rows(store, p, k);
         i += k;
-        j += here;
+        j = sung;
         h += 28;
         p += 16 * k;
         left -= 1;

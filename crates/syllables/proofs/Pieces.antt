@@ -2,7 +2,7 @@
 use Prim.Native.Nat.{ℕ, zero, suc, _+_, _-_, _*_, _/_, _%_, _≤_, _<_}
 use mathlib.Core.Path.{_≡_, refl, sym, ap, subst, _∙_}
 use mathlib.Core.Bool.{Bool, false}
-use mathlib.Core.List.{List, [], _∷_, _++_, append-assoc}
+use mathlib.Core.List.{List, [], _∷_, _++_, append-assoc, append-nil}
 use native.Mathlib.Omega.{arith}
 use lib.Dec.{eqb}
 use borrow.Author.Tests.{ne-eqb}
@@ -20,7 +20,9 @@ use Rattle.lyric_words.specs.Words.{asSyllabic}
 use Rattle.lyric_walk.specs.declared.Found.{Found}
 use Rattle.lyric_walk.specs.declared.Next.{Next}
 use Rattle.lyric_walk.specs.declared.Next.the-variants as N
-use Rattle.lyric_walk.specs.Walks.{chain, fromVerse, syllableIs, Comes, NextIn, sungByte}
+use Rattle.lyric_walk.specs.declared.Sole.{Sole}
+use Rattle.lyric_walk.specs.declared.Sole.the-variants as S
+use Rattle.lyric_walk.specs.Walks.{chain, fromVerse, syllableIs, Comes, NextIn, Says, SoleIs, sungByte}
 use Rattle.lyric_walk.proofs.Verses.{walk-start}
 use Rattle.lyric_walk.proofs.Walk.{text-length, text-more}
 use Rattle.sections.specs.declared.Wrote.the-variants.{To, NoRoom}
@@ -108,6 +110,9 @@ text-on d e text at j b p q h =
 pub found-in : (text s : List ℕ) (log k from : ℕ) (r : Next) (f : Found) → NextIn text s log k from r → r ≡ N.Sung f → (from ≤ f .verse) × (f .at ≤ f .end) × (f .end ≤ length text)
 found-in text s log k from r f n e = let (g, a, b, c) = subst (Comes text (chain text s log k) from) e (n .comes) in (a, b, c)
 
+pub sole-in : (text s : List ℕ) (log k : ℕ) (r : Sole) (f : Found) → SoleIs text s log k r → r ≡ S.One f → (f .at ≤ f .end) × (f .end ≤ length text)
+sole-in text s log k r f n e = let (g, a, b) = subst (Says text (chain text s log k)) e (n .says) in (a, b)
+
 -- SYLLABLE BY SYLLABLE
 module _ (b : Bool) (i : ℕ) where
   pub pieces-cons : {ys zs : List Syllable} {y : Syllable} → ys ≡ y ∷ zs → pieces b i ys ≡ piece b i y ++ pieces b i zs
@@ -129,6 +134,14 @@ module _ (b : Bool) (i : ℕ) where
 
     pub chain-end : (from : ℕ) (r : Next) → NextIn text s log k from r → r ≡ N.NoMore → pieces b i (fromVerse from (chain text s log k)) ≡ []
     chain-end from r n e = pieces-none (subst (Comes text (chain text s log k) from) e (n .comes))
+
+    -- its one syllable, or none
+    pub sole-none : (r : Sole) → SoleIs text s log k r → r ≡ S.Nothing → pieces b i (chain text s log k) ≡ []
+    sole-none r n e = pieces-none (subst (Says text (chain text s log k)) e (n .says))
+
+    pub sole-one : (r : Sole) (f : Found) → SoleIs text s log k r → r ≡ S.One f → pieces b i (chain text s log k) ≡ piece b i (syllableIs text f)
+    sole-one r f n e =
+        pieces-cons (subst (Says text (chain text s log k)) e (n .says) .0) ∙ ap (λ (l : List ℕ). piece b i (syllableIs text f) ++ l) (pieces-none refl) ∙ append-nil (piece b i (syllableIs text f))
 
   -- a note past the last has none
   pub pieces-past : (ws : List (List Syllable)) (j : ℕ) → length ws ≤ j → pieces b i (getD ws j []) ≡ []

@@ -98,7 +98,7 @@ fn write_piece(text: &[u8], note: usize, f: lyric_walk::Found, texts: bool, to: 
 }
 
 // Those of the chain from row k of the log on, verse by verse. No verse is above 255.
-fn write_chain(
+fn write_verses(
     text: &[u8],
     store: &[u8],
     log: usize,
@@ -123,6 +123,27 @@ fn write_chain(
         from = f.verse as usize + 1;
     }
     Wrote::To(at)
+}
+
+// The same, at once where the chain has one row or none.
+fn write_chain(
+    text: &[u8],
+    store: &[u8],
+    log: usize,
+    k: usize,
+    note: usize,
+    texts: bool,
+    to: &mut [u8],
+) -> Wrote
+    requires { ⌜ log + 16 * k ≤ length (now store) ⌝ }
+    ensures { λ r. ⌜ WroteIs (now (to .entry)) (pieces texts note (chain (now (text .entry)) (now (store .entry)) log k)) (now (to .exit)) r ⌝ }
+{
+    let sole = lyric_walk::sole_syllable(text, store, log, k);
+    match sole {
+        lyric_walk::Sole::Nothing => Wrote::To(0),
+        lyric_walk::Sole::One(f) => write_piece(text, note, f, texts, to),
+        lyric_walk::Sole::Several => write_verses(text, store, log, k, note, texts, to),
+    }
 }
 
 // Those of note `sung` among the notes that are sung, which is the note at index `note` of all: none past the last of the sheet.

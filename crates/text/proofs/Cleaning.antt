@@ -2,21 +2,23 @@
 use Prim.Native.Nat.{ℕ, suc, _+_, _-_, _<_, _≤_}
 use mathlib.Core.Path.{_≡_, refl, sym, ap, subst, _∙_}
 use mathlib.Core.Logic.{_⊎_, inl, inr, ⊎-elim}
-use mathlib.Core.Bool.{Bool, true, false, cond, _||_, false≢true}
-use mathlib.Core.List.{List, [], _∷_}
+use mathlib.Core.Bool.{Bool, true, false, cond, not, _||_, false≢true}
+use mathlib.Core.List.{List, [], _∷_, _++_}
 use native.Mathlib.Omega.{arith}
 use borrow.Author.Tests.{le-leb, lt-leb, ne-eqb, eqb-true, leb-true}
 use lib.Dec.{eqb, leb}
 use lib.ListN.{length, getD, take}
-use lib.Seq.{take-take}
 use Rattle.laws.specs.Lists.{foldl}
 use Rattle.laws.specs.Bytes.{part, between}
 use Rattle.laws.proofs.Bools.{by-test, and-left, and-right, or-either}
-use Rattle.laws.proofs.Parts.{between-first, between-none, length-between, take-part}
-use Rattle.reader.specs.Text.{within, White, white, inC2, inE1, inE19A, inE2, inE280, inE281, inE3, inE380, other, whiteStep, isAllWhite, isBlank, trim, cut, clean}
+use Rattle.laws.specs.Spans.{run, endIn}
+use Rattle.laws.proofs.Lists.{foldl-snoc}
+use Rattle.laws.proofs.Spans.{run-yes, run-no}
+use Rattle.laws.proofs.Parts.{between-first, between-last, between-none, length-between, take-part, endIn-le, run-between}
+use Rattle.reader.specs.Text.{within, isSpace, White, white, inC2, inE1, inE19A, inE2, inE280, inE281, inE3, inE380, other, whiteStep, isAllWhite, isBlank, trim, cut, clean}
 use Rattle.white.specs.States.{isOther}
-use Rattle.white.proofs.Whites.{other-stays, other-of}
-use Rattle.text.specs.Lines.{trimFrom, CleanEnd}
+use Rattle.white.proofs.Whites.{plain-is-other, other-stays, other-of}
+use Rattle.text.specs.Lines.{notByte, trimFrom, TrimEnd, CleanEnd}
 
 -- A BYTE ALONE
 -- a byte from 128 to 191 begins no white space
@@ -84,32 +86,22 @@ alone inE3 c = inr (choose (eqb c 0x80) inE380 other (one c 0x80 (omega arith) (
 alone inE380 c = inr (choose (eqb c 0x80) white other (one c 0x80 (omega arith) (omega arith)) (inl refl))
 alone other c = inr (inl refl)
 
--- ASCII from `!` on is no byte of white space
+-- ASCII that is no space is no byte of white space
 far : (c n : ℕ) → c ≤ 127 → 128 ≤ n → eqb c n ≡ false
 far c n h k = ne-eqb c n (λ e. omega arith)
 
-plain-is-other : (q : White) (c : ℕ) → 33 ≤ c → c ≤ 127 → whiteStep q c ≡ other
+plain : (q : White) (c : ℕ) → c ≤ 127 → isSpace c ≡ false → whiteStep q c ≡ other
 unfolding whiteStep
-plain-is-other white c low high =
-    rw (
-      le-leb 9 c (omega arith),
-      lt-leb c 13 (omega arith),
-      ne-eqb c 32 (λ e. omega arith),
-      far c 0xc2 high (omega arith),
-      far c 0xe1 high (omega arith),
-      far c 0xe2 high (omega arith),
-      far c 0xe3 high (omega arith),
-    )
-plain-is-other inC2 c low high = rw (far c 0x85 high (omega arith), far c 0xa0 high (omega arith))
-plain-is-other inE1 c low high = rw (far c 0x9a high (omega arith))
-plain-is-other inE19A c low high = rw (far c 0x80 high (omega arith))
-plain-is-other inE2 c low high = rw (far c 0x80 high (omega arith), far c 0x81 high (omega arith))
-plain-is-other inE280 c low high =
-    rw (lt-leb 0x80 c (omega arith), far c 0xa8 high (omega arith), far c 0xa9 high (omega arith), far c 0xaf high (omega arith))
-plain-is-other inE281 c low high = rw (far c 0x9f high (omega arith))
-plain-is-other inE3 c low high = rw (far c 0x80 high (omega arith))
-plain-is-other inE380 c low high = rw (far c 0x80 high (omega arith))
-plain-is-other other c low high = refl
+plain white c h e = plain-is-other c h e
+plain inC2 c h e = rw (far c 0x85 h (omega arith), far c 0xa0 h (omega arith))
+plain inE1 c h e = rw (far c 0x9a h (omega arith))
+plain inE19A c h e = rw (far c 0x80 h (omega arith))
+plain inE2 c h e = rw (far c 0x80 h (omega arith), far c 0x81 h (omega arith))
+plain inE280 c h e = rw (lt-leb 0x80 c (omega arith), far c 0xa8 h (omega arith), far c 0xa9 h (omega arith), far c 0xaf h (omega arith))
+plain inE281 c h e = rw (far c 0x9f h (omega arith))
+plain inE3 c h e = rw (far c 0x80 h (omega arith))
+plain inE380 c h e = rw (far c 0x80 h (omega arith))
+plain other c h e = refl
 
 dead : (l : List ℕ) → isAllWhite (foldl whiteStep other l) ≡ false
 unfolding isAllWhite
@@ -188,24 +180,10 @@ module _ (q : White) (end b at : ℕ) (l : List ℕ) where
   trim-plain h =
       let low = leb-true 33 b (and-left (leb 33 b) (leb b 127) h) in
       let high = leb-true b 127 (and-right (leb 33 b) (leb b 127) h) in
-      trim-past (ap isOther (plain-is-other q b low high)) (ap isOther (plain-is-other white b low high))
+      let none : isSpace b ≡ false = rw (le-leb 9 b (omega arith), lt-leb b 13 (omega arith), ne-eqb b 32 (λ e. omega arith)) in
+      trim-past (ap isOther (plain q b high none)) (ap isOther (plain white b high none))
 
--- THE ROW
--- what is left of a row from a position, cut
-module _ (text : List ℕ) (i to : ℕ) where
-  cut-on : i < to → to ≤ length text → eqb (getD text i 0) 37 ≡ false → cut (between text i to) ≡ getD text i 0 ∷ cut (between text (i + 1) to)
-  unfolding cut
-  cut-on h k e = rw (between-first text i to h k, e)
-
-  cut-off : i < to → to ≤ length text → eqb (getD text i 0) 37 ≡ true → cut (between text i to) ≡ []
-  unfolding cut
-  cut-off h k e = rw (between-first text i to h k, e)
-
-  cut-end : to ≤ i → cut (between text i to) ≡ []
-  unfolding cut
-  cut-end h = rw (between-none text i to h)
-
--- the line is the front of its row
+-- THE LINE is the front of its row
 abbrev Front : List ℕ → List ℕ → Type 0
 Front m l = (length m ≤ length l) × (take (length m) l ≡ m)
 
@@ -213,63 +191,111 @@ front-next : (c : ℕ) (m l : List ℕ) → Front m l → (b : Bool) → Front (
 front-next c m l r true = (omega arith, refl)
 front-next c m l r false = (omega (arith, r .0), ap {B = List ℕ} (λ k. c ∷ k) (r .1))
 
-cut-front : (l : List ℕ) → Front (cut l) l
-unfolding cut
-cut-front [] = (omega arith, refl)
-cut-front (c ∷ l) = front-next c (cut l) l (cut-front l) (eqb c 37)
-
 trim-front : (l : List ℕ) → Front (trim l) l
 unfolding trim
 trim-front [] = (omega arith, refl)
 trim-front (c ∷ l) = front-next c (trim l) l (trim-front l) (isBlank (c ∷ l))
 
-pub clean-front : (l : List ℕ) → Front (clean l) l
-unfolding clean
-clean-front l =
-    let a = cut-front l in
-    let b = trim-front (cut l) in (
-      omega (arith, a .0, b .0),
-      sym (take-take (length (clean l)) (length (cut l)) l (b .0)) ∙ ap (take (length (clean l))) (a .1) ∙ b .1,
-    )
-
--- the loop of `clean_end` at i: with the reading at q from `end` on, what is left of the row gives the row's end
-pub record Cleaning (text : List ℕ) (from to : ℕ) (q : White) (end i : ℕ) : Type 0 where
+-- the loop of `trim_bytes` at i: with the reading at q from `end` on, what is left gives the text's end
+pub record Trimming (text : List ℕ) (from to : ℕ) (q : White) (end i : ℕ) : Type 0 where
   pub low : from ≤ i
   pub high : i ≤ to
   pub fits : to ≤ length text
-  pub same : trimFrom q end i (cut (between text i to)) ≡ from + length (clean (between text from to))
+  pub same : trimFrom q end i (between text i to) ≡ from + length (trim (between text from to))
 
-pub cleaning-start : (text : List ℕ) (from to : ℕ) → from ≤ to → to ≤ length text → Cleaning text from to white from from
-unfolding clean
-cleaning-start text from to h k = record { low = omega arith; high = h; fits = k; same = trim-start from (cut (between text from to)) }
+pub trimming-start : (text : List ℕ) (from to : ℕ) → from ≤ to → to ≤ length text → Trimming text from to white from from
+trimming-start text from to h k = record { low = omega arith; high = h; fits = k; same = trim-start from (between text from to) }
 
-module _ (text : List ℕ) (from to : ℕ) (q : White) (end i : ℕ) (r : Cleaning text from to q end i) where
-  ends : (e : ℕ) → e ≡ trimFrom q end i [] → cut (between text i to) ≡ [] → CleanEnd text from to e
-  ends e x z =
+module _ (text : List ℕ) (from to : ℕ) (q : White) (end i : ℕ) (r : Trimming text from to q end i) where
+  pub trimming-end : to ≤ i → (e : ℕ) → e ≡ trimFrom q end i [] → TrimEnd text from to e
+  trimming-end z e x =
       let row = between text from to in
       let h : from ≤ to = omega (arith, r .low, r .high) in
-      let at : e ≡ from + length (clean row) = x ∙ ap (trimFrom q end i) (sym z) ∙ r .same in
-      let f = clean-front row in
-      let few : length (clean row) ≤ to - from = omega (arith, f .0, length-between text from to (r .fits)) in
-      let n : e - from ≡ length (clean row) = omega (arith, at) in
+      let at : e ≡ from + length (trim row) = x ∙ ap (trimFrom q end i) (sym (between-none text i to z)) ∙ r .same in
+      let f = trim-front row in
+      let few : length (trim row) ≤ to - from = omega (arith, f .0, length-between text from to (r .fits)) in
+      let n : e - from ≡ length (trim row) = omega (arith, at) in
       record {
         low = omega (arith, at);
         high = omega (arith, at, few, h);
-        line = ap (part text from) n ∙ sym (take-part text from (to - from) (length (clean row)) few) ∙ f .1;
+        line = ap (part text from) n ∙ sym (take-part text from (to - from) (length (trim row)) few) ∙ f .1;
       }
 
-  pub cleaning-end : to ≤ i → (e : ℕ) → e ≡ trimFrom q end i [] → CleanEnd text from to e
-  cleaning-end h e x = ends e x (cut-end text i to h)
+  pub trimming-on : i < to → (q′ : White) (end′ : ℕ) → ((l : List ℕ) → trimFrom q′ end′ (i + 1) l ≡ trimFrom q end i (getD text i 0 ∷ l)) → Trimming text from to q′ end′ (i + 1)
+  trimming-on h q′ end′ step = record {
+    low = omega (arith, r .low);
+    high = omega arith;
+    fits = r .fits;
+    same = step (between text (i + 1) to) ∙ ap (trimFrom q end i) (sym (between-first text i to h (r .fits))) ∙ r .same;
+  }
 
-  module _ (h : i < to) where
-    pub cleaning-off : eqb (getD text i 0) 37 ≡ true → (e : ℕ) → e ≡ trimFrom q end i [] → CleanEnd text from to e
-    cleaning-off p e x = ends e x (cut-off text i to h (r .fits) p)
+-- FROM THE END
+-- a space at the end goes; ASCII that is none stays, and what stands before it
+space-keeps : (q : White) (c : ℕ) → isSpace c ≡ true → c ≤ 127 → isAllWhite (whiteStep q c) ≡ isAllWhite q
+unfolding whiteStep isAllWhite
+space-keeps white c e h = rw e
+space-keeps inC2 c e h = rw (far c 0x85 h (omega arith), far c 0xa0 h (omega arith))
+space-keeps inE1 c e h = rw (far c 0x9a h (omega arith))
+space-keeps inE19A c e h = rw (far c 0x80 h (omega arith))
+space-keeps inE2 c e h = rw (far c 0x80 h (omega arith), far c 0x81 h (omega arith))
+space-keeps inE280 c e h = rw (lt-leb 0x80 c (omega arith), far c 0xa8 h (omega arith), far c 0xa9 h (omega arith), far c 0xaf h (omega arith))
+space-keeps inE281 c e h = rw (far c 0x9f h (omega arith))
+space-keeps inE3 c e h = rw (far c 0x80 h (omega arith))
+space-keeps inE380 c e h = rw (far c 0x80 h (omega arith))
+space-keeps other c e h = refl
 
-    pub cleaning-on : eqb (getD text i 0) 37 ≡ false → (q′ : White) (end′ : ℕ)
-        → ((l : List ℕ) → trimFrom q′ end′ (i + 1) l ≡ trimFrom q end i (getD text i 0 ∷ l)) → Cleaning text from to q′ end′ (i + 1)
-    cleaning-on p q′ end′ step = record {
-      low = omega (arith, r .low);
-      high = omega arith;
-      fits = r .fits;
-      same = step (cut (between text (i + 1) to)) ∙ ap (trimFrom q end i) (sym (cut-on text i to h (r .fits) p)) ∙ r .same;
+blank-last : (c : ℕ) (l : List ℕ) → isBlank (l ++ (c ∷ [])) ≡ isAllWhite (whiteStep (foldl whiteStep white l) c)
+unfolding isBlank
+blank-last c l = ap isAllWhite (foldl-snoc whiteStep white l c)
+
+module _ (c : ℕ) (h : c ≤ 127) where
+  ends : isSpace c ≡ false → (l : List ℕ) → isBlank (l ++ (c ∷ [])) ≡ false
+  unfolding isAllWhite
+  ends e l = blank-last c l ∙ ap isAllWhite (plain (foldl whiteStep white l) c h e)
+
+  trim-space : isSpace c ≡ true → (l : List ℕ) → trim (l ++ (c ∷ [])) ≡ trim l
+  unfolding trim isBlank isAllWhite
+  trim-space e [] = ap (λ (b : Bool). cond b [] (c ∷ [])) (blank-last c [] ∙ space-keeps white c e h)
+  trim-space e (d ∷ l) =
+      (λ i. cond ((blank-last c (d ∷ l) ∙ space-keeps (foldl whiteStep white (d ∷ l)) c e h) i) [] (d ∷ trim-space e l i))
+
+  trim-whole : isSpace c ≡ false → (l : List ℕ) → trim (l ++ (c ∷ [])) ≡ l ++ (c ∷ [])
+  unfolding trim
+  trim-whole e [] = rw (ends e [])
+  trim-whole e (d ∷ l) = rw (ends e (d ∷ l)) (ap {B = List ℕ} (λ k. d ∷ k) (trim-whole e l))
+
+-- by position
+module _ (text : List ℕ) (from i : ℕ) (h : from < i) (k : i ≤ length text) (low : getD text (i - 1) 0 ≤ 127) where
+  pub end-space : isSpace (getD text (i - 1) 0) ≡ true → trim (between text from (i - 1)) ≡ trim (between text from i)
+  end-space e = sym (ap trim (between-last text from i h k) ∙ trim-space (getD text (i - 1) 0) low e (between text from (i - 1)))
+
+  pub end-whole : isSpace (getD text (i - 1) 0) ≡ false → trim (between text from i) ≡ between text from i
+  end-whole e =
+      ap trim (between-last text from i h k) ∙ trim-whole (getD text (i - 1) 0) low e (between text from (i - 1)) ∙ sym (between-last text from i h k)
+
+-- an end from which on all goes is the end of the whole text
+pub end-before : (text : List ℕ) (from to i e : ℕ) → i ≤ to → trim (between text from i) ≡ trim (between text from to) → TrimEnd text from i e → TrimEnd text from to e
+end-before text from to i e h same t = record { low = t .low; high = omega (arith, t .high); line = t .line ∙ same }
+
+pub end-here : (text : List ℕ) (from i : ℕ) → from ≤ i → trim (between text from i) ≡ between text from i → TrimEnd text from i i
+end-here text from i h e = record { low = h; high = omega arith; line = sym e }
+
+pub trim-nothing : (text : List ℕ) (from i : ℕ) → i ≤ from → trim (between text from i) ≡ between text from i
+unfolding trim
+trim-nothing text from i h = rw (between-none text from i h)
+
+-- CUT AND TRIMMED
+cut-run : (l : List ℕ) → cut l ≡ run (notByte 37) l
+unfolding cut
+cut-run [] = refl
+cut-run (c ∷ l) =
+    by-test (eqb c 37) (λ e. rw (e, run-no (notByte 37) c l (ap not e))) (λ e. rw (e, run-yes (notByte 37) c l (ap not e)) (ap {B = List ℕ} (λ k. c ∷ k) (cut-run l)))
+
+pub clean-is : (text : List ℕ) (from to k e : ℕ) → from ≤ to → k ≡ endIn (notByte 37) text from to → TrimEnd text from k e → CleanEnd text from to e
+unfolding clean
+clean-is text from to k e h x t =
+    record {
+      low = t .low;
+      high = omega (arith, t .high, x, endIn-le (notByte 37) text from to h);
+      line = t .line ∙ ap (λ (j : ℕ). trim (between text from j)) x ∙ ap trim (sym (run-between (notByte 37) text from to h) ∙ sym (cut-run (between text from to)));
     }

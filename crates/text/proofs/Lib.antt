@@ -1,3 +1,4 @@
 pub mod Rows
+pub mod Finding
 pub mod Cleaning
 pub mod Classes

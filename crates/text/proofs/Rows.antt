@@ -1,7 +1,7 @@
 -- The rows of a text, one after the other, by position; and a byte above 127.
-use Prim.Native.Nat.{ℕ, suc, _+_, _-_, _<_, _≤_}
+use Prim.Native.Nat.{ℕ, suc, _+_, _-_, _<_, _≤_, min}
 use mathlib.Core.Path.{_≡_, refl, sym, ap, _∙_}
-use mathlib.Core.Bool.{Bool, true, false, cond, _||_}
+use mathlib.Core.Bool.{Bool, true, false, cond, not, _||_}
 use mathlib.Core.List.{List, [], _∷_}
 use native.Mathlib.Numerals.{add-one}
 use native.Mathlib.Omega.{arith}
@@ -9,10 +9,14 @@ use borrow.Author.Tests.{ltb-true, ltb-false, lt-ltb, le-ltb}
 use lib.Dec.{eqb, ltb}
 use lib.ListN.{length, getD, take, drop, length-drop, drop-of-length-le}
 use lib.Seq.{drop-cons, drop-drop}
+use Rattle.laws.specs.Lists.{span}
 use Rattle.laws.specs.Bytes.{part}
+use Rattle.laws.specs.Spans.{endIn}
 use Rattle.laws.proofs.Bools.{by-test, or-left, or-none}
+use Rattle.laws.proofs.Spans.{span-yes, span-no}
+use Rattle.laws.proofs.Parts.{span-part, endIn-le}
 use Rattle.reader.specs.Text.{push, rows, hasHigh}
-use Rattle.text.specs.Lines.{LineEnd}
+use Rattle.text.specs.Lines.{notByte, LineEnd}
 
 -- how long the first row is
 unfoldable pub rowLength : List ℕ → ℕ
@@ -84,18 +88,21 @@ high-over t i m h k = sym (last (ltb 127 m)) ∙ ap (λ (l : List ℕ). ltb 127 
     last true = refl
     last false = refl
 
-module _ (t : List ℕ) (i : ℕ) where
-  -- a row goes on, ends with its line feed, ends with the text
-  pub row-on : i < length t → eqb (getD t i 0) 10 ≡ false → i + 1 + rowLength (drop (i + 1) t) ≡ i + rowLength (drop i t)
-  unfolding rowLength
-  row-on h e =
-      let k : rowLength (drop i t) ≡ suc (rowLength (drop (i + 1) t)) = rw (add-one i, drop-cons t i 0 h, e) in
-      omega arith
+-- THE END OF A ROW, by its first line feed
+row-span : (l : List ℕ) → rowLength l ≡ min (length l) (suc (span (notByte 10) l))
+unfolding rowLength
+row-span [] = refl
+row-span (c ∷ l) =
+    by-test (eqb c 10) (λ e. rw (e, span-no (notByte 10) c l (ap not e)) (omega arith))
+    (λ e. rw (e, span-yes (notByte 10) c l (ap not e)) (omega (arith, row-span l)))
 
-  pub row-off : i < length t → eqb (getD t i 0) 10 ≡ true → rowLength (drop i t) ≡ 1
-  unfolding rowLength
-  row-off h e = rw (drop-cons t i 0 h, e)
+module _ (t : List ℕ) (at i : ℕ) (e : i ≡ endIn (notByte 10) t at (length t)) (h : at < length t) where
+  first-feed : rowLength (drop at t) ≡ min (length t - at) (suc (i - at))
+  first-feed = omega (arith, e, row-span (drop at t), length-drop at t, span-part (notByte 10) t at 0 (length t - at))
 
-  pub row-end : length t ≤ i → rowLength (drop i t) ≡ 0
-  unfolding rowLength
-  row-end h = rw (drop-of-length-le t h)
+  -- it goes with the row; the last row may have none
+  pub row-fed : i < length t → LineEnd t at (i + 1)
+  row-fed k = row-is t at (i + 1) h (omega (arith, e, first-feed))
+
+  pub row-last : length t ≤ i → LineEnd t at i
+  row-last k = row-is t at i h (omega (arith, e, first-feed, endIn-le (notByte 10) t at (length t) (omega arith)))

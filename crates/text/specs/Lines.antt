@@ -1,7 +1,7 @@
 -- The ends of lines, and their classes.
 use Prim.Native.Nat.{ℕ, _+_, _<_, _≤_}
 use mathlib.Core.Path.{_≡_}
-use mathlib.Core.Bool.{Bool, cond, _||_}
+use mathlib.Core.Bool.{Bool, cond, not, _||_}
 use mathlib.Core.List.{List, _∷_}
 use lib.Dec.{eqb}
 use lib.ListN.{length, drop}
@@ -21,6 +21,16 @@ pub record LineEnd (text : List ℕ) (at e : ℕ) : Type 0 where
   pub past : at < e
   pub inside : e ≤ length text
   pub rest : rows (drop at text) ≡ between text at e ∷ rows (drop e text)
+
+-- a byte other than b
+abbrev pub notByte : ℕ → ℕ → Bool
+notByte b c = not (eqb c b)
+
+-- e is the end of the text from `from` to `to` once it is trimmed
+pub record TrimEnd (text : List ℕ) (from to e : ℕ) : Type 0 where
+  pub low : from ≤ e
+  pub high : e ≤ to
+  pub line : between text from e ≡ trim (between text from to)
 
 -- e is the end of the row from `from` to `to` once it is cut and trimmed
 pub record CleanEnd (text : List ℕ) (from to e : ℕ) : Type 0 where

@@ -1,13 +1,16 @@
 // The lines of a text: where one ends, what is left of it once cut and trimmed, and its class.
-ghost use Prim.Native.Nat.{_≤_, _<_};
+ghost use Prim.Native.Nat.{_+_, _≤_, _<_};
 ghost use mathlib.Core.Path.{_≡_};
-ghost use mathlib.Core.Bool.{_||_};
+ghost use mathlib.Core.Bool.{_&&_, _||_};
 ghost use mathlib.Core.List.{[]};
 ghost use lib.Dec.{ltb};
 ghost use lib.ListN.{length};
+ghost use Rattle.laws.specs.Lists.{all};
+ghost use Rattle.laws.specs.Bytes.{between};
+ghost use Rattle.laws.specs.Spans.{endIn};
 ghost use Rattle.reader.specs.Text.{hasHigh};
 ghost use Rattle.white.specs.States.{asWhite};
-ghost use Rattle.text.specs.Lines.{trimFrom, TrimOn, CleanEnd, LineEnd, isLetter, colonClass, classOf};
+ghost use Rattle.text.specs.Lines.{notByte, trimFrom, TrimOn, TrimEnd, CleanEnd, LineEnd, isLetter, colonClass, classOf};
 
 // Where a line ends if the bytes to come are white space, and where the reading of white space stands from there on.
 struct Trim {
@@ -28,17 +31,68 @@ pub enum Class {
     Music,
 }
 
+// Still none of them is b, after the byte c.
+fn still(none: bool, c: u8, b: u8) -> bool
+    ensures { λ r. ⌜ r ≡ (none && notByte b c) ⌝ }
+{
+    if c == b {
+        return false;
+    }
+    none
+}
+
+// None of the 16 bytes from `at` on is b. Without an exit the loop takes them all at once.
+fn lacks(text: &[u8], at: usize, b: u8) -> bool
+    requires { ⌜ at + 16 ≤ length (now text) ⌝ }
+    ensures { λ r. ⌜ r ≡ all (notByte b) (between (now (text .entry)) at (at + 16)) ⌝ }
+{
+    let mut none = true;
+    let mut j: usize = 0;
+    while j < 16 {
+        none = still(none, text[at + j], b);
+        j += 1;
+    }
+    none
+}
+
+// A position at or behind `at`, before which no byte is b: 16 bytes at a time.
+fn pass_without(text: &[u8], at: usize, end: usize, b: u8) -> usize
+    requires { ⌜ (at ≤ end) × (end ≤ length (now text)) ⌝ }
+    ensures { λ r. ⌜ (r ≤ end) × (endIn (notByte b) (now (text .entry)) r end ≡ endIn (notByte b) (now (text .entry)) at end) ⌝ }
+{
+    let mut i = at;
+    while 16 <= end - i {
+        if !lacks(text, i, b) {
+            return i;
+        }
+        i += 16;
+    }
+    i
+}
+
+// The first byte at or behind `at` that is b, or `end`.
+fn find_byte(text: &[u8], at: usize, end: usize, b: u8) -> usize
+    requires { ⌜ (at ≤ end) × (end ≤ length (now text)) ⌝ }
+    ensures { λ r. ⌜ r ≡ endIn (notByte b) (now (text .entry)) at end ⌝ }
+{
+    let mut i = pass_without(text, at, end, b);
+    while i < end {
+        if text[i] == b {
+            return i;
+        }
+        i += 1;
+    }
+    i
+}
+
 // The position behind the line at `at`: past its line feed, or the text's end.
 pub fn line_end(text: &[u8], at: usize) -> usize
     requires { ⌜ at < length (now text) ⌝ }
     ensures { λ r. ⌜ LineEnd (now (text .entry)) at r ⌝ }
 {
-    let mut i = at;
-    while i < text.len() {
-        if text[i] == b'\n' {
-            return i + 1;
-        }
-        i += 1;
+    let i = find_byte(text, at, text.len(), b'\n');
+    if i < text.len() {
+        return i + 1;
     }
     i
 }
@@ -86,10 +140,10 @@ fn trim_done(t: Trim, at: usize) -> usize
     if white::is_all_white(q) { t.end } else { at }
 }
 
-// The end of the line from `from` to `to` once it is cut at its first `%` and trimmed, in one pass.
-pub fn clean_end(text: &[u8], from: usize, to: usize) -> usize
+// The end of the text from `from` to `to` once it is trimmed, in one pass over its bytes.
+fn trim_bytes(text: &[u8], from: usize, to: usize) -> usize
     requires { ⌜ (from ≤ to) × (to ≤ length (now text)) ⌝ }
-    ensures { λ r. ⌜ CleanEnd (now (text .entry)) from to r ⌝ }
+    ensures { λ r. ⌜ TrimEnd (now (text .entry)) from to r ⌝ }
 {
     let mut t = Trim {
         q: white::White::White,
@@ -97,14 +151,38 @@ pub fn clean_end(text: &[u8], from: usize, to: usize) -> usize
     };
     let mut i = from;
     while i < to {
-        let b = text[i];
-        if b == b'%' {
-            return trim_done(t, i);
-        }
-        t = trim_byte(t, b, i);
+        t = trim_byte(t, text[i], i);
         i += 1;
     }
     trim_done(t, i)
+}
+
+// The same, from the end, as long as the bytes there are ASCII.
+fn trim_end(text: &[u8], from: usize, to: usize) -> usize
+    requires { ⌜ (from ≤ to) × (to ≤ length (now text)) ⌝ }
+    ensures { λ r. ⌜ TrimEnd (now (text .entry)) from to r ⌝ }
+{
+    let mut i = to;
+    while from < i {
+        let b = text[i - 1];
+        if 127 < b {
+            return trim_bytes(text, from, i);
+        }
+        if !white::is_space(b) {
+            return i;
+        }
+        i -= 1;
+    }
+    i
+}
+
+// The end of the line from `from` to `to` once it is cut at its first `%` and trimmed.
+pub fn clean_end(text: &[u8], from: usize, to: usize) -> usize
+    requires { ⌜ (from ≤ to) × (to ≤ length (now text)) ⌝ }
+    ensures { λ r. ⌜ CleanEnd (now (text .entry)) from to r ⌝ }
+{
+    let cut = find_byte(text, from, to, b'%');
+    trim_end(text, from, cut)
 }
 
 // The greater of two: as far as its answer is above 127, one of them is.

@@ -5,10 +5,12 @@ use mathlib.Core.Bool.{Bool, true, false, cond, false≢true}
 use mathlib.Core.List.{List, [], _∷_}
 use native.Mathlib.Numerals.{add-one}
 use native.Mathlib.Omega.{arith}
+use borrow.Author.Tests.{ne-eqb}
+use lib.Dec.{eqb}
 use lib.ListN.{length, getD, drop, drop-of-length-le}
 use lib.Seq.{drop-cons}
 use Rattle.laws.specs.Lists.{foldl}
-use Rattle.reader.specs.Text.{White, white, inC2, inE1, inE19A, inE2, inE280, inE281, inE3, inE380, other, whiteStep, isAllWhite, isBlank}
+use Rattle.reader.specs.Text.{isSpace, White, white, inC2, inE1, inE19A, inE2, inE280, inE281, inE3, inE380, other, whiteStep, isAllWhite, isBlank}
 use Rattle.reader.specs.Pieces.{whiteAt}
 use Rattle.white.specs.States.{isOther}
 
@@ -33,6 +35,13 @@ zero-is-other inE281 = refl
 zero-is-other inE3 = refl
 zero-is-other inE380 = refl
 zero-is-other other = refl
+
+-- nor is ASCII that is no space
+pub plain-is-other : (c : ℕ) → c ≤ 127 → isSpace c ≡ false → whiteStep white c ≡ other
+unfolding whiteStep
+plain-is-other c h e =
+    let far : (n : ℕ) → 128 ≤ n → eqb c n ≡ false = λ n k. ne-eqb c n (λ x. omega arith) in
+    rw (e, far 0xc2 (omega arith), far 0xe1 (omega arith), far 0xe2 (omega arith), far 0xe3 (omega arith))
 
 -- something else stays something else
 pub other-stays : (l : List ℕ) → foldl whiteStep other l ≡ other
@@ -112,3 +121,16 @@ module _ (s : List ℕ) (h : 0 < length s) where
 
       pub width-none : isAllWhite (after3 s) ≡ false → 0 ≡ whiteAt s
       width-none c = sym (white-width s h ∙ rw (a, b, c))
+
+-- ASCII at the front: a space is white, and nothing else is
+pub width-space : (c : ℕ) (s : List ℕ) → isSpace c ≡ true → 1 ≡ whiteAt (c ∷ s)
+unfolding whiteStep isAllWhite
+width-space c s e = width-one (c ∷ s) (omega arith) (rw e)
+
+pub width-plain : (c : ℕ) (s : List ℕ) → c ≤ 127 → isSpace c ≡ false → 0 ≡ whiteAt (c ∷ s)
+unfolding whiteStep isAllWhite
+width-plain c s h e =
+    let one : after1 (c ∷ s) ≡ other = plain-is-other c h e in
+    let two : after2 (c ∷ s) ≡ other = ap (λ (q : White). whiteStep q (getD s 0 0)) one in
+    let three : after3 (c ∷ s) ≡ other = ap (λ (q : White). whiteStep q (getD s 1 0)) two in
+    width-none (c ∷ s) (omega arith) (ap isAllWhite one) (ap isAllWhite two) (ap isAllWhite three)

@@ -170,7 +170,7 @@ pub fn is_blank(text: &[u8]) -> bool
 }
 
 // How many bytes the white character at `at` has, 0 where there is none, in a text that ends at `end`.
-pub fn white_at(text: &[u8], at: usize, end: usize) -> usize
+fn white_len(text: &[u8], at: usize, end: usize) -> usize
     requires { ⌜ (at < end) × (end ≤ length (now text)) ⌝ }
     ensures { λ r. ⌜ r ≡ whiteAt (between (now (text .entry)) at end) ⌝ }
 {
@@ -186,6 +186,21 @@ pub fn white_at(text: &[u8], at: usize, end: usize) -> usize
     let three = white_step(two, numbers::byte_at(part, 2));
     if is_all_white(three) {
         return 3;
+    }
+    0
+}
+
+// The same. ASCII is answered by one byte.
+pub fn white_at(text: &[u8], at: usize, end: usize) -> usize
+    requires { ⌜ (at < end) × (end ≤ length (now text)) ⌝ }
+    ensures { λ r. ⌜ r ≡ whiteAt (between (now (text .entry)) at end) ⌝ }
+{
+    let b = text[at];
+    if 127 < b {
+        return white_len(text, at, end);
+    }
+    if is_space(b) {
+        return 1;
     }
     0
 }

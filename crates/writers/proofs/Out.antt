@@ -11,7 +11,7 @@ use lib.ListN.{length, getD, take, drop, length-append, length-take, length-drop
 use Rattle.laws.specs.Lists.{All, keep, sum}
 use Rattle.laws.specs.Bytes.{part, splice, encAll, little, le32, u32At}
 use Rattle.laws.proofs.Lists.{sum-append, getD-sum, All-left, All-right}
-use Rattle.laws.proofs.Parts.{length-part, getD-part, part-part}
+use Rattle.laws.proofs.Parts.{length-part, getD-part, part-none, part-cons, part-add, part-part}
 use Rattle.laws.proofs.Splices.{spliced-next}
 use Rattle.laws.proofs.Numbers.{length-little, littleAt-part}
 use Rattle.laws.proofs.Rows.{encAll-none, encAll-cons, encAll-append}
@@ -115,6 +115,20 @@ note-wrote {d} {t} {e} s p fl q r f h l =
         spliced-next d t e 0 4 _ _ q r refl ∙ ap (λ (k : ℕ). splice d 0 ((getD s p 0 ∷ getD s (p + 1) 0 ∷ getD s (p + 2) 0 ∷ k ∷ []) ++ part s (p + 4) 8)) f,
       );
     }
+
+-- its last eight bytes are copied four by four
+pub four-bytes : (s : List ℕ) (p : ℕ) → p + 4 ≤ length s → part s p 4 ≡ getD s p 0 ∷ getD s (p + 1) 0 ∷ getD s (p + 2) 0 ∷ getD s (p + 3) 0 ∷ []
+four-bytes s p h =
+    let two : p + 1 + 1 ≡ p + 2 = omega arith in
+    let three : p + 2 + 1 ≡ p + 3 = omega arith in
+    rw (part-cons s p 3 (omega arith), part-cons s (p + 1) 2 (omega arith), two, part-cons s (p + 2) 1 (omega arith), three, part-cons s (p + 3) 0 (omega arith), part-none)
+
+pub copied-twice : (t u e s : List ℕ) (p : ℕ) → u ≡ splice t 4 (part s (p + 4) 4) → e ≡ splice u 8 (part s (p + 8) 4) → p + 16 ≤ length s → e ≡ splice t 4 (part s (p + 4) 8)
+copied-twice t u e s p q r h =
+    let n : length (part s (p + 4) 4) ≡ 4 = length-part s (p + 4) 4 (omega arith) in
+    let k : p + 8 ≡ p + 4 + 4 = omega arith in
+    spliced-next t u e 4 8 _ _ q r (omega arith)
+    ∙ ap (splice t 4) (ap (λ (j : ℕ). part s (p + 4) 4 ++ part s j 4) k ∙ sym (part-add s (p + 4) 4 4))
 
 pub measures-length : (s : List ℕ) (h n : ℕ) → h + 28 * n ≤ length s → length (le32 n ++ part s h (28 * n)) ≡ 4 + 28 * n
 measures-length s h n room = length-append (le32 n) (part s h (28 * n)) ∙ omega (arith, length-little 4 n, length-part s h (28 * n) room)

@@ -5,7 +5,7 @@ ghost use mathlib.Core.List.{List, _++_};
 ghost use Prim.Native.Nat.{ℕ, _+_, _*_, _^_, _≤_, _<_};
 ghost use lib.ListN.{length};
 ghost use Rattle.laws.specs.Lists.{All};
-ghost use Rattle.laws.specs.Bytes.{part, le32};
+ghost use Rattle.laws.specs.Bytes.{part, splice, le32};
 ghost use Rattle.reader.specs.State.{Note};
 ghost use Rattle.reader.specs.Records.{noteBytes, section};
 ghost use Rattle.layout.specs.Log.{Head};
@@ -60,6 +60,21 @@ fn flags_of(store: &[u8], place: usize) -> u8
     marks + 32
 }
 
+// Copies four bytes, all of them read before one is written.
+fn copy_4(store: &[u8], from: usize, to: &mut [u8], at: usize)
+    requires { ⌜ (from + 4 ≤ length (now store)) × (at + 4 ≤ length (now to)) ⌝ }
+    ensures { λ _. ⌜ now (to .exit) ≡ splice (now (to .entry)) at (part (now (store .entry)) from 4) ⌝ }
+{
+    store::put_4(
+        to,
+        at,
+        store[from],
+        store[from + 1],
+        store[from + 2],
+        store[from + 3],
+    );
+}
+
 // The note record of the row at `place`.
 fn write_note(store: &[u8], place: usize, to: &mut [u8]) -> Wrote
     requires { ⌜ place + 16 ≤ length (now store) ⌝ }
@@ -77,7 +92,8 @@ fn write_note(store: &[u8], place: usize, to: &mut [u8]) -> Wrote
         store[place + 2],
         flags,
     );
-    store::copy(store, place + 4, to, 4, 8);
+    copy_4(store, place + 4, to, 4);
+    copy_4(store, place + 8, to, 8);
     Wrote::To(12)
 }
 
@@ -122,13 +138,13 @@ pub fn is_lead(store: &[u8], place: usize, k: usize) -> bool
     true
 }
 
-// The records of the k rows from `place` on: voice 0 to 3, each as written.
-fn write_voices(store: &[u8], place: usize, k: usize, to: &mut [u8]) -> Wrote
+// The records of the k rows from `place` on that are of voice 1 to 3, each as written.
+fn write_overlays(store: &[u8], place: usize, k: usize, to: &mut [u8]) -> Wrote
     requires { ⌜ place + 16 * k ≤ length (now store) ⌝ }
-    ensures { λ r. ⌜ WroteIs (now (to .entry)) (voicesOut (now (store .entry)) place k 0 4) (now (to .exit)) r ⌝ }
+    ensures { λ r. ⌜ WroteIs (now (to .entry)) (voicesOut (now (store .entry)) place k 1 3) (now (to .exit)) r ⌝ }
 {
     let mut at = 0;
-    let mut voice: u8 = 0;
+    let mut voice: u8 = 1;
     while voice < 4 {
         let Wrote::To(m) = write_voice(store, place, k, voice, &mut to[at..]) else {
             return Wrote::NoRoom;
@@ -139,15 +155,21 @@ fn write_voices(store: &[u8], place: usize, k: usize, to: &mut [u8]) -> Wrote
     Wrote::To(at)
 }
 
-// The records of one measure, whose k rows begin at `place`. Most have one voice.
+// The records of one measure, whose k rows begin at `place`. Most have one voice: then all are written after voice 0.
 fn write_measure_notes(store: &[u8], place: usize, k: usize, to: &mut [u8]) -> Wrote
     requires { ⌜ place + 16 * k ≤ length (now store) ⌝ }
     ensures { λ r. ⌜ WroteIs (now (to .entry)) (voicesOut (now (store .entry)) place k 0 4) (now (to .exit)) r ⌝ }
 {
-    if is_lead(store, place, k) {
-        return write_voice(store, place, k, 0, to);
+    let Wrote::To(at) = write_voice(store, place, k, 0, to) else {
+        return Wrote::NoRoom;
+    };
+    if at == 12 * k {
+        return Wrote::To(at);
     }
-    write_voices(store, place, k, to)
+    let Wrote::To(m) = write_overlays(store, place, k, &mut to[at..]) else {
+        return Wrote::NoRoom;
+    };
+    Wrote::To(at + m)
 }
 
 // How many notes the head at `place` counts.

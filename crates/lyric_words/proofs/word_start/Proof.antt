@@ -4,8 +4,9 @@ use mathlib.Core.Path.{_≡_, refl, sym, _∙_}
 use Prim.Native.Nat.{_-_, _≤_}
 use native.Mathlib.Omega.{arith}
 use Rattle.laws.specs.Bytes.{between}
+use Rattle.laws.proofs.Bools.{not-true, not-false}
 use Rattle.reader.specs.Pieces.{words, whiteAt}
-use Rattle.lyric_words.proofs.Whites.{white-in, white-past, start-here}
+use Rattle.lyric_words.proofs.Whites.{space-past, plain-here, start-here, start-before}
 use Rattle.lyric_words.proofs.word_start.Statement.{statement}
 use Rattle.lyric_words.proofs.word_start.Tie as tie
 
@@ -18,38 +19,29 @@ abbrev μ-loop : tie.MeasureT-loop
 loop-holds : tie.Need-loop-holds Inv-loop μ-loop
 loop-holds c = (omega arith, search needs, refl)
 
-white-at-requires : tie.Need-white-at-requires Inv-loop μ-loop
-white-at-requires c κs = search needs
+-- a byte that is not ASCII
 
 returns : tie.Need-returns Inv-loop μ-loop
 returns c =
-    let v = c .before .before .before .loop .inv in
-    start-here _ _ _ _ (v .0) (v .1) (v .2) (λ h. sym (c .before .white-at .ensures) ∙ c .if1 .taken)
+    let v = c .before .before .before .before .loop .inv in
+    start-before _ _ _ _ _ (v .0) (v .2) (c .past-white .ensures)
 
-add-i : tie.Need-add-i Inv-loop μ-loop
-add-i c =
-    let a = c .before .before .before .before .before .args in
-    omega (arith, white-in (a .text .now) (c .before .before .before .loop .i) (a .end) (c .before .before .loop-test .taken) (c .before .before .before .before .before .pre .1), c .before .white-at .ensures, c .before .before .before .before .before .fits .end)
-
-loop-less : tie.Need-loop-less Inv-loop μ-loop
-loop-less c =
-    let a = c .before .before .before .before .before .args in
-    omega (arith, white-in (a .text .now) (c .before .before .before .loop .i) (a .end) (c .before .before .loop-test .taken) (c .before .before .before .before .before .pre .1), c .before .white-at .ensures)
-
-loop-again : tie.Need-loop-again Inv-loop μ-loop
-loop-again c =
-    let a = c .before .before .before .before .before .args in
-    let l = c .before .before .before .loop in
-    let v = l .inv in
-    let h = c .before .before .loop-test .taken in
-    let e = c .before .white-at .ensures in (
-      omega arith,
-      omega (arith, white-in (a .text .now) (l .i) (a .end) h (c .before .before .before .before .before .pre .1), e),
-      v .2 ∙ white-past (a .text .now) (l .i) (a .end) h (c .before .before .before .before .before .pre .1) _ e (omega arith),
-    )
+-- a byte of a word
 
 returns-2 : tie.Need-returns-2 Inv-loop μ-loop
 returns-2 c =
+    let v = c .before .before .before .before .before .loop .inv in
+    start-here _ _ _ _ (v .0) (v .1) (v .2) (λ h. plain-here _ _ _ h (search needs) (search needs) (sym (c .before .is-space .ensures) ∙ not-true (c .before .is-space .result) (c .if2 .taken)))
+
+-- a space
+
+loop-again : tie.Need-loop-again Inv-loop μ-loop
+loop-again c =
+    let v = c .before .before .before .before .before .loop .inv in
+    (omega (arith, v .0), search needs, v .2 ∙ space-past _ _ _ (search needs) (search needs) (sym (c .before .is-space .ensures) ∙ not-false (c .before .is-space .result) (c .if2 .left)))
+
+returns-3 : tie.Need-returns-3 Inv-loop μ-loop
+returns-3 c =
     let v = c .before .loop .inv in
     let left = c .loop-test .left in
     start-here _ _ _ _ (v .0) (v .1) (v .2) (λ h. absurd (omega arith))
@@ -57,13 +49,4 @@ returns-2 c =
 pub word-start-spec : {M : Type 1} → statement M
 word-start-spec =
     tie.close
-    (tie.spec
-    Inv-loop
-    μ-loop
-    loop-holds
-    white-at-requires
-    returns
-    add-i
-    loop-less
-    loop-again
-    returns-2)
+    (tie.spec Inv-loop μ-loop loop-holds (λ c. search needs) (λ c κs. search needs) returns (λ c κs. search needs) returns-2 (λ c. search needs) (λ c. search needs) loop-again returns-3)

@@ -10,22 +10,19 @@ use Rattle.pitched.proofs.write_measure.Tie as tie
 is-lead-requires : tie.Need-is-lead-requires
 is-lead-requires c κs = c .before .before .pre .0
 
-pitches-end-requires : tie.Need-pitches-end-requires
-pitches-end-requires c κs = c .before .before .before .before .pre
-
 sub-write-run : tie.Need-sub-write-run
-sub-write-run c = omega (arith, c .pitches-end .ensures)
+sub-write-run c = omega (arith, c .before .before .before .before .pre .2)
 
 write-run-requires : tie.Need-write-run-requires
-write-run-requires c κs = omega (arith, c .before .pitches-end .ensures, c .before .before .before .before .before .before .pre .1)
+write-run-requires c κs = omega (arith, c .before .before .before .before .before .pre)
 
 returns : tie.Need-returns
 returns c =
-    let e = c .before .before .before .before .pitches-end .ensures in
-    wrote-as (c .before .before .write-run .ensures) (lead-run _ _ _ _ _ e (sym (c .before .before .before .before .before .before .is-lead .ensures) ∙ c .before .before .before .before .before .if1 .taken))
+    let e = c .before .before .before .before .before .before .before .before .pre .2 in
+    wrote-as (c .before .before .write-run .ensures) (lead-run _ _ _ _ _ e (sym (c .before .before .before .before .before .is-lead .ensures) ∙ c .before .before .before .before .if1 .taken))
 
 returns-2 : tie.Need-returns-2
 returns-2 c = c .before .before .write-voices .ensures
 
 pub write-measure-spec : {M : Type 1} → statement M
-write-measure-spec = tie.close (tie.spec is-lead-requires pitches-end-requires sub-write-run write-run-requires (λ c. search needs) returns (λ c κs. search needs) (λ c. search needs) returns-2)
+write-measure-spec = tie.close (tie.spec is-lead-requires sub-write-run write-run-requires (λ c. search needs) returns (λ c κs. search needs) (λ c. search needs) returns-2)

@@ -1,16 +1,15 @@
 -- `sung::write_measures` meets its contract: measure after measure.
-use Prim.Native.Nat.{_+_, _-_, _*_, _≤_}
-use mathlib.Core.Path.{_≡_, refl}
+use Prim.Native.Nat.{ℕ, _+_, _-_, _*_, _≤_}
+use mathlib.Core.Path.{_≡_, refl, sym, ap}
 use native.Mathlib.Omega.{arith}
 use borrow.Author.Needs.{needs}
 use lib.ListN.{length}
-use Rattle.sections.proofs.Writes.{told}
 use Rattle.writers.specs.Out.{total}
 use Rattle.writers.proofs.Out.{total-step}
-use Rattle.writers.proofs.Written.{Written, begin, written-in, written-on, written-none, written-all}
+use Rattle.writers.proofs.Written.{Written, begin, written-in, written-as, written-on, written-none, written-all}
 use Rattle.lyrics.specs.Sheet.{syllablesIn}
 use Rattle.sung.specs.Out.{sungRows, measuresOut}
-use Rattle.sung.proofs.Out.{measures-step, measures-none}
+use Rattle.sung.proofs.Out.{passed-to, passed-none, sung-low, measures-step, measures-none}
 use Rattle.sung.proofs.write_measures.Statement.{statement}
 use Rattle.sung.proofs.write_measures.Tie as tie
 
@@ -48,53 +47,53 @@ returns c =
     let a = c .before .before .before .before .before .before .before .before .before .before .before .before .args in
     let k = c .before .before .before .before .before .before .note-count in
     let q = sungRows (a .store .now) (l .p) (k .result) in
-    written-none (l .inv .5) (told (c .before .before .before .before .write-rows .ensures) (c .enum-told .given .1)) (measuresOut (a .texts) (syllablesIn (a .text .now) (a .store .now) (a .sheet)) (a .store .now) (l .i + k .result) (l .j + q) (l .h + 28) (l .p + 16 * k .result) (l .left - 1))
+    written-none (l .inv .5) (passed-none (c .before .before .before .before .write-rows .ensures) (c .enum-told .given .1)) (measuresOut (a .texts) (syllablesIn (a .text .now) (a .store .now) (a .sheet)) (a .store .now) (l .i + k .result) (l .j + q) (l .h + 28) (l .p + 16 * k .result) (l .left - 1))
     (measures-step _ _ _ _ _ _ _ _ _ q (c .before .before .before .before .before .before .before .loop-test .taken) (k .ensures .0) refl)
 
 add-at : tie.Need-add-at Inv-loop μ-loop
 add-at c =
-    let w = written-on (c .before .before .before .before .before .before .before .before .before .loop .inv .5) (told (c .before .before .before .before .before .write-rows .ensures) (c .before .m .given .1)) (measures-step _ _ _ _ _ _ _ _ _ _ (c .before .before .before .before .before .before .before .before .loop-test .taken) (c .before .before .before .before .before .before .before .note-count .ensures .0) refl) in
+    let w = written-on (c .before .before .before .before .before .before .before .before .before .loop .inv .5) (passed-to (c .before .before .before .before .before .write-rows .ensures) (c .before .m .given .1) .0) (measures-step _ _ _ _ _ _ _ _ _ _ (c .before .before .before .before .before .before .before .before .loop-test .taken) (c .before .before .before .before .before .before .before .note-count .ensures .0) refl) in
     omega (arith, w .wrote .says .1, c .before .before .before .before .before .before .before .before .before .before .before .before .before .good)
-
-sung-rows-requires : tie.Need-sung-rows-requires Inv-loop μ-loop
-sung-rows-requires c κs =
-    let l = c .before .before .before .before .before .before .before .before .before .loop in
-    omega (arith, l .inv .1, total-step (c .before .before .before .before .before .before .before .before .before .before .before .before .before .args .store .now) (l .h) (l .left) (c .before .before .before .before .before .before .before .before .loop-test .taken), c .before .before .before .before .before .before .before .note-count .ensures .0)
 
 add-i : tie.Need-add-i Inv-loop μ-loop
 add-i c =
-    let l = c .before .before .before .before .before .before .before .before .before .before .loop in
-    omega (arith, l .inv .1, l .inv .2, total-step (c .before .before .before .before .before .before .before .before .before .before .before .before .before .before .args .store .now) (l .h) (l .left) (c .before .before .before .before .before .before .before .before .before .loop-test .taken), c .before .before .before .before .before .before .before .before .note-count .ensures .0, c .before .before .before .before .before .before .before .before .before .before .before .before .before .before .good)
-
-add-j : tie.Need-add-j Inv-loop μ-loop
-add-j c =
-    let l = c .before .before .before .before .before .before .before .before .before .before .loop in
-    omega (arith, l .inv .1, l .inv .2, l .inv .3, total-step (c .before .before .before .before .before .before .before .before .before .before .before .before .before .before .args .store .now) (l .h) (l .left) (c .before .before .before .before .before .before .before .before .before .loop-test .taken), c .before .before .before .before .before .before .before .before .note-count .ensures .0, c .sung-rows .ensures .1, c .before .before .before .before .before .before .before .before .before .before .before .before .before .before .good)
+    let l = c .before .before .before .before .before .before .before .before .before .loop in
+    omega (arith, l .inv .1, l .inv .2, total-step (c .before .before .before .before .before .before .before .before .before .before .before .before .before .args .store .now) (l .h) (l .left) (c .before .before .before .before .before .before .before .before .loop-test .taken), c .before .before .before .before .before .before .before .note-count .ensures .0, c .before .before .before .before .before .before .before .before .before .before .before .before .before .good)
 
 mul-p : tie.Need-mul-p Inv-loop μ-loop
 mul-p c =
-    let l = c .before .before .before .before .before .before .before .before .before .before .loop in
-    omega (arith, l .inv .1, total-step (c .before .before .before .before .before .before .before .before .before .before .before .before .before .before .args .store .now) (l .h) (l .left) (c .before .before .before .before .before .before .before .before .before .loop-test .taken), c .before .before .before .before .before .before .before .before .note-count .ensures .0, c .before .before .before .before .before .before .before .before .before .before .before .before .before .before .good)
+    let l = c .before .before .before .before .before .before .before .before .before .loop in
+    omega (arith, l .inv .1, total-step (c .before .before .before .before .before .before .before .before .before .before .before .before .before .args .store .now) (l .h) (l .left) (c .before .before .before .before .before .before .before .before .loop-test .taken), c .before .before .before .before .before .before .before .note-count .ensures .0, c .before .before .before .before .before .before .before .before .before .before .before .before .before .good)
 
 add-p : tie.Need-add-p Inv-loop μ-loop
 add-p c =
-    let l = c .before .before .before .before .before .before .before .before .before .before .loop in
-    omega (arith, l .inv .1, total-step (c .before .before .before .before .before .before .before .before .before .before .before .before .before .before .args .store .now) (l .h) (l .left) (c .before .before .before .before .before .before .before .before .before .loop-test .taken), c .before .before .before .before .before .before .before .before .note-count .ensures .0, c .before .before .before .before .before .before .before .before .before .before .before .before .before .before .good)
+    let l = c .before .before .before .before .before .before .before .before .before .loop in
+    omega (arith, l .inv .1, total-step (c .before .before .before .before .before .before .before .before .before .before .before .before .before .args .store .now) (l .h) (l .left) (c .before .before .before .before .before .before .before .before .loop-test .taken), c .before .before .before .before .before .before .before .note-count .ensures .0, c .before .before .before .before .before .before .before .before .before .before .before .before .before .good)
 
 -- one written
 
 loop-again : tie.Need-loop-again Inv-loop μ-loop
 loop-again c =
-    let l = c .before .before .before .before .before .before .before .before .before .before .loop in
+    let l = c .before .before .before .before .before .before .before .before .before .loop in
     let v = l .inv in
-    let more = c .before .before .before .before .before .before .before .before .before .loop-test .taken in
-    let t = total-step (c .before .before .before .before .before .before .before .before .before .before .before .before .before .before .args .store .now) (l .h) (l .left) more in
-    let k = c .before .before .before .before .before .before .before .before .note-count .ensures .0 in
-    let w = written-on (v .5) (told (c .before .before .before .before .before .before .write-rows .ensures) (c .before .before .m .given .1)) (measures-step _ _ _ _ _ _ _ _ _ _ more k (c .sung-rows .ensures .0)) in
-    (omega (arith, v .0), omega (arith, v .1, t, k), omega (arith, v .2), omega (arith, v .3, c .sung-rows .ensures .1), written-in w .1, w)
+    let more = c .before .before .before .before .before .before .before .before .loop-test .taken in
+    let t = total-step (c .before .before .before .before .before .before .before .before .before .before .before .before .before .args .store .now) (l .h) (l .left) more in
+    let k = c .before .before .before .before .before .before .before .note-count .ensures .0 in
+    let (w, e) = passed-to (c .before .before .before .before .before .write-rows .ensures) (c .before .m .given .1) in
+    let a = c .before .before .before .before .before .before .before .before .before .before .before .before .before .args in
+    let n = c .before .before .before .before .before .before .before .note-count .result in
+    let q = sungRows (a .store .now) (l .p) n in
+    let g = written-on (v .5) w (measures-step _ _ _ _ _ _ _ _ _ q more k refl) in (
+      omega (arith, v .0),
+      omega (arith, v .1, t, k),
+      omega (arith, v .2),
+      omega (arith, v .3, e, sung-low (a .store .now) (l .p) n),
+      written-in g .1,
+      written-as g (ap (λ (x : ℕ). measuresOut (a .texts) (syllablesIn (a .text .now) (a .store .now) (a .sheet)) (a .store .now) (l .i + n) x (l .h + 28) (l .p + 16 * n) (l .left - 1)) (sym e)),
+    )
 
 returns-2 : tie.Need-returns-2 Inv-loop μ-loop
 returns-2 c = written-all (c .before .loop .inv .5) (measures-none _ _ _ _ _ _ _ _ (omega arith))
 
 pub write-measures-spec : {M : Type 1} → statement M
-write-measures-spec = tie.close (tie.spec Inv-loop μ-loop loop-holds (λ c κs. search needs) sub-write-rows part-write-rows-start (λ c. search needs) write-rows-requires (λ c. search needs) (λ c. search needs) (λ c. search needs) returns add-at sung-rows-requires add-i add-j (λ c. search needs) mul-p add-p (λ c. search needs) (λ c. search needs) loop-again (λ c. search needs) returns-2)
+write-measures-spec = tie.close (tie.spec Inv-loop μ-loop loop-holds (λ c κs. search needs) sub-write-rows part-write-rows-start (λ c. search needs) write-rows-requires (λ c. search needs) (λ c. search needs) (λ c. search needs) returns add-at add-i (λ c. search needs) mul-p add-p (λ c. search needs) (λ c. search needs) loop-again (λ c. search needs) returns-2)

@@ -1,6 +1,6 @@
 -- `writers::write_note` meets its contract.
 use native.Mathlib.Omega.{arith}
-use Rattle.writers.proofs.Out.{length-note-out, note-wrote}
+use Rattle.writers.proofs.Out.{length-note-out, note-wrote, copied-twice}
 use borrow.Author.Needs.{needs}
 use Rattle.writers.proofs.write_note.Statement.{statement}
 use Rattle.writers.proofs.write_note.Tie as tie
@@ -11,7 +11,9 @@ returns c =
     record { says = omega (arith, length-note-out (a .store .now) (a .place) (omega arith)) }
 
 returns-2 : tie.Need-returns-2
-returns-2 c = note-wrote _ _ _ (c .before .before .before .before .before .before .put-4 .ensures) (c .before .before .copy .ensures) (c .before .before .before .before .before .before .before .before .before .before .before .flags-of .ensures) (omega arith) (omega arith)
+returns-2 c =
+    let a = c .before .before .before .before .before .before .before .before .before .before .before .before .before .before .before .before .before .before .before .args in
+    note-wrote _ _ _ (c .before .before .before .before .before .before .before .before .before .before .put-4 .ensures) (copied-twice _ _ _ (a .store .now) (a .place) (c .before .before .before .before .before .before .copy-4 .ensures) (c .before .before .copy-42 .ensures) (omega arith)) (c .before .before .before .before .before .before .before .before .before .before .before .before .before .before .before .flags-of .ensures) (omega arith) (omega arith)
 
 pub write-note-spec : {M : Type 1} → statement M
-write-note-spec = tie.close (tie.spec returns (λ c κs. search needs) (λ c. search needs) (λ c. search needs) (λ c. search needs) (λ c. search needs) (λ c. search needs) (λ c κs. search needs) (λ c. search needs) (λ c κs. search needs) (λ c. search needs) returns-2)
+write-note-spec = tie.close (tie.spec returns (λ c κs. search needs) (λ c. search needs) (λ c. search needs) (λ c. search needs) (λ c. search needs) (λ c. search needs) (λ c κs. search needs) (λ c. search needs) (λ c κs. search needs) (λ c. search needs) (λ c κs. search needs) (λ c. search needs) returns-2)

@@ -1,4 +1,4 @@
--- `writers::write_voices` meets its contract: voice after voice.
+-- `writers::write_overlays` meets its contract: voice after voice.
 use Prim.Native.Nat.{_+_, _-_, _≤_}
 use mathlib.Core.Path.{_≡_, refl}
 use native.Mathlib.Omega.{arith}
@@ -8,12 +8,12 @@ use Rattle.writers.specs.Out.{voicesOut}
 use Rattle.writers.proofs.Written.{Written, begin, written-in, written-on, written-none, written-all}
 use Rattle.writers.proofs.Out.{voices-step, voices-none}
 use borrow.Author.Needs.{needs}
-use Rattle.writers.proofs.write_voices.Statement.{statement}
-use Rattle.writers.proofs.write_voices.Tie as tie
+use Rattle.writers.proofs.write_overlays.Statement.{statement}
+use Rattle.writers.proofs.write_overlays.Tie as tie
 
 abbrev Inv-loop : tie.InvT-loop
 Inv-loop store place k to₀ at₀ voice₀ to at voice =
-    (voice ≤ 4) × (length to ≡ length to₀) × Written to₀ (voicesOut store place k 0 4) (voicesOut store place k voice (4 - voice)) to at
+    (voice ≤ 4) × (length to ≡ length to₀) × Written to₀ (voicesOut store place k 1 3) (voicesOut store place k voice (4 - voice)) to at
 
 abbrev μ-loop : tie.MeasureT-loop
 μ-loop store place k to₀ at₀ voice₀ to at voice = 4 - voice
@@ -45,5 +45,5 @@ loop-again c =
 returns-2 : tie.Need-returns-2 Inv-loop μ-loop
 returns-2 c = written-all (c .before .loop .inv .2) (voices-none _ _ _ _ 4 (omega arith))
 
-pub write-voices-spec : {M : Type 1} → statement M
-write-voices-spec = tie.close (tie.spec Inv-loop μ-loop loop-holds sub-write-voice part-write-voice-start (λ c. search needs) (λ c κs. search needs) (λ c. search needs) (λ c. search needs) (λ c. search needs) returns add-at (λ c. search needs) (λ c. search needs) loop-again (λ c. search needs) returns-2)
+pub write-overlays-spec : {M : Type 1} → statement M
+write-overlays-spec = tie.close (tie.spec Inv-loop μ-loop loop-holds sub-write-voice part-write-voice-start (λ c. search needs) (λ c κs. search needs) (λ c. search needs) (λ c. search needs) (λ c. search needs) returns add-at (λ c. search needs) (λ c. search needs) loop-again (λ c. search needs) returns-2)
