@@ -76,14 +76,15 @@ pub struct Verses {
     pub verse: u8,
 }
 
+// All of it. The order was measured: it decides what the compiler copies between the fields.
 pub struct Registers {
     pub counts: Counts,
     pub key: AbcPartParseState,
     pub last: Last,
     pub pending: Pending,
     pub line: Line,
-    pub waiting: Waiting,
     pub group: Group,
+    pub waiting: Waiting,
     pub verses: Verses,
 }
 
