@@ -5,7 +5,7 @@ ghost use Prim.Native.Nat.{ℕ, _+_, _*_, _^_, _≤_, _<_};
 ghost use lib.ListN.{length, getD};
 ghost use Rattle.standard.specs.Bars as standard;
 ghost use Rattle.standard.specs.Keys.{Key};
-ghost use Rattle.reader.specs.Records.{passBits, signed8};
+ghost use Rattle.reader.specs.Records.{passBits};
 ghost use Rattle.reader.specs.Codes.{modeCode};
 ghost use Rattle.reader.specs.Barlines.{leftOf};
 ghost use Rattle.reader.specs.Token as token;

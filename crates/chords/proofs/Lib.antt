@@ -1,3 +1,2 @@
 pub mod Pitches
 pub mod Pushing
-pub mod Calls

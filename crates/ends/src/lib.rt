@@ -10,7 +10,6 @@ ghost use Rattle.laws.specs.Lists.{All};
 ghost use Rattle.laws.specs.Bytes.{splice, le32};
 ghost use Rattle.standard.specs.Bars.{Barline, endsEnding};
 ghost use Rattle.reader.specs.Codes.{barlineCode, modeCode};
-ghost use Rattle.reader.specs.Records.{signed8};
 ghost use Rattle.layout.specs.Log.{Head};
 ghost use Rattle.layout.specs.Ends.{dropped, endsAt, close, marked};
 ghost use Rattle.rows.specs.Table.{Table, Only};
@@ -165,7 +164,7 @@ pub fn mark_first(store: &mut [u8], at: usize, n: usize, fifths: u8, minor: bool
     if store[at + 20] != 0 {
         return;
     }
-    heads::set_mark(store, at, 0, mode_code(minor), signed(fifths));
+    heads::set_mark(store, at, 0, mode_code(minor), rows::signed(fifths));
 }
 
 // A mode, by number.
@@ -173,13 +172,6 @@ pub fn mode_code(minor: bool) -> u8
     ensures { λ r. ⌜ r ≡ modeCode minor ⌝ }
 {
     if minor { 2 } else { 1 }
-}
-
-// A signed number, kept with 128 added, as a byte.
-pub fn signed(n: u8) -> u8
-    ensures { λ r. ⌜ r ≡ signed8 n ⌝ }
-{
-    if n < 128 { n + 128 } else { n - 128 }
 }
 
 // THE WHOLE END: how many heads are left.

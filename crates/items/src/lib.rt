@@ -137,7 +137,7 @@ fn on_key(
         t.heads,
         i,
         ends::mode_code(mode),
-        ends::signed(sharps),
+        rows::signed(sharps),
     );
     steps::hear(r, sharps, mode)
 }

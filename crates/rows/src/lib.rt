@@ -83,7 +83,7 @@ pub fn get_written(store: &[u8], at: usize, i: usize) -> Written
 // PITCHES
 
 // A signed number, kept with 128 added, as a byte.
-fn signed(n: u8) -> u8
+pub fn signed(n: u8) -> u8
     ensures { λ r. ⌜ r ≡ signed8 n ⌝ }
 {
     if n < 128 { n + 128 } else { n - 128 }

@@ -124,7 +124,7 @@ pub fn on_key(store: &mut [u8], t: Tables, r: Registers, fifths: u8, minor: bool
         t.heads,
         i,
         ends::mode_code(minor),
-        ends::signed(fifths),
+        rows::signed(fifths),
     );
     hear(r, fifths, minor)
 }
