@@ -1,14 +1,14 @@
 -- THE LOOP over the tokens of a line: what is still to come of the line does the rest to every part that was held where it began.
 use Prim.Native.Nat.{ℕ, _+_, _≤_, _<_, max}
 use mathlib.Core.Path.{_≡_, refl, sym, subst, _∙_}
-use mathlib.Core.List.{List, [], _∷_}
+use mathlib.Core.List.{List, []}
 use native.Mathlib.Omega.{arith}
-use lib.ListN.{length, drop, length-drop}
+use lib.ListN.{length, drop}
 use Rattle.laws.specs.Lists.{foldl}
 use Rattle.standard.specs.Fields.{Meter}
 use Rattle.reader.specs.Token as token
 use Rattle.reader.specs.Tokens.{tokenOf, tokens}
-use Rattle.reader.proofs.TokenLaws.{fold-at, fold-end, takes-a-byte}
+use Rattle.reader.proofs.TokenLaws.{fold-at, fold-end}
 use Rattle.reader.proofs.TokenBounds.{token-within}
 use Rattle.layout.specs.Log.{LogState, onToken, lineBegins, onLine}
 use Rattle.layout.proofs.Lines.{InLine, in-line-begins, in-line-token, standing}
@@ -26,6 +26,7 @@ use Rattle.held.specs.Lines.{Waits, Rest, Takes}
 use Rattle.tokens.specs.declared.Tokenised.{Tokenised}
 use Rattle.tokens.specs.Tokens.{tokenisedFor}
 use Rattle.tokens.proofs.Chords.{chord-pitches}
+use Rattle.tokens.proofs.Past.{token-past}
 use Rattle.body.specs.Body.{Ready, Acts}
 use Rattle.body.proofs.Tokens.{token-ready, token-does}
 
@@ -120,10 +121,6 @@ going-start line t s r =
       holds = λ l i h. record { state = l; in-line = i; held = h; rest = refl };
     }
 
-some-byte : (s : List ℕ) → 0 < length s → 0 < tokenOf s .used
-some-byte [] l = absurd (omega arith)
-some-byte (c ∷ s) l = takes-a-byte c s
-
 -- ONE TOKEN
 module _ {line : List ℕ} {t : Tables} {s₀ s : List ℕ} {r₀ r : Registers} {at : ℕ} (b : Begun line t s₀ r₀) (g : Going line t s₀ r₀ s r at) (h : at < length line) (e : Tokenised)
     (k : e ≡ tokenisedFor at (r .line .unit) (tokenOf (drop at line))) where
@@ -160,7 +157,7 @@ module _ {line : List ℕ} {t : Tables} {s₀ s : List ℕ} {r₀ r : Registers}
       (token-ready line at tok (chord-pitches line at) (token-fits (drop at line)) room holding)
 
   pub going-past : at < e .next
-  going-past = rw k (omega (arith, some-byte (drop at line) (rw length-drop (omega arith))))
+  going-past = rw k (token-past line at h)
 
   pub going-turn : (s′ : List ℕ) (r′ : Registers) → Acts line t s r s′ r′ (e .token) → Going line t s₀ r₀ s′ r′ (e .next)
   going-turn s′ r′ a = subst (λ (x : Tokenised). Going line t s₀ r₀ s′ r′ (x .next)) (sym k) turned

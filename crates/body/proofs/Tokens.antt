@@ -1,11 +1,11 @@
 -- ONE TOKEN: what the code does for the definition's token is what that token does to a part.
 use Prim.Native.Nat.{ℕ, _+_}
 use mathlib.Core.Path.{_≡_, refl, sym, ap, subst, _∙_}
-use mathlib.Core.Option.{Option, none, some}
+use mathlib.Core.Option.{none, some}
 use mathlib.Core.List.{List, [], _∷_}
 use native.Mathlib.Omega.{arith}
 use lib.ListN.{length, drop}
-use Rattle.standard.specs.Pitches.{Accidental, Written}
+use Rattle.standard.specs.Pitches.{Written}
 use Rattle.standard.specs.Lengths.{Value}
 use Rattle.standard.specs.Notes as Notes
 use Rattle.standard.specs.Notes.{Behind}
@@ -16,13 +16,10 @@ use Rattle.reader.specs.Part.{restNote}
 use Rattle.reader.specs.Token.{Token, space, overlay, quoted, broken, tuplet, slur, graceOpen, graceClose, decoration, barline, volta, unit, meter, key, field, chord, rest, note, nothing, skipped, refused}
 use Rattle.layout.specs.Log.{LogState, onToken, onSound}
 use Rattle.bounds.specs.Ranges.{TokenFits}
-use Rattle.sizes.specs.Pays.{marks, marked, makes}
-use Rattle.pitches.specs.Pitches.{markFor, pitchFor}
-use Rattle.pitches.proofs.Walk.{mark-back}
+use Rattle.sizes.specs.Pays.{marked, makes}
 use Rattle.lengths.specs.Values.{lengthAs}
 use Rattle.rows.specs.Encoded.{marksByte, rowFor}
 use Rattle.rows.proofs.Tables.{only-none}
-use Rattle.scopes.specs.Resolving.{signs, writtenOf}
 use Rattle.registers.specs.declared.Line as declared
 use Rattle.registers.specs.declared.Tables.{Tables}
 use Rattle.registers.specs.declared.Registers.{Registers}
@@ -30,6 +27,7 @@ use Rattle.held.specs.Held.{Room, Held, Holding, Grows, Does}
 use Rattle.sounds.specs.Sounds.{restRow}
 use Rattle.tokens.specs.Tokens.{restLength, tokenFor}
 use Rattle.chords.specs.Chords.{pitchesOr, chordIn, ChordsAs}
+use Rattle.chords.proofs.Pushing.{written-back, signs-are}
 use Rattle.body.specs.Body.{Ready, Acts}
 
 -- A TOKEN THAT DOES NOTHING
@@ -45,18 +43,9 @@ does-nothing t s r =
 unit-is : {t : Tables} {s : List ℕ} {r : Registers} (l : LogState) → Held t s r [] l → r .line .unit ≡ l .line .unit
 unit-is l h = ap (λ (x : declared.Line). x .unit) (h .line-is)
 
--- an accidental takes a row
-marks-are : (m : Option Accidental) → signs (markFor m) ≡ marks m
-marks-are none = refl
-marks-are (some a) = refl
-
 -- a chord stands there
 abbrev pub ChordStands : List ℕ → ℕ → Token → Type 0
 ChordStands line at tok = (ws : List Written) (l : Length) (b : Behind) → tok ≡ chord ws l b → chordOf 0 none (drop (at + 1) line) ≡ some ws
-
--- a pitch of the code is the definition's
-written-back : (w : Written) → writtenOf (pitchFor w) ≡ w
-written-back w = λ i. record { step = w .step; octave = w .octave; mark = mark-back (w .mark) i }
 
 -- A REST has the row of the definition's
 rest-row-is : (k : Notes.NoteKind) (u : ℕ) (l : Length) → restRow (kindCode k) (restLength u k l) ≡ rowFor (restNote k (valueOf u l))
@@ -119,7 +108,7 @@ module _ (line : List ℕ) (at : ℕ) {t : Tables} {s : List ℕ} {r : Registers
     },
   )
   token-ready (note w l b) c f room h =
-      (subst (λ (n : ℕ). Room t (r .counts) (length s) 0 1 1 n) (sym (marks-are (w .mark))) room, h, f .step-fits)
+      (subst (λ (n : ℕ). Room t (r .counts) (length s) 0 1 1 n) (sym (signs-are w)) room, h, f .step-fits)
   token-ready nothing c f room h = (room, h)
   token-ready skipped c f room h = (room, h)
   token-ready (refused n) c f room h = (room, h)
@@ -157,7 +146,7 @@ module _ (line : List ℕ) (at : ℕ) {t : Tables} {s : List ℕ} {r : Registers
   token-does {s′} {r′} (note w l b) c a =
       record {
         only = a .only;
-        grows = subst (λ (n : ℕ). Grows (r .counts) (r′ .counts) 0 1 1 n) (marks-are (w .mark)) (a .grows);
+        grows = subst (λ (n : ℕ). Grows (r .counts) (r′ .counts) 0 1 1 n) (signs-are w) (a .grows);
         holds =
             λ x st h. subst (λ (v : Written). Held t s′ r′ [] (onSound (v ∷ []) l b x)) (written-back w)
             (a .holds x b l st refl refl (ap (λ (u : ℕ). valueOf u l) (unit-is x h)) h);

@@ -1,6 +1,6 @@
 -- The numbers of each token are in their ranges.
 use Prim.Native.Nat.{ℕ, zero, suc, _+_, _-_, _^_, _≤_, _<_}
-use mathlib.Core.Path.{_≡_}
+use mathlib.Core.Path.{_≡_, subst}
 use mathlib.Core.Bool.{Bool, true, false, cond, not, _&&_, _||_}
 use mathlib.Core.Option.{Option, none, some}
 use mathlib.Core.List.{List, [], _∷_, _++_}
@@ -322,6 +322,11 @@ chord-fits zero a (c ∷ s) h =
     (λ i. rw (i, chordOf) (cons-fits c a s (chordOf (octaveOf c s .used) none s) h (chord-fits (octaveOf c s .used) none s no-mark)))
     (λ i. rw (i, chordOf) (chord-fits 0 a s h))))))))
 chord-fits (suc k) a (c ∷ s) h = chord-fits k a s h
+
+-- those of a chord that is read
+pub pitches-fit : (s : List ℕ) (ws : List Written) → chordOf 0 none s ≡ some ws → All WrittenFits ws
+unfolding ChordFits
+pitches-fit s ws e = subst ChordFits e (chord-fits 0 none s no-mark)
 
 -- TOKENS
 taken-fits : (n : ℕ) (s : List ℕ) (o : Option (List Written)) → ChordFits o → TokenFits (chordTaken n s o .token)

@@ -14,6 +14,7 @@ use Rattle.standard.specs.Lengths.{Value}
 use Rattle.standard.specs.Notes.{pendingAfter}
 use Rattle.reader.specs.Pitches.{chordOf, Scope, soundOf, scopeAfter, soundsOf, scopeAfterAll}
 use Rattle.reader.specs.Part.{soundNote}
+use Rattle.bounds.proofs.TokenRanges.{pitches-fit}
 use Rattle.layout.specs.Log.{LogState, setScopes, setPending, append, onSound}
 use Rattle.layout.proofs.Lines.{Standing}
 use Rattle.lengths.specs.declared.Length.{Length}
@@ -34,13 +35,13 @@ use Rattle.sounds.proofs.Sounding.{standing-scopes}
 use Rattle.sounds.proofs.Leaving.{sound-leaves}
 use Rattle.sizes.specs.Pays.{marks, marked}
 use Rattle.chords.specs.Chords.{chordIn, ChordAt, PushesAll, ChordsAs}
-use Rattle.chords.proofs.Pitches.{sounds-more, scope-more, marked-both, length-sounds, first-low}
+use Rattle.chords.proofs.Pitches.{sounds-more, scope-more, marked-both, length-sounds}
 
 -- A PITCH in the code's type, and back
-written-back : (w : Written) → writtenOf (pitchFor w) ≡ w
+pub written-back : (w : Written) → writtenOf (pitchFor w) ≡ w
 written-back w = λ i. record { step = w .step; octave = w .octave; mark = mark-back (w .mark) i }
 
-signs-are : (w : Written) → signs (markFor (w .mark)) ≡ marks (w .mark)
+pub signs-are : (w : Written) → signs (markFor (w .mark)) ≡ marks (w .mark)
 signs-are w = by (w .mark)
   where
     by : (a : Option standard.Accidental) → signs (markFor a) ≡ marks a
@@ -170,7 +171,7 @@ module _ {line : List ℕ} {t : Tables} {s s′ : List ℕ} {r r′ : Registers}
               behind = ws;
               rest-is = e;
               pitch-is = z;
-              low = first-low (drop i line) w ws (p .to-come ∙ ap some e);
+              low = pitches-fit (drop i line) (w ∷ ws) (p .to-come ∙ ap some e) .0 .step-fits;
               to-come = ap (λ (k : ℕ). chordOf 0 none (drop k line)) n′ ∙ x .rest;
             }
 

@@ -7,7 +7,7 @@ use mathlib.Core.List.{List, [], _∷_, _++_, map}
 use native.Mathlib.Numerals.{add-one}
 use native.Mathlib.Omega.{arith}
 use lib.Dec.{T, ltb→lt, nltb→le}
-use lib.ListN.{length, take, drop, length-drop}
+use lib.ListN.{length, take, drop}
 use borrow.Author.Tests.{lt-ltb, le-ltb}
 use Rattle.laws.specs.Bytes.{between}
 use Rattle.laws.proofs.Parts.{part-cut}
@@ -16,11 +16,12 @@ use Rattle.reader.specs.Tokens.{Effect, counts, refuses, setsUnit, setsMeter, p
 use Rattle.reader.specs.Lines.{music}
 use Rattle.reader.specs.Steps.{refuse, on, first}
 use Rattle.reader.specs.Scan.{played, noteCount, lastUnit, lastMeter, firstRefusal, playOn, act}
-use Rattle.reader.proofs.TokenLaws.{tokens-at, tokens-end, takes-a-byte}
+use Rattle.reader.proofs.TokenLaws.{tokens-at, tokens-end}
 use Rattle.reader.proofs.TokenBounds.{token-within}
 use Rattle.tokens.specs.Tokens.{effectFor, effectedFor}
 use Rattle.tokens.specs.declared.Effect as code
 use Rattle.tokens.specs.declared.Effected.{Effected}
+use Rattle.tokens.proofs.Past.{token-past}
 use Rattle.text.specs.declared.Class.the-variants as C
 use Rattle.text.specs.Lines.{kindAs}
 use Rattle.table.specs.Rows.{itemsIn}
@@ -88,10 +89,6 @@ effect-back (setsUnit u) = refl
 effect-back (setsMeter m) = refl
 effect-back passes = refl
 
-some-byte : (s : List ℕ) → 0 < length s → 0 < tokenOf s .used
-some-byte [] l = absurd (omega arith)
-some-byte (c ∷ s) l = takes-a-byte c s
-
 module _ (line : List ℕ) (at : ℕ) where
   pub none-left : (p : Count) → length line ≤ at → playedFor p (effects (drop at line)) ≡ On p
   unfolding playedFor playedAs effects firstRefusal noteCount lastUnit lastMeter
@@ -109,7 +106,7 @@ module _ (line : List ℕ) (at : ℕ) where
   next-effect h = ap (map effectOf) (tokens-at line at h) ∙ ap (λ (x : Effect). x ∷ effects (drop (found .next) line)) (sym (effect-back (effectOf (tokenOf (drop at line) .token))))
 
   pub past : at < length line → at < found .next
-  past h = omega (arith, some-byte (drop at line) (rw length-drop (omega arith)))
+  past h = token-past line at h
 
   pub within : at < length line → found .next ≤ length line
   within h = token-within line at h

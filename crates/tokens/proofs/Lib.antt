@@ -1,2 +1,3 @@
 mod Dispatch
 pub mod Chords
+pub mod Past
