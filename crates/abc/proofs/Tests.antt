@@ -1,8 +1,7 @@
 -- The tests before the first line, each with its answer; and a refusal, which leaves nothing in either store.
 use Prim.Native.Nat.{ℕ, _-_, _≤_, _<_}
-use mathlib.Core.Path.{_≡_, refl, sym, ap, subst, _∙_}
-use mathlib.Core.Bool.{Bool, true, false, not, true≢false, false≢true}
-use mathlib.Core.Option.{Option, none, some}
+use mathlib.Core.Path.{_≡_, refl, ap, subst, _∙_}
+use mathlib.Core.Bool.{true, false}
 use mathlib.Core.List.{List}
 use lib.ListN.{length}
 use borrow.Author.Tests.{le-leb, lt-leb}
@@ -21,16 +20,7 @@ use Rattle.abc.specs.declared.Answer as code
 use Rattle.abc.specs.declared.Answer.the-variants as A
 use Rattle.abc.specs.declared.Early.{Early}
 use Rattle.abc.specs.declared.Early.the-variants as E
-use Rattle.abc.specs.Answers.{answerAs, Parsed, earlyAs, EarlyIs}
-
--- a test's no, and no no
-pub no-not : (b : Bool) → not b ≡ true → b ≡ false
-no-not true e = absurd (false≢true e)
-no-not false e = refl
-
-pub not-no : (b : Bool) → not b ≡ false → b ≡ true
-not-no true e = refl
-not-no false e = absurd (true≢false e)
+use Rattle.abc.specs.Answers.{answerAs, Parsed, EarlyIs}
 
 -- THE TESTS
 module _ (text : List ℕ) (sl : ℕ) where

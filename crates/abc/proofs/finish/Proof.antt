@@ -1,7 +1,8 @@
 -- `abc::finish` meets its contract: no measure, or the parts written and the rest cleared.
 use borrow.Author.Needs.{needs}
+use Rattle.laws.proofs.Bools.{not-true, not-false}
 use Rattle.sections.proofs.Writes.{reached-in, filled}
-use Rattle.abc.proofs.Tests.{no-not, not-no, cleared}
+use Rattle.abc.proofs.Tests.{cleared}
 use Rattle.abc.proofs.Room.{rooms-left}
 use Rattle.abc.proofs.Second.{silent-parsed, written-parsed}
 use Rattle.abc.proofs.finish.Statement.{statement}
@@ -10,7 +11,7 @@ use Rattle.abc.proofs.finish.Tie as tie
 returns : tie.Need-returns
 returns c =
     let a = c .before .before .before .before .before .before .before .before .before .before .before .before .args in
-    silent-parsed (a .text .now) (a .scratch .now) (a .h) (c .before .before .before .before .before .before .before .before .before .before .before .before .pre .0) _ _ _ _ _ (no-not _ (c .before .before .before .before .before .before .before .if1 .taken)) (c .before .before .before .before .refuse .ensures)
+    silent-parsed (a .text .now) (a .scratch .now) (a .h) (c .before .before .before .before .before .before .before .before .before .before .before .before .pre .0) _ _ _ _ _ (not-true _ (c .before .before .before .before .before .before .before .if1 .taken)) (c .before .before .before .before .refuse .ensures)
 
 write-parts-requires : tie.Need-write-parts-requires
 write-parts-requires c κs =
@@ -25,7 +26,7 @@ returns-2 : tie.Need-returns-2
 returns-2 c =
     let a = c .before .before .before .before .before .before .before .before .before .before .before .before .before .before .before .before .before .before .before .before .before .before .args in
     rw (c .wrote-answer .ensures)
-    (written-parsed (a .text .now) (a .scratch .now) (a .h) (c .before .before .before .before .before .before .before .before .before .before .before .before .before .before .before .before .before .before .before .before .before .before .pre .0) _ _ _ _ _ (not-no _ (c .before .before .before .before .before .before .before .before .before .before .before .before .before .before .before .before .before .if1 .left))
+    (written-parsed (a .text .now) (a .scratch .now) (a .h) (c .before .before .before .before .before .before .before .before .before .before .before .before .before .before .before .before .before .before .before .before .before .before .pre .0) _ _ _ _ _ (not-false _ (c .before .before .before .before .before .before .before .before .before .before .before .before .before .before .before .before .before .if1 .left))
     (filled (rw (c .before .before .before .before .before .before .before .before .before .before .before .before .before .before .before .before .count-parts .ensures) at (c .before .before .before .before .before .before .before .before .before .before .before .before .before .write-parts .ensures)) (search needs) (c .before .before .before .seal .ensures))
     (cleared _ _ _ (c .before .before .before .before .before .before .before .clear .ensures) (search needs)))
 
