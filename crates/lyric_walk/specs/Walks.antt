@@ -101,14 +101,20 @@ Comes text ys from N.NoMore = fromVerse from ys ≡ []
 pub record NextIn (text s : List ℕ) (log k from : ℕ) (r : Next) : Type 0 where
   pub comes : Comes text (chain text s log k) from r
 
--- all of them, where there is no more than one, which stands in the text
-abbrev pub Says : List ℕ → List Syllable → Sole → Type 0
-Says text ys S.Nothing = ys ≡ []
-Says text ys (S.One f) = (ys ≡ syllableIs text f ∷ []) × (f .at ≤ f .end) × (f .end ≤ length text)
-Says text ys S.Several = Unit {0}
+-- the chain from row k on goes on behind its first row
+pub record GoesOn (s : List ℕ) (log k : ℕ) : Type 0 where
+  pub row : Link
+  pub first : LinkIs s log k row
+  pub more : row .next ≡ 0 → ⊥
+
+-- all that the chain from row k on says, where it has no more than one row; the syllable stands in the text
+abbrev pub Says : List ℕ → List ℕ → ℕ → ℕ → Sole → Type 0
+Says text s log k S.Nothing = chain text s log k ≡ []
+Says text s log k (S.One f) = (chain text s log k ≡ syllableIs text f ∷ []) × (f .at ≤ f .end) × (f .end ≤ length text)
+Says text s log k S.Several = GoesOn s log k
 
 pub record SoleIs (text s : List ℕ) (log k : ℕ) (r : Sole) : Type 0 where
-  pub says : Says text (chain text s log k) r
+  pub says : Says text s log k r
 
 -- a byte of a syllable's text
 abbrev pub sungByte : ℕ → ℕ

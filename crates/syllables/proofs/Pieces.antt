@@ -111,7 +111,7 @@ pub found-in : (text s : List ℕ) (log k from : ℕ) (r : Next) (f : Found) →
 found-in text s log k from r f n e = let (g, a, b, c) = subst (Comes text (chain text s log k) from) e (n .comes) in (a, b, c)
 
 pub sole-in : (text s : List ℕ) (log k : ℕ) (r : Sole) (f : Found) → SoleIs text s log k r → r ≡ S.One f → (f .at ≤ f .end) × (f .end ≤ length text)
-sole-in text s log k r f n e = let (g, a, b) = subst (Says text (chain text s log k)) e (n .says) in (a, b)
+sole-in text s log k r f n e = let (g, a, b) = subst (Says text s log k) e (n .says) in (a, b)
 
 -- SYLLABLE BY SYLLABLE
 module _ (b : Bool) (i : ℕ) where
@@ -137,11 +137,11 @@ module _ (b : Bool) (i : ℕ) where
 
     -- its one syllable, or none
     pub sole-none : (r : Sole) → SoleIs text s log k r → r ≡ S.Nothing → pieces b i (chain text s log k) ≡ []
-    sole-none r n e = pieces-none (subst (Says text (chain text s log k)) e (n .says))
+    sole-none r n e = pieces-none (subst (Says text s log k) e (n .says))
 
     pub sole-one : (r : Sole) (f : Found) → SoleIs text s log k r → r ≡ S.One f → pieces b i (chain text s log k) ≡ piece b i (syllableIs text f)
     sole-one r f n e =
-        pieces-cons (subst (Says text (chain text s log k)) e (n .says) .0) ∙ ap (λ (l : List ℕ). piece b i (syllableIs text f) ++ l) (pieces-none refl) ∙ append-nil (piece b i (syllableIs text f))
+        pieces-cons (subst (Says text s log k) e (n .says) .0) ∙ ap (λ (l : List ℕ). piece b i (syllableIs text f) ++ l) (pieces-none refl) ∙ append-nil (piece b i (syllableIs text f))
 
   -- a note past the last has none
   pub pieces-past : (ws : List (List Syllable)) (j : ℕ) → length ws ≤ j → pieces b i (getD ws j []) ≡ []

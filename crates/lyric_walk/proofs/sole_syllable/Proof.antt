@@ -9,7 +9,7 @@ returns : tie.Need-returns
 returns c = sole-none _ _ _ _ (c .if1 .taken)
 
 returns-2 : tie.Need-returns-2
-returns-2 c = record { says = tt }
+returns-2 c = record { says = record { row = _; first = c .before .before .get-link .ensures; more = c .if2 .taken } }
 
 returns-3 : tie.Need-returns-3
 returns-3 c =
