@@ -8,7 +8,7 @@ use lib.ListN.{length, getD}
 use Rattle.laws.specs.Lists.{all, span}
 use Rattle.laws.specs.Bytes.{between}
 use Rattle.laws.specs.Spans.{endIn}
-use Rattle.laws.proofs.Bools.{and-left, and-right}
+use Rattle.laws.proofs.Bools.{and-true, and-left, and-right}
 use Rattle.laws.proofs.Spans.{span-yes}
 use Rattle.laws.proofs.Parts.{between-first, between-none, between-cut, length-between}
 
@@ -28,11 +28,7 @@ block-next p text at j e n m h k y =
     three false b c = refl
 
 pub block-end : (p : ℕ → Bool) (text : List ℕ) (i e : ℕ) (n : Bool) → e ≤ i → n ≡ (n && all p (between text i e))
-block-end p text i e n h = sym (ap (λ (s : List ℕ). n && all p s) (between-none text i e h) ∙ whole n)
-  where
-    whole : (a : Bool) → (a && true) ≡ a
-    whole true = refl
-    whole false = refl
+block-end p text i e n h = sym (ap (λ (s : List ℕ). n && all p s) (between-none text i e h) ∙ and-true n)
 
 -- BLOCK BY BLOCK
 span-both : (p : ℕ → Bool) (s t : List ℕ) → all p s ≡ true → span p (s ++ t) ≡ length s + span p t
