@@ -13,7 +13,7 @@ build_library() {
     mkdir -p target
     if ! rt staticlib abc >target/staticlib.log 2>&1; then
         tail -n 20 target/staticlib.log >&2
-        echo "crates/abc is not proved, so there is no library to run: see target/staticlib.log." >&2
+        echo "crates/abc_text is not proved, so there is no library to run: see target/staticlib.log." >&2
         exit 1
     fi
 }

@@ -1,5 +1,1 @@
-pub mod Tests
-pub mod Room
-pub mod Second
-pub mod Order
 pub mod Packs

@@ -9,7 +9,7 @@ use Rattle.laws.specs.Lists.{keep}
 use Rattle.laws.specs.Bytes.{between}
 use Rattle.standard.specs.Bytes.{is}
 use Rattle.standard.specs.Lyrics.{syllableText}
-use Rattle.table.specs.Rows.{Cut}
+use Rattle.scan_table.specs.Rows.{Cut}
 use Rattle.reader.specs.Lyrics.{Syllable}
 use Rattle.lyric_words.specs.Words.{asSyllabic}
 use Rattle.lyrics.specs.declared.Sheet.{Sheet}

@@ -10,7 +10,7 @@ use Rattle.laws.proofs.Parts.{length-between, between-none, between-first, take
 use Rattle.reader.specs.Text.{isSpace, isBlank}
 use Rattle.reader.specs.Pieces.{words, whiteAt}
 use Rattle.reader.proofs.WordLaws.{stretch, words-mark, words-word}
-use Rattle.white.proofs.Whites.{widthBy, width-space, width-plain}
+use Rattle.text_white.proofs.Whites.{widthBy, width-space, width-plain}
 use Rattle.lyric_words.specs.Words.{WordStart, WordEnd}
 
 -- a white character is within the text

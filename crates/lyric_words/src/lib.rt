@@ -39,7 +39,7 @@ fn past_white(text: &[u8], at: usize, end: usize) -> usize
 {
     let mut i = at;
     while i < end {
-        let w = white::white_at(text, i, end);
+        let w = text_white::white_at(text, i, end);
         if w == 0 {
             return i;
         }
@@ -59,7 +59,7 @@ fn word_start(text: &[u8], at: usize, end: usize) -> usize
         if 127 < b {
             return past_white(text, i, end);
         }
-        if !white::is_space(b) {
+        if !text_white::is_space(b) {
             return i;
         }
         i += 1;
@@ -74,7 +74,7 @@ fn word_end(text: &[u8], at: usize, end: usize) -> usize
 {
     let mut i = at;
     while i < end {
-        let w = white::white_at(text, i, end);
+        let w = text_white::white_at(text, i, end);
         if 0 < w {
             return i;
         }

@@ -19,8 +19,8 @@ use Rattle.laws.proofs.Rows.{rows-more, rows-none, rows-front, length-rows}
 use Rattle.reader.specs.State as reader
 use Rattle.reader.specs.Scan.{Item, born, reset, headed, keyed, metered, sung, played}
 use Rattle.reader.specs.Lyrics.{Syllable, sing, sungBy, lyricWords}
-use Rattle.table.specs.declared.Row as items
-use Rattle.table.specs.Rows.{decItem, itemsFrom, itemBytes, itemAs, itemIn, RowIs}
+use Rattle.scan_table.specs.declared.Row as items
+use Rattle.scan_table.specs.Rows.{decItem, itemsFrom, itemBytes, itemAs, itemIn, RowIs}
 use Rattle.lyrics.specs.declared.Sheet.{Sheet}
 use Rattle.lyrics.specs.declared.Line.{Line}
 use Rattle.lyrics.specs.Sheet.{withCount, sungFrom, headOf, headsIn, syllablesIn, Kept, Outside}

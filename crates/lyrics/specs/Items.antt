@@ -9,8 +9,8 @@ use Rattle.laws.specs.Lists.{keep, sum}
 use Rattle.laws.specs.Bytes.{part, between, rows}
 use Rattle.reader.specs.State as reader
 use Rattle.reader.specs.Lyrics.{Syllable, sungBy}
-use Rattle.table.specs.declared.Row as items
-use Rattle.table.specs.Rows.{decItem, itemsFrom, itemBytes}
+use Rattle.scan_table.specs.declared.Row as items
+use Rattle.scan_table.specs.Rows.{decItem, itemsFrom, itemBytes}
 use Rattle.lyrics.specs.declared.Sheet.{Sheet}
 use Rattle.lyrics.specs.declared.Line.{Line}
 use Rattle.lyrics.specs.Sheet.{withCount, Kept, Outside, syllablesIn}

@@ -184,7 +184,7 @@ fn get_line(scratch: &[u8], i: usize, at: usize, end: usize) -> Line
     requires { ⌜ 256 + 16 * i + 16 ≤ length (now scratch) ⌝ }
     ensures { λ r. ⌜ LineFrom (itemAt (now (scratch .entry)) i) at end r ⌝ }
 {
-    let from = table::ITEMS + table::ITEM * i;
+    let from = scan_table::ITEMS + scan_table::ITEM * i;
     let verse = store::get_u8(scratch, from + 3);
     let start = store::get_u32(scratch, from + 12);
     Line {
@@ -200,7 +200,7 @@ fn sing_item(text: &[u8], scratch: &mut [u8], i: usize, part: u8, sheet: Sheet) 
     requires { ⌜ ItemFits (now text) (now scratch) part i sheet ⌝ }
     ensures { λ r. ⌜ ItemSung (now (text .entry)) (now (scratch .entry)) (now (scratch .exit)) part i sheet r ⌝ }
 {
-    let item = table::get_item(text, scratch, i);
+    let item = scan_table::get_item(text, scratch, i);
     if item.kind != 5 {
         return sheet.count;
     }

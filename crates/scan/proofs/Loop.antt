@@ -14,18 +14,18 @@ use Rattle.reader.specs.Lines.{kindOf, refused}
 use Rattle.reader.specs.Steps.{Row, Step, refuse, on, first, run}
 use Rattle.reader.specs.Scan.{Item, Items, ScanState, Out, begin, act, step, scan}
 use Rattle.reader.specs.Answer.{scratchNeeded}
-use Rattle.text.specs.Lines.{LineEnd, CleanEnd, kindAs, classOf}
-use Rattle.text.specs.declared.Class.{Class}
-use Rattle.text.specs.declared.Class.the-variants as C
-use Rattle.text.proofs.Rows.{rows-over}
-use Rattle.text.proofs.Classes.{row-long, row-kind}
-use Rattle.table.specs.Rows.{voicesIn, itemsIn}
-use Rattle.table.proofs.Rows.{voices-none, items-none}
-use Rattle.states.specs.declared.State.{State}
-use Rattle.states.specs.declared.Step as code
-use Rattle.states.specs.declared.Step.the-variants.{On, Refused}
-use Rattle.states.specs.States.{heldIn, held, reached, Follows, Stepped}
-use Rattle.states.proofs.Items.{by-kind, refused-kind}
+use Rattle.text_lines.specs.Lines.{LineEnd, CleanEnd, kindAs, classOf}
+use Rattle.text_lines.specs.declared.Class.{Class}
+use Rattle.text_lines.specs.declared.Class.the-variants as C
+use Rattle.text_lines.proofs.Rows.{rows-over}
+use Rattle.text_lines.proofs.Classes.{row-long, row-kind}
+use Rattle.scan_table.specs.Rows.{voicesIn, itemsIn}
+use Rattle.scan_table.proofs.Rows.{voices-none, items-none}
+use Rattle.scan_states.specs.declared.State.{State}
+use Rattle.scan_states.specs.declared.Step as code
+use Rattle.scan_states.specs.declared.Step.the-variants.{On, Refused}
+use Rattle.scan_states.specs.States.{heldIn, held, reached, Follows, Stepped}
+use Rattle.scan_states.proofs.Items.{by-kind, refused-kind}
 use Rattle.scan.specs.Scanned.{Open, LinesFit, Line, scannedAs, Done, ScanIs}
 use Rattle.scan.proofs.Music.{music-told}
 

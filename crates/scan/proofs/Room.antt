@@ -17,7 +17,7 @@ use Rattle.reader.specs.Lines.{Kind, blank, refused, lyric, voice, key, meter, 
 use Rattle.reader.specs.Steps.{Row, Step, refuse, on, first, run}
 use Rattle.reader.specs.Scan.{Items, ScanState, Out, begin, mostVoices, mostLines, firstRefusal, withUnnamed, voicesBefore, playOn, voiceOn, unitOn, act, step, scan}
 use Rattle.reader.specs.Answer.{scratchNeeded}
-use Rattle.table.specs.Rows.{tableEnd}
+use Rattle.scan_table.specs.Rows.{tableEnd}
 
 abbrev count : ScanState → ℕ
 count s = length (s .env .voices)

@@ -10,11 +10,11 @@ use Rattle.reader.specs.Text.{rows}
 use Rattle.reader.specs.Steps.{refuse, on}
 use Rattle.reader.specs.Scan.{Item, Items, ScanState, Out, scan}
 use Rattle.reader.specs.Answer.{isMusic}
-use Rattle.table.specs.Rows.{voicesIn, itemsIn}
-use Rattle.states.specs.declared.State.{State}
-use Rattle.states.specs.declared.Step.{Step}
-use Rattle.states.specs.declared.Step.the-variants.{On, Refused}
-use Rattle.states.specs.States.{Stepped}
+use Rattle.scan_table.specs.Rows.{voicesIn, itemsIn}
+use Rattle.scan_states.specs.declared.State.{State}
+use Rattle.scan_states.specs.declared.Step.{Step}
+use Rattle.scan_states.specs.declared.Step.the-variants.{On, Refused}
+use Rattle.scan_states.specs.States.{Stepped}
 use Rattle.scan.specs.declared.Shared.{Shared}
 use Rattle.scan.specs.declared.Scanned as code
 use Rattle.scan.specs.declared.Scanned.the-variants as C

@@ -6,14 +6,14 @@ ghost use lib.ListN.{length};
 ghost use Rattle.laws.specs.Bytes.{between};
 ghost use Rattle.reader.specs.Scan.{act, step};
 ghost use Rattle.reader.specs.Answer.{scratchNeeded};
-ghost use Rattle.text.specs.declared.Class.{Class};
-ghost use Rattle.text.specs.Lines.{kindAs, classOf};
-ghost use Rattle.states.specs.States.{held, Ready, Stepped};
+ghost use Rattle.text_lines.specs.declared.Class.{Class};
+ghost use Rattle.text_lines.specs.Lines.{kindAs, classOf};
+ghost use Rattle.scan_states.specs.States.{held, Ready, Stepped};
 ghost use Rattle.scan.specs.Scanned.{Open, Line, scannedAs, ScanIs};
-use states::State;
-use states::Step;
-use table::Row;
-use text::Class;
+use scan_states::State;
+use scan_states::Step;
+use scan_table::Row;
+use text_lines::Class;
 
 // What the second half of `parse_abc` needs: the number of voices, the header's key, the number of items in the line table, and whether there
 // is music among them.
@@ -46,15 +46,15 @@ fn act_line(
     ensures { λ r. ⌜ Stepped (now (text .entry)) (now (scratch .entry)) st (act (held (now (text .entry)) (now (scratch .entry)) st) (kindAs (between (now (text .entry)) from end) class) (st .in_header)) (now (scratch .exit)) r ⌝ }
 {
     match class {
-        Class::Blank => Step::On(states::next_line(st)),
-        Class::Lyric => Step::On(states::lyric_line(scratch, st, from, end)),
-        Class::Voice => headers::voice_line(text, scratch, st, from, end),
-        Class::Key => headers::key_line(text, scratch, st, from, end),
-        Class::Unit => headers::unit_line(text, st, from, end),
-        Class::Meter => headers::meter_line(text, scratch, st, from, end),
-        Class::Tune => states::tune_line(st),
-        Class::Other => Step::On(states::next_line(st)),
-        Class::Music => plays::music_line(text, scratch, st, from, end),
+        Class::Blank => Step::On(scan_states::next_line(st)),
+        Class::Lyric => Step::On(scan_states::lyric_line(scratch, st, from, end)),
+        Class::Voice => scan_fields::voice_line(text, scratch, st, from, end),
+        Class::Key => scan_fields::key_line(text, scratch, st, from, end),
+        Class::Unit => scan_fields::unit_line(text, st, from, end),
+        Class::Meter => scan_fields::meter_line(text, scratch, st, from, end),
+        Class::Tune => scan_states::tune_line(st),
+        Class::Other => Step::On(scan_states::next_line(st)),
+        Class::Music => scan_music::music_line(text, scratch, st, from, end),
     }
 }
 
@@ -65,13 +65,13 @@ fn step_line(text: &[u8], scratch: &mut [u8], st: State, from: usize, to: usize)
     ensures { λ r. ⌜ Line (now (text .entry)) (now (scratch .entry)) st (step (held (now (text .entry)) (now (scratch .entry)) st) (between (now (text .entry)) from to)) (now (scratch .exit)) r ⌝ }
 {
     if 10000 <= st.lines {
-        return states::refuse(st, 4);
+        return scan_states::refuse(st, 4);
     }
-    let end = text::clean_end(text, from, to);
+    let end = text_lines::clean_end(text, from, to);
     if 1048576 < end - from {
-        return states::refuse(st, 5);
+        return scan_states::refuse(st, 5);
     }
-    let class = text::line_class(&text[from..end]);
+    let class = text_lines::line_class(&text[from..end]);
     act_line(text, scratch, st, from, end, class)
 }
 
@@ -99,10 +99,10 @@ pub fn scan_lines(text: &[u8], scratch: &mut [u8]) -> Scanned
     requires { ⌜ (length (now text) ≤ 67108864) × (scratchNeeded (length (now text)) ≤ length (now scratch)) ⌝ }
     ensures { λ r. ⌜ ScanIs (now (text .entry)) (now (scratch .exit)) r ⌝ }
 {
-    let mut st = states::begin_state();
+    let mut st = scan_states::begin_state();
     let mut at: usize = 0;
     while at < text.len() {
-        let to = text::line_end(text, at);
+        let to = text_lines::line_end(text, at);
         let s = step_line(text, scratch, st, at, to);
         let Step::On(next) = s else {
             return scan_answer(s);

@@ -15,9 +15,9 @@ use Rattle.tally_counts.specs.Counted.{countsFrom, PartsWithin}
 use Rattle.tally_counts.proofs.Encoded.{Read, told-tally}
 use Rattle.io.specs.Counts as io
 use Rattle.tally_text.specs.Printed.{partsText, refusedText, verdictText, mostInput, readingBytes, scratchBytes, printed, Adds}
-use Rattle.abc.specs.declared.Answer as code
-use Rattle.abc.specs.declared.Answer.the-variants as A
-use Rattle.abc.specs.Answers.{answerAs}
+use Rattle.abc_text.specs.declared.Answer as code
+use Rattle.abc_text.specs.declared.Answer.the-variants as A
+use Rattle.abc_text.specs.Answers.{answerAs}
 
 -- a text from the start of the store
 pub whole : {d bs e : List ℕ} {r : ℕ} (p : List ℕ) → Adds d 0 bs e r → length e ≡ length d → bs ≡ p → io.Counts r e × (take r e ≡ p)

@@ -4,8 +4,7 @@ ghost use Prim.Native.Nat.{_≤_};
 ghost use lib.ListN.{length, take};
 ghost use Rattle.io.specs.Counts as io_counts;
 ghost use Rattle.tally_text.specs.Printed.{readingBytes, scratchBytes, printed};
-use abc::Answer;
-use libc::STDIN_FILENO;
+use abc_text::Answer;
 use libc::STDOUT_FILENO;
 
 // Puts into `out` what the program prints for an input; how many bytes.
@@ -17,16 +16,16 @@ pub fn tally(input: &[u8], reading: &mut [u8], scratch: &mut [u8], out: &mut [u8
     if 1792 < input.len() {
         return tally_text::append_bytes(out, 0, b"too long\n");
     }
-    match abc::parse_abc(input, reading, scratch) {
+    match abc_text::parse_abc(input, reading, scratch) {
         Answer::Read(_) => tally_text::append_reading(reading, out),
         Answer::Refused(n, l) => tally_text::append_refusal(out, n, l),
     }
 }
 
-// Standard input's tally to standard output. One byte more than the longest input is read, to tell a longer one.
-pub fn run() {
+// The tally of what is read from `fd`, to standard output. One byte more than the longest input is read, to tell a longer one.
+pub fn run(fd: i32) {
     let mut input = [0u8; 1793];
-    let n = io::read_full(STDIN_FILENO, &mut input);
+    let n = io::read_full(fd, &mut input);
     let mut reading = [0u8; 41216];
     let mut scratch = io::large_buffer();
     let mut out = [0u8; 8192];

@@ -24,7 +24,7 @@ use Rattle.reader.specs.PassLists.{isPassByte, passList, voltaAs, voltaOf}
 use Rattle.reader.specs.Inline.{unitToken, keyToken, fieldToken, isInline, inlineAt}
 use Rattle.reader.specs.Sounds.{chordTaken, chordAt, restAs, noteAs, noteAfter, noteOf}
 use Rattle.reader.specs.Tokens.{closedBy, brokenOf, bracketOf, Class, white, ampersand, quote, more, less, paren, braceOpen, braceClose, bang, plus, bars, bracket, pitched, none-of-these, resting, classOf, tokenAs, tokenOf}
-use Rattle.lexemes.proofs.Ratio.{Form, form}
+use Rattle.token_lexemes.proofs.Ratio.{Form, form}
 use Rattle.standard.specs.Notes.{Behind}
 
 -- a chord's pitches

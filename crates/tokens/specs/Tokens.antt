@@ -12,14 +12,14 @@ use Rattle.reader.specs.Tokens.{effectOf}
 use Rattle.reader.specs.Barlines.{leftOf}
 use Rattle.reader.specs.Codes.{kindCode}
 use Rattle.reader.specs.Records.{passBits}
-use Rattle.lengths.specs.declared.Length as lengths
-use Rattle.lengths.specs.declared.Length.the-variants.{WholeBar}
-use Rattle.lengths.specs.Values.{lengthAs}
-use Rattle.marks.specs.Bars.{barlineFor}
-use Rattle.pitches.specs.Pitches.{pitchFor}
-use Rattle.lexemes.specs.declared.Cut.{Cut}
-use Rattle.lexemes.specs.declared.Lexeme.{Lexeme}
-use Rattle.lexemes.specs.declared.Lexeme.the-variants as lexeme
+use Rattle.token_lengths.specs.declared.Length as lengths
+use Rattle.token_lengths.specs.declared.Length.the-variants.{WholeBar}
+use Rattle.token_lengths.specs.Values.{lengthAs}
+use Rattle.token_marks.specs.Bars.{barlineFor}
+use Rattle.token_pitches.specs.Pitches.{pitchFor}
+use Rattle.token_lexemes.specs.declared.Cut.{Cut}
+use Rattle.token_lexemes.specs.declared.Lexeme.{Lexeme}
+use Rattle.token_lexemes.specs.declared.Lexeme.the-variants as lexeme
 use Rattle.tokens.specs.declared.Token as code
 use Rattle.tokens.specs.declared.Token.the-variants as as-token
 use Rattle.tokens.specs.declared.Tokenised.{Tokenised}

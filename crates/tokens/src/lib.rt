@@ -5,14 +5,14 @@ ghost use Prim.Native.Nat.{_+_, _<_};
 ghost use lib.ListN.{length, drop, getD};
 ghost use Rattle.reader.specs.Sounds.{noteAs};
 ghost use Rattle.reader.specs.Tokens.{pitched, classOf, tokenAs, tokenOf};
-ghost use Rattle.marks.specs.Classes.{classCode, classTable};
-ghost use Rattle.lexemes.specs.Lexemes.{cutFor};
+ghost use Rattle.token_marks.specs.Classes.{classCode, classTable};
+ghost use Rattle.token_lexemes.specs.Lexemes.{cutFor};
 ghost use Rattle.tokens.specs.Tokens.{tokenisedFor, valuedFor, tokenisedIn, effectIn, effectedFor};
-use lengths::Length;
-use lexemes::Cut;
-use lexemes::Lexeme;
-use marks::Barline;
-use pitches::Pitch;
+use token_lengths::Length;
+use token_lexemes::Cut;
+use token_lexemes::Lexeme;
+use token_marks::Barline;
+use token_pitches::Pitch;
 
 // A token with its length: a written value with dots, or the whole bar.
 pub enum Token {
@@ -99,35 +99,35 @@ fn lexeme_at(line: &[u8], at: usize, class: u8) -> Cut
     ensures { λ r. ⌜ r ≡ cutFor at (tokenOf (drop at (now (line .entry)))) ⌝ }
 {
     match class {
-        marks::WHITE => Cut {
+        token_marks::WHITE => Cut {
             lexeme: Lexeme::Space,
             next: at + 1,
         },
-        marks::AMPERSAND => Cut {
+        token_marks::AMPERSAND => Cut {
             lexeme: Lexeme::Overlay,
             next: at + 1,
         },
-        marks::QUOTE => lexemes::quoted_text(line, at),
-        marks::MORE => lexemes::broken(line, at, b'>', true),
-        marks::LESS => lexemes::broken(line, at, b'<', false),
-        marks::PAREN => lexemes::tuplet_or_slur(line, at),
-        marks::BRACE_OPEN => Cut {
+        token_marks::QUOTE => token_lexemes::quoted_text(line, at),
+        token_marks::MORE => token_lexemes::broken(line, at, b'>', true),
+        token_marks::LESS => token_lexemes::broken(line, at, b'<', false),
+        token_marks::PAREN => token_lexemes::tuplet_or_slur(line, at),
+        token_marks::BRACE_OPEN => Cut {
             lexeme: Lexeme::GraceOpen,
             next: at + 1,
         },
-        marks::BRACE_CLOSE => Cut {
+        token_marks::BRACE_CLOSE => Cut {
             lexeme: Lexeme::GraceClose,
             next: at + 1,
         },
-        marks::BANG => lexemes::decoration(line, at, b'!'),
-        marks::PLUS => lexemes::decoration(line, at, b'+'),
-        marks::BARS => lexemes::bar_line(line, at),
-        marks::BRACKET => brackets::bracket(line, at),
-        marks::REST => lexemes::rest(line, at, 1),
-        marks::INVISIBLE_REST => lexemes::rest(line, at, 2),
-        marks::BAR_REST => lexemes::rest(line, at, 3),
-        marks::INVISIBLE_BAR_REST => lexemes::rest(line, at, 4),
-        marks::PITCHED => lexemes::note(line, at),
+        token_marks::BANG => token_lexemes::decoration(line, at, b'!'),
+        token_marks::PLUS => token_lexemes::decoration(line, at, b'+'),
+        token_marks::BARS => token_lexemes::bar_line(line, at),
+        token_marks::BRACKET => token_brackets::bracket(line, at),
+        token_marks::REST => token_lexemes::rest(line, at, 1),
+        token_marks::INVISIBLE_REST => token_lexemes::rest(line, at, 2),
+        token_marks::BAR_REST => token_lexemes::rest(line, at, 3),
+        token_marks::INVISIBLE_BAR_REST => token_lexemes::rest(line, at, 4),
+        token_marks::PITCHED => token_lexemes::note(line, at),
         _ => Cut {
             lexeme: Lexeme::Skipped,
             next: at + 1,
@@ -173,7 +173,7 @@ fn valued(lexeme: Lexeme, unit: u32) -> Token
         } => Token::Chord {
             place,
             count,
-            length: lengths::abc_note_value(unit, num, den),
+            length: token_lengths::abc_note_value(unit, num, den),
             tie,
             slur,
         },
@@ -181,7 +181,7 @@ fn valued(lexeme: Lexeme, unit: u32) -> Token
             if kind < 3 {
                 return Token::Rest {
                     kind,
-                    length: lengths::abc_note_value(unit, num, den),
+                    length: token_lengths::abc_note_value(unit, num, den),
                 };
             }
             Token::Rest {
@@ -197,7 +197,7 @@ fn valued(lexeme: Lexeme, unit: u32) -> Token
             slur,
         } => Token::Note {
             pitch,
-            length: lengths::abc_note_value(unit, num, den),
+            length: token_lengths::abc_note_value(unit, num, den),
             tie,
             slur,
         },
@@ -229,7 +229,7 @@ fn tokenise(cut: Cut, unit: u32) -> Tokenised
     Tokenised {
         token: Token::Note {
             pitch,
-            length: lengths::abc_note_value(unit, num, den),
+            length: token_lengths::abc_note_value(unit, num, den),
             tie,
             slur,
         },
@@ -242,9 +242,9 @@ pub fn token_at(line: &[u8], at: usize, unit: u32, classes: &[u8; 128]) -> Token
     requires { ⌜ (at < length (now line)) × (now classes ≡ classTable) ⌝ }
     ensures { λ r. ⌜ r ≡ tokenisedFor at unit (tokenOf (drop at (now (line .entry)))) ⌝ }
 {
-    let class = marks::class_of(classes, line[at]);
-    if class == marks::PITCHED {
-        return tokenise(lexemes::note(line, at), unit);
+    let class = token_marks::class_of(classes, line[at]);
+    if class == token_marks::PITCHED {
+        return tokenise(token_lexemes::note(line, at), unit);
     }
     tokenise(lexeme_at(line, at, class), unit)
 }
@@ -313,26 +313,26 @@ fn letter_effect(line: &[u8], at: usize) -> Effected
     requires { ⌜ at < length (now line) ⌝ }
     ensures { λ r. ⌜ r ≡ effectedFor at (noteAs (record { mark = none; used = 0 }) (getD (now (line .entry)) at 0) (drop (at + 1) (now (line .entry)))) ⌝ }
 {
-    if lexemes::is_plain(numbers::byte_at(line, at + 1)) {
+    if token_lexemes::is_plain(text_numbers::byte_at(line, at + 1)) {
         return Effected {
             effect: Effect::Counts,
             next: at + 1,
         };
     }
-    let letter = pitches::abc_note_char(line[at]);
-    let pitches::Octave::At {
+    let letter = token_pitches::abc_note_char(line[at]);
+    let token_pitches::Octave::At {
         octave: _,
         next: after_octave,
-    } = pitches::octave_marks(line, at + 1, letter.octave)
+    } = token_pitches::octave_marks(line, at + 1, letter.octave)
     else {
         return Effected {
             effect: Effect::Refuses(12),
             next: line.len(),
         };
     };
-    let length = lengths::parse_duration_suffix(line, after_octave);
+    let length = token_lengths::parse_duration_suffix(line, after_octave);
     let after_length = length.next;
-    let behind = runs::note_annotations(line, after_length);
+    let behind = text_runs::note_annotations(line, after_length);
     Effected {
         effect: Effect::Counts,
         next: behind.next,
@@ -344,7 +344,7 @@ fn note_effect(line: &[u8], at: usize) -> Effected
     requires { ⌜ at < length (now line) ⌝ }
     ensures { λ r. ⌜ r ≡ effectedFor at (tokenAs pitched (drop at (now (line .entry)))) ⌝ }
 {
-    let before = pitches::accidental_before(line, at);
+    let before = token_pitches::accidental_before(line, at);
     let place = before.next;
     if line.len() <= place {
         return Effected {
@@ -352,7 +352,7 @@ fn note_effect(line: &[u8], at: usize) -> Effected
             next: place,
         };
     }
-    if pitches::is_letter(line[place]) {
+    if token_pitches::is_letter(line[place]) {
         return letter_effect(line, place);
     }
     Effected {
@@ -366,11 +366,11 @@ pub fn effect_at(line: &[u8], at: usize, classes: &[u8; 128]) -> Effected
     requires { ⌜ (at < length (now line)) × (now classes ≡ classTable) ⌝ }
     ensures { λ r. ⌜ r ≡ effectedFor at (tokenOf (drop at (now (line .entry)))) ⌝ }
 {
-    let class = marks::class_of(classes, line[at]);
-    if class == marks::PITCHED {
+    let class = token_marks::class_of(classes, line[at]);
+    if class == token_marks::PITCHED {
         return note_effect(line, at);
     }
-    if class == marks::WHITE {
+    if class == token_marks::WHITE {
         return Effected {
             effect: Effect::Passes,
             next: at + 1,

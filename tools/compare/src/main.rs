@@ -252,7 +252,7 @@ fn limits() -> Vec<(&'static str, Vec<u8>)> {
     ]
 }
 
-/// The fixed sample that crates/replay replays: the probes, limits and generated texts of at most 1,792 bytes, with the Rust's answers. A row is hex digits, two
+/// The fixed sample that crates/test_replay replays: the probes, limits and generated texts of at most 1,792 bytes, with the Rust's answers. A row is hex digits, two
 /// to a byte: text length (2), reading store's length (4), refusal's number or 0 (1), its line or the reading's length (4), the text, the reading.
 fn sample() -> String {
     let mut out = String::new();

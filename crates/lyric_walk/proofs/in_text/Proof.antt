@@ -1,7 +1,7 @@
 -- `lyric_walk::in_text` meets its contract.
 use borrow.Author.Needs.{needs}
 use mathlib.Core.Path.{refl}
-use Rattle.table.proofs.Rows.{cut-empty, cut-past, cut-short}
+use Rattle.scan_table.proofs.Rows.{cut-empty, cut-past, cut-short}
 use Rattle.lyric_walk.proofs.in_text.Statement.{statement}
 use Rattle.lyric_walk.proofs.in_text.Tie as tie
 

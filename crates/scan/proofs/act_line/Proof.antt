@@ -2,7 +2,7 @@
 use mathlib.Core.Path.{refl}
 use native.Mathlib.Omega.{arith}
 use Rattle.reader.specs.Scan.{act}
-use Rattle.states.proofs.Items.{stays}
+use Rattle.scan_states.proofs.Items.{stays}
 use Rattle.scan.proofs.Loop.{letter-and-colon}
 use borrow.Author.Needs.{needs}
 use Rattle.scan.proofs.act_line.Statement.{statement}

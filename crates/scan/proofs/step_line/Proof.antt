@@ -3,7 +3,7 @@ use Prim.Native.Nat.{_-_}
 use mathlib.Core.Path.{ap, _∙_}
 use Rattle.laws.specs.Bytes.{between}
 use Rattle.laws.proofs.Parts.{part-cut}
-use Rattle.text.specs.Lines.{classOf}
+use Rattle.text_lines.specs.Lines.{classOf}
 use Rattle.scan.proofs.Loop.{too-many-lines, too-long, by-class}
 use borrow.Author.Needs.{needs}
 use Rattle.scan.proofs.step_line.Statement.{statement}

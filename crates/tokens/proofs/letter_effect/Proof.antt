@@ -5,10 +5,10 @@ use mathlib.Core.Bool.{true}
 use mathlib.Core.Option.{none}
 use lib.ListN.{getD, drop}
 use Rattle.reader.specs.Sounds.{noteAs}
-use Rattle.pitches.specs.Pitches.{noteChar}
-use Rattle.pitches.specs.declared.Mark.the-variants as mark
-use Rattle.lexemes.specs.Lexemes.{isPlain}
-use Rattle.lexemes.proofs.Sounding.{letter-out, letter-plain, letter-in}
+use Rattle.token_pitches.specs.Pitches.{noteChar}
+use Rattle.token_pitches.specs.declared.Mark.the-variants as mark
+use Rattle.token_lexemes.specs.Lexemes.{isPlain}
+use Rattle.token_lexemes.proofs.Sounding.{letter-out, letter-plain, letter-in}
 use Rattle.tokens.specs.Tokens.{effectIn, effectedIn}
 use Rattle.tokens.proofs.Dispatch.{effected}
 use borrow.Author.Needs.{needs}

@@ -6,7 +6,7 @@ use lib.ListN.{getD, drop}
 use Rattle.standard.specs.Notes as Notes
 use Rattle.reader.specs.Codes.{kindCode}
 use Rattle.reader.specs.Tokens.{tokenAs, tokenOf}
-use Rattle.lexemes.specs.Lexemes.{lexemeFor, cutFor}
+use Rattle.token_lexemes.specs.Lexemes.{lexemeFor, cutFor}
 use Rattle.tokens.proofs.Dispatch.{byCode, classed, unclassed, rest-cut}
 use borrow.Author.Needs.{needs}
 use Rattle.tokens.proofs.lexeme_at.Statement.{statement}

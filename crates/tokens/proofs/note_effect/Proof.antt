@@ -5,8 +5,8 @@ use mathlib.Core.Option.{none}
 use lib.ListN.{getD, drop}
 use Rattle.reader.specs.Sounds.{noteAs}
 use Rattle.reader.specs.Tokens.{pitched, tokenAs}
-use Rattle.pitches.specs.Pitches.{markOf}
-use Rattle.lexemes.proofs.Sounding.{note-ends, note-other, note-letter}
+use Rattle.token_pitches.specs.Pitches.{markOf}
+use Rattle.token_lexemes.proofs.Sounding.{note-ends, note-other, note-letter}
 use Rattle.tokens.specs.Tokens.{effectIn, effectedIn}
 use Rattle.tokens.proofs.Dispatch.{effected, marked}
 use borrow.Author.Needs.{needs}

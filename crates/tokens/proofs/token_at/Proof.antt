@@ -2,7 +2,7 @@
 use mathlib.Core.Path.{sym, ap, _∙_}
 use lib.ListN.{drop}
 use Rattle.reader.specs.Tokens.{tokenOf}
-use Rattle.lexemes.specs.Lexemes.{cutFor}
+use Rattle.token_lexemes.specs.Lexemes.{cutFor}
 use Rattle.tokens.specs.Tokens.{tokenisedIn}
 use Rattle.tokens.proofs.Dispatch.{byCode, classed, valued-cut}
 use borrow.Author.Needs.{needs}

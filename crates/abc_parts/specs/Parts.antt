@@ -1,0 +1,36 @@
+-- A PART IN SCRATCH, from its items: when its last item is read and its end is done, and when its lyrics are sung.
+use Prim.Native.Nat.{ℕ, _+_, _*_, _^_, _≤_, _<_}
+use mathlib.Core.Path.{_≡_}
+use mathlib.Core.List.{List, []}
+use lib.ListN.{length, replicate}
+use Rattle.standard.specs.Keys.{Key}
+use Rattle.reader.specs.Lyrics.{sungBy}
+use Rattle.reader.specs.Steps.{mine}
+use Rattle.part_layout.specs.Ends.{Laid, build}
+use Rattle.scan_table.specs.Rows.{itemsIn}
+use Rattle.lyrics.specs.declared.Sheet.{Sheet}
+use Rattle.lyrics.specs.Items.{linesIn, Fits}
+use Rattle.write_pitches.specs.Out.{PitchesIn}
+use Rattle.part_registers.specs.declared.Tables.{Tables}
+use Rattle.abc_parts.specs.declared.Rows.{Rows}
+
+-- the part, as the code lays it out
+abbrev pub laidOf : Key → List ℕ → List ℕ → ℕ → ℕ → Laid
+laidOf header text s n p = build header (mine p (itemsIn text s n))
+
+-- the sheet of its lyrics, with c rows: it stands where the accidentals in force stood
+abbrev pub sheetAt : Tables → Rows → ℕ → Sheet
+sheetAt t d c = record { heads = t .scopes; sounded = d .sounded; log = t .scopes + 4 * d .sounded; count = c }
+
+-- THE PART IS READ AND ENDED: s′ holds its measures, notes and pitches, and its lyric lines with their verses and first notes; the sheet has room
+pub record PartRead (text s : List ℕ) (n p : ℕ) (header : Key) (t : Tables) (s′ : List ℕ) (d : Rows) : Type 0 where
+  pub music : PitchesIn s′ (t .heads) (d .measures) (t .notes) (t .pitches) (d .pitches) (laidOf header text s n p .heads) (laidOf header text s n p .log)
+  pub notes-are : length (laidOf header text s n p .log) ≡ d .notes
+  pub words : laidOf header text s n p .words ≡ sungBy (linesIn text s′ p n) (replicate (d .sounded) [])
+  pub for-heads : t .heads + 28 * d .measures ≤ t .notes
+  pub for-notes : t .notes + 16 * d .notes ≤ t .pitches
+  pub for-pitches : t .pitches + 5 * d .pitches ≤ t .scopes
+  pub small : t .scopes < 2 ^ 32
+  pub sheet : Fits text s′ n p (sheetAt t d 0)
+  pub same-items : itemsIn text s′ n ≡ itemsIn text s n
+  pub same-length : length s′ ≡ length s

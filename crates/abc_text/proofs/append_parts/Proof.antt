@@ -1,0 +1,94 @@
+-- `abc_text::append_parts` meets its contract: so far the parts below `part` are written, and the items in scratch are what they were.
+use Prim.Native.Nat.{ℕ, _+_, _-_, _≤_}
+use mathlib.Core.Path.{_≡_, refl, sym, ap, _∙_}
+use mathlib.Core.List.{[]}
+use native.Mathlib.Omega.{arith}
+use borrow.Author.Needs.{needs}
+use lib.ListN.{length}
+use Rattle.store_sections.specs.Writes.{WroteIs}
+use Rattle.store_sections.specs.declared.Wrote.the-variants.{To}
+use Rattle.store_sections.proofs.Writes.{told, in-store, start}
+use Rattle.scan_table.specs.Rows.{itemsIn}
+use Rattle.abc_answers.specs.Parts.{partsOf}
+use Rattle.abc_text.proofs.Room.{room-kept, parts-none, one-part, no-part}
+use Rattle.abc_text.proofs.append_parts.Statement.{statement}
+use Rattle.abc_text.proofs.append_parts.Tie as tie
+
+abbrev Inv-loop : tie.InvT-loop
+Inv-loop text scratch₀ n count fifths minor to₀ at₀ part₀ scratch to at part =
+    (part ≤ count) × (length to ≡ length to₀) × (length scratch ≡ length scratch₀) × (itemsIn text scratch n ≡ itemsIn text scratch₀ n)
+    × WroteIs to₀ (partsOf (record { fifths = fifths; minor = minor }) (itemsIn text scratch₀ n) part) to (To at)
+
+abbrev μ-loop : tie.MeasureT-loop
+μ-loop text scratch₀ n count fifths minor to₀ at₀ part₀ scratch to at part = count - part
+
+loop-holds : tie.Need-loop-holds Inv-loop μ-loop
+loop-holds c = (search needs, refl, refl, refl, rw parts-none (start _))
+
+sub-write-part : tie.Need-sub-write-part Inv-loop μ-loop
+sub-write-part c = in-store (c .before .before .loop .inv .4) .0
+
+part-write-part-start : tie.Need-part-write-part-start Inv-loop μ-loop
+part-write-part-start c = in-store (c .before .before .loop .inv .4) .0
+
+write-part-requires : tie.Need-write-part-requires Inv-loop μ-loop
+write-part-requires c κs =
+    let l = c .before .before .before .loop in
+    let a = c .before .before .before .before .before .before .before .args in
+    room-kept (a .text .now) (a .scratch .now) (l .scratch) (a .n) (l .part) (l .inv .3) (l .inv .2) (c .before .before .before .before .before .before .before .pre .room (l .part))
+
+-- a part more has no room: all have none
+returns : tie.Need-returns Inv-loop μ-loop
+returns c =
+    let l = c .before .before .before .before .before .before .before .before .before .before .loop in
+    let a = c .before .before .before .before .before .before .before .before .before .before .before .before .before .before .args in
+    no-part (record { fifths = a .fifths; minor = a .minor }) (itemsIn (a .text .now) (a .scratch .now) (a .n)) _ (l .part) (a .count) (c .before .before .before .before .before .before .before .before .before .loop-test .taken) (l .inv .4) (l .inv .3)
+    (told (c .before .before .before .before .before .before .write-part .ensures .0) (c .enum-told .given .1))
+
+add-at : tie.Need-add-at Inv-loop μ-loop
+add-at c =
+    let l = c .before .before .before .before .before .before .before .before .before .before .before .loop in
+    let a = c .before .before .before .before .before .before .before .before .before .before .before .before .before .before .before .args in
+    omega (
+      arith,
+      one-part (record { fifths = a .fifths; minor = a .minor }) (itemsIn (a .text .now) (a .scratch .now) (a .n)) _ (l .part) (l .inv .4) (l .inv .3)
+          (told (c .before .before .before .before .before .before .before .write-part .ensures .0) (c .before .m .given .1)) .says .1,
+      c .before .before .before .before .before .before .before .before .before .before .before .before .before .before .before .good,
+    )
+
+loop-again : tie.Need-loop-again Inv-loop μ-loop
+loop-again c =
+    let l = c .before .before .before .before .before .before .before .before .before .before .before .loop in
+    let a = c .before .before .before .before .before .before .before .before .before .before .before .before .before .before .before .args in
+    let w = one-part (record { fifths = a .fifths; minor = a .minor }) (itemsIn (a .text .now) (a .scratch .now) (a .n)) _ (l .part) (l .inv .4) (l .inv .3)
+    (told (c .before .before .before .before .before .before .before .write-part .ensures .0) (c .before .m .given .1)) in
+    (search needs, in-store w .1, search needs, c .before .before .before .before .before .before .before .write-part .ensures .1 .0 ∙ l .inv .3, w)
+
+returns-2 : tie.Need-returns-2 Inv-loop μ-loop
+returns-2 c =
+    let e : c .before .loop .part ≡ c .before .before .before .before .before .args .count = omega (arith, c .before .loop .inv .0, c .loop-test .left) in
+    rw e at (c .before .loop .inv .4)
+
+pub append-parts-spec : {M : Type 1} → statement M
+append-parts-spec =
+    tie.close
+    (tie.spec
+    Inv-loop
+    μ-loop
+    loop-holds
+    sub-write-part
+    part-write-part-start
+    (λ c. search needs)
+    write-part-requires
+    (λ c. search needs)
+    (λ c. search needs)
+    (λ c. search needs)
+    (λ c. search needs)
+    returns
+    add-at
+    (λ c. search needs)
+    (λ c. search needs)
+    loop-again
+    (λ c. search needs)
+    (λ c. search needs)
+    returns-2)

@@ -1,0 +1,42 @@
+-- What `parse_abc` answers, and how it leaves both stores, as the definition has it.
+use Prim.Native.Nat.{ℕ}
+use mathlib.Core.Path.{_≡_}
+use mathlib.Core.Option.{Option, none, some}
+use mathlib.Core.List.{List}
+use Rattle.reader.specs.Answer.{Outcome, early, refusedWith, Answer, read, refused, answerOf}
+use Rattle.part_sizing.specs.Room.{PartRoom}
+use Rattle.store_sections.specs.declared.Wrote.{Wrote}
+use Rattle.store_sections.specs.declared.Wrote.the-variants.{To, NoRoom}
+use Rattle.abc_text.specs.declared.Answer as code
+use Rattle.abc_text.specs.declared.Answer.the-variants as A
+use Rattle.abc_text.specs.declared.Early.{Early}
+use Rattle.abc_text.specs.declared.Early.the-variants as E
+
+-- THE ANSWER'S CASES: the reading's length in bytes; document 01's number of a refusal, and its line
+abbrev pub answerAs : code.Answer → Answer
+answerAs (A.Read n) = read n
+answerAs (A.Refused n l) = refused n l
+
+-- A CALL THAT CAME TO w: its answer, and both stores after it
+pub record Parsed (w : Outcome) (r : code.Answer) (reading scratch : List ℕ) : Type 0 where
+  pub answer : answerAs r ≡ answerOf (w .verdict)
+  pub reading-is : reading ≡ w .reading
+  pub scratch-is : scratch ≡ w .scratch
+
+-- where the parts were to be written: their length, or refusal 16
+abbrev pub wroteAs : Wrote → code.Answer
+wroteAs (To n) = A.Read n
+wroteAs NoRoom = A.Refused 16 0
+
+-- WHAT IS TESTED BEFORE THE FIRST LINE
+abbrev pub earlyAs : Early → ℕ → ℕ → Option Outcome
+earlyAs E.Passes rl sl = none
+earlyAs (E.Refused n) rl sl = some (refusedWith n 0 rl sl)
+
+-- of a text and a scratch store of sl bytes, whatever the reading store's length is
+pub record EarlyIs (text : List ℕ) (sl : ℕ) (r : Early) : Type 0 where
+  pub is : (rl : ℕ) → early text rl sl ≡ earlyAs r rl sl
+
+-- ROOM for the tables of each part of the n items behind the line table
+pub record Rooms (text s : List ℕ) (n : ℕ) : Type 0 where
+  pub room : (q : ℕ) → PartRoom text s n q

@@ -1,0 +1,187 @@
+-- THE LOOP over the tokens of a line: what is still to come of the line does the rest to every part that was held where it began.
+use Prim.Native.Nat.{ℕ, _+_, _≤_, _<_, max}
+use mathlib.Core.Path.{_≡_, refl, sym, subst, _∙_}
+use mathlib.Core.List.{List, []}
+use native.Mathlib.Omega.{arith}
+use lib.ListN.{length, drop}
+use Rattle.laws.specs.Lists.{foldl}
+use Rattle.standard.specs.Fields.{Meter}
+use Rattle.reader.specs.Token as token
+use Rattle.reader.specs.Tokens.{tokenOf, tokens}
+use Rattle.reader.proofs.TokenLaws.{fold-at, fold-end}
+use Rattle.reader.proofs.TokenBounds.{token-within}
+use Rattle.part_layout.specs.Log.{LogState, onToken, lineBegins, onLine}
+use Rattle.part_layout.proofs.Lines.{InLine, in-line-begins, in-line-token, standing}
+use Rattle.bounds.proofs.TokenRanges.{token-fits}
+use Rattle.costs.specs.Sizes.{bars, letters, rests, tones, signs}
+use Rattle.costs.specs.Pays.{makes, Spends}
+use Rattle.costs.proofs.Tokens.{token-spends}
+use Rattle.part_rows.specs.Table.{Only}
+use Rattle.part_rows.proofs.Tables.{only-none, only-then}
+use Rattle.part_registers.specs.declared.Tables.{Tables}
+use Rattle.part_registers.specs.declared.Counts.{Counts}
+use Rattle.part_registers.specs.declared.Registers.{Registers}
+use Rattle.part_held.specs.Held.{Room, Held, Holding, Does}
+use Rattle.part_held.specs.Lines.{Waits, Rest, Takes}
+use Rattle.tokens.specs.declared.Tokenised.{Tokenised}
+use Rattle.tokens.specs.Tokens.{tokenisedFor}
+use Rattle.tokens.proofs.Chords.{chord-pitches}
+use Rattle.tokens.proofs.Past.{token-past}
+use Rattle.part_body.specs.Body.{Ready, Acts}
+use Rattle.part_body.proofs.Tokens.{token-ready, token-does}
+
+-- a part is held in a line, with room for what these bytes can make
+pub record Begun (line : List ℕ) (t : Tables) (s : List ℕ) (r : Registers) : Type 0 where
+  pub room : Rest t (r .counts) (length s) line
+  pub state : LogState
+  pub in-line : InLine state
+  pub held : Held t s r [] state
+
+-- the tokens from a position on lead to this part
+pub record Leads (line : List ℕ) (t : Tables) (s : List ℕ) (r : Registers) (at : ℕ) (end : LogState) : Type 0 where
+  pub state : LogState
+  pub in-line : InLine state
+  pub held : Held t s r [] state
+  pub rest : foldl onToken state (tokens 0 (drop at line)) ≡ end
+
+-- THE INVARIANT, from scratch and registers where the tokens begin to those at a position
+pub record Going (line : List ℕ) (t : Tables) (s₀ : List ℕ) (r₀ : Registers) (s : List ℕ) (r : Registers) (at : ℕ) : Type 0 where
+  pub within : at ≤ length line
+  pub only : Only (t .heads) (t .end) s₀ s
+  pub heads-left : max 1 (r .counts .heads) + bars (drop at line) ≤ max 1 (r₀ .counts .heads) + bars line
+  pub notes-left : r .counts .notes + tones (drop at line) ≤ r₀ .counts .notes + tones line
+  pub pitches-left : r .counts .pitches + letters (drop at line) ≤ r₀ .counts .pitches + letters line
+  pub scopes-left : r .counts .scopes + signs (drop at line) ≤ r₀ .counts .scopes + signs line
+  pub holds : (l : LogState) → InLine l → Held t s₀ r₀ [] l → Leads line t s r at (foldl onToken l (tokens 0 line))
+
+-- BEFORE THE TOKENS
+-- less room
+pub rest-none : {t : Tables} {c : Counts} {n : ℕ} {line : List ℕ} → Rest t c n line → Rest t c n []
+unfolding bars letters rests signs
+rest-none h =
+    record {
+      for-heads = omega (arith, h .for-heads);
+      for-notes = omega (arith, h .for-notes);
+      for-pitches = omega (arith, h .for-pitches);
+      for-scopes = omega (arith, h .for-scopes);
+      ends = h .ends;
+      small = h .small;
+    }
+
+module _ {t : Tables} {s s₁ : List ℕ} {r r₁ : Registers} (u : ℕ) (m : Meter) (b : Takes t s r s₁ r₁ [] (lineBegins u m)) where
+  pub begun : {line : List ℕ} → Rest t (r .counts) (length s) line → Waits t s r → Begun line t s₁ r₁
+  unfolding bars letters rests signs
+  begun h w =
+      let g = b .grows in
+      record {
+        room =
+            record {
+              for-heads = omega (arith, h .for-heads, g .more-heads);
+              for-notes = omega (arith, h .for-notes, g .more-notes);
+              for-pitches = omega (arith, h .for-pitches, g .more-pitches);
+              for-scopes = omega (arith, h .for-scopes, g .more-scopes);
+              ends = omega (arith, h .ends, b .only .same-length);
+              small = h .small;
+            };
+        state = lineBegins u m (w .state);
+        in-line = in-line-begins u m (w .state) (w .between);
+        held = b .holds (w .state) (w .between) (w .held);
+      }
+
+  -- AFTER THEM the line has done what it does
+  pub line-takes : {line s₂ : List ℕ} {r₂ : Registers} {at : ℕ} → Going line t s₁ r₁ s₂ r₂ at → length line ≤ at → Takes t s r s₂ r₂ line (onLine u m line)
+  unfolding onLine bars letters rests signs
+  line-takes {line} {s₂} {r₂} {at} g h =
+      let a = b .grows in
+      record {
+        only = only-then (b .only) (g .only);
+        grows =
+            record {
+              more-heads = omega (arith, a .more-heads, g .heads-left);
+              more-notes = omega (arith, a .more-notes, g .notes-left);
+              more-pitches = omega (arith, a .more-pitches, g .pitches-left);
+              more-scopes = omega (arith, a .more-scopes, g .scopes-left);
+            };
+        holds =
+            λ l w k.
+            let e = g .holds (lineBegins u m l) (in-line-begins u m l w) (b .holds l w k) in
+            subst (λ (x : LogState). Held t s₂ r₂ [] x) (sym (fold-end onToken (e .state) line at h) ∙ e .rest) (e .held);
+      }
+
+-- where they begin
+pub going-start : (line : List ℕ) (t : Tables) (s : List ℕ) (r : Registers) → Going line t s r s r 0
+going-start line t s r =
+    record {
+      within = omega arith;
+      only = only-none (t .heads) (t .end) s;
+      heads-left = omega arith;
+      notes-left = omega arith;
+      pitches-left = omega arith;
+      scopes-left = omega arith;
+      holds = λ l i h. record { state = l; in-line = i; held = h; rest = refl };
+    }
+
+-- ONE TOKEN
+module _ {line : List ℕ} {t : Tables} {s₀ s : List ℕ} {r₀ r : Registers} {at : ℕ} (b : Begun line t s₀ r₀) (g : Going line t s₀ r₀ s r at) (h : at < length line) (e : Tokenised)
+    (k : e ≡ tokenisedFor at (r .line .unit) (tokenOf (drop at line))) where
+  abbrev tok : token.Token
+  tok = tokenOf (drop at line) .token
+
+  abbrev used : ℕ
+  used = tokenOf (drop at line) .used
+
+  pays : Spends tok (drop at line) (drop (at + used) line)
+  pays = token-spends line at h
+
+  room : Room t (r .counts) (length s) (makes tok .heads) (makes tok .notes) (makes tok .pitches) (makes tok .scopes)
+  room =
+      let a = b .room in
+      record {
+        for-heads = omega (arith, a .for-heads, g .heads-left, pays .bars-left);
+        for-notes = omega (arith, a .for-notes, g .notes-left, pays .tones-left);
+        for-pitches = omega (arith, a .for-pitches, g .pitches-left, pays .letters-left);
+        for-scopes = omega (arith, a .for-scopes, g .scopes-left, pays .signs-left);
+        ends = omega (arith, a .ends, g .only .same-length);
+        small = a .small;
+      }
+
+  -- some part is held
+  holding : Holding t s r
+  holding =
+      let e = g .holds (b .state) (b .in-line) (b .held) in
+      record { state = e .state; standing = standing (e .state) (e .in-line); held = e .held }
+
+  pub going-ready : Ready line t s r (e .token)
+  going-ready =
+      subst (λ (x : Tokenised). Ready line t s r (x .token)) (sym k)
+      (token-ready line at tok (chord-pitches line at) (token-fits (drop at line)) room holding)
+
+  pub going-past : at < e .next
+  going-past = rw k (token-past line at h)
+
+  pub going-turn : (s′ : List ℕ) (r′ : Registers) → Acts line t s r s′ r′ (e .token) → Going line t s₀ r₀ s′ r′ (e .next)
+  going-turn s′ r′ a = subst (λ (x : Tokenised). Going line t s₀ r₀ s′ r′ (x .next)) (sym k) turned
+    where
+      does : Does t s r s′ r′ (makes tok .heads) (makes tok .notes) (makes tok .pitches) (makes tok .scopes) (λ l. onToken l tok)
+      does = token-does line at tok (chord-pitches line at) (subst (λ (x : Tokenised). Acts line t s r s′ r′ (x .token)) k a)
+
+      turned : Going line t s₀ r₀ s′ r′ (at + used)
+      turned =
+          let d = does .grows in
+          record {
+            within = token-within line at h;
+            only = only-then (g .only) (does .only);
+            heads-left = omega (arith, g .heads-left, d .more-heads, pays .bars-left);
+            notes-left = omega (arith, g .notes-left, d .more-notes, pays .tones-left);
+            pitches-left = omega (arith, g .pitches-left, d .more-pitches, pays .letters-left);
+            scopes-left = omega (arith, g .scopes-left, d .more-scopes, pays .signs-left);
+            holds =
+                λ l i q.
+                let p = g .holds l i q in
+                record {
+                  state = onToken (p .state) tok;
+                  in-line = in-line-token (p .state) tok (p .in-line);
+                  held = does .holds (p .state) (standing (p .state) (p .in-line)) (p .held);
+                  rest = sym (fold-at onToken (p .state) line at h) ∙ p .rest;
+                };
+          }

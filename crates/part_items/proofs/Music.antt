@@ -1,0 +1,72 @@
+-- THE ROOM FOR MUSIC that is to come, item by item.
+use Prim.Native.Nat.{ℕ, _+_}
+use mathlib.Core.Path.{_≡_, refl, ap, _∙_}
+use mathlib.Core.List.{List, [], _∷_, _++_, map}
+use native.Mathlib.Omega.{arith}
+use lib.Dec.{eqb}
+use Rattle.laws.specs.Lists.{cat}
+use Rattle.laws.proofs.Bools.{by-test}
+use Rattle.laws.proofs.Lists.{map-append, cat-append}
+use Rattle.reader.specs.Scan.{Item}
+use Rattle.reader.specs.Steps.{mine}
+use Rattle.costs.specs.Music.{musicIn, musicOf}
+use Rattle.costs.proofs.Tokens.{bars-both, letters-both, rests-both, signs-both}
+use Rattle.part_registers.specs.declared.Tables.{Tables}
+use Rattle.part_registers.specs.declared.Counts.{Counts}
+use Rattle.part_held.specs.Held.{Room}
+use Rattle.part_held.specs.Lines.{Rest, GrowsBy}
+
+-- the music of two lists of items
+pub music-append : (xs ys : List Item) → musicOf (xs ++ ys) ≡ musicOf xs ++ musicOf ys
+music-append xs ys = ap cat (map-append musicIn xs ys) ∙ cat-append (map musicIn xs) (map musicIn ys)
+
+-- the part's own of two lists
+pub mine-append : (p : ℕ) (xs ys : List (ℕ × Item)) → mine p (xs ++ ys) ≡ mine p xs ++ mine p ys
+mine-append p [] ys = refl
+mine-append p (x ∷ xs) ys = by-test (eqb (x .0) p) (λ e. rw e (ap (λ (l : List Item). x .1 ∷ l) (mine-append p xs ys))) (λ e. rw e (mine-append p xs ys))
+
+-- ROOM
+module _ {t : Tables} {c : Counts} {size : ℕ} (a b : List ℕ) (r : Rest t c size (a ++ b)) where
+  -- for the first of two runs
+  pub rest-first : Rest t c size a
+  rest-first =
+      record {
+        for-heads = omega (arith, r .for-heads, bars-both a b);
+        for-notes = omega (arith, r .for-notes, letters-both a b, rests-both a b);
+        for-pitches = omega (arith, r .for-pitches, letters-both a b);
+        for-scopes = omega (arith, r .for-scopes, signs-both a b);
+        ends = r .ends;
+        small = r .small;
+      }
+
+  -- for the second, once the first was read
+  pub rest-then : (c′ : Counts) (size′ : ℕ) → size′ ≡ size → GrowsBy c c′ a → Rest t c′ size′ b
+  rest-then c′ size′ e g =
+      record {
+        for-heads = omega (arith, r .for-heads, bars-both a b, g .more-heads);
+        for-notes = omega (arith, r .for-notes, letters-both a b, rests-both a b, g .more-notes);
+        for-pitches = omega (arith, r .for-pitches, letters-both a b, g .more-pitches);
+        for-scopes = omega (arith, r .for-scopes, signs-both a b, g .more-scopes);
+        ends = omega (arith, r .ends, e);
+        small = r .small;
+      }
+
+-- a run by another name
+pub rest-as : {t : Tables} {c : Counts} {size : ℕ} {a b : List ℕ} → a ≡ b → Rest t c size a → Rest t c size b
+rest-as e r = rw e at r
+
+-- in each table, for no row more
+pub rest-room : {t : Tables} {c : Counts} {size : ℕ} {a : List ℕ} → Rest t c size a → Room t c size 0 0 0 0
+rest-room r =
+    record {
+      for-heads = omega (arith, r .for-heads);
+      for-notes = omega (arith, r .for-notes);
+      for-pitches = omega (arith, r .for-pitches);
+      for-scopes = omega (arith, r .for-scopes);
+      ends = r .ends;
+      small = r .small;
+    }
+
+-- nothing grows
+pub grows-none : (c : Counts) (a : List ℕ) → GrowsBy c c a
+grows-none c a = record { more-heads = omega arith; more-notes = omega arith; more-pitches = omega arith; more-scopes = omega arith }

@@ -1,0 +1,384 @@
+-- ITEM BY ITEM: an item of each kind taken, and the loop over them.
+use Prim.Native.Nat.{ℕ, zero, suc, _+_, _*_, _^_, _≤_, _<_}
+use mathlib.Core.Path.{_≡_, refl, sym, ap, subst, _∙_}
+use mathlib.Core.Bool.{Bool, true, false, cond}
+use mathlib.Core.List.{List, [], _∷_, _++_, map, reverse, append-nil}
+use native.Mathlib.Nat.{not-suc-le-zero}
+use native.Mathlib.Omega.{arith}
+use lib.Dec.{eqb}
+use lib.ListN.{length, take, drop}
+use borrow.Author.Tests.{eq-eqb, ne-eqb, eqb-true, eqb-false}
+use Rattle.laws.specs.Lists.{foldl, keep}
+use Rattle.laws.specs.Bytes.{part, between, splice, le32, rows}
+use Rattle.laws.proofs.Bools.{by-test, and-no-left, and-no-right, and-both, cond-true, cond-false}
+use Rattle.laws.proofs.Lists.{foldl-append, map-append, keep-yes, keep-no, drop-next}
+use Rattle.laws.proofs.Parts.{part-front, part-back}
+use Rattle.laws.proofs.Rows.{rows-none, rows-more, rows-front}
+use Rattle.laws.proofs.Splices.{length-splice}
+use Rattle.laws.proofs.Numbers.{length-little}
+use Rattle.standard.specs.Keys.{Key}
+use Rattle.standard.specs.Lyrics.{nextVerse}
+use Rattle.reader.specs.State.{Sung}
+use Rattle.reader.specs.Scan.{Item, born, reset, headed, keyed, metered, sung, played}
+use Rattle.reader.specs.Steps.{mine}
+use Rattle.part_layout.specs.Log.{LogState, newLog, onLine}
+use Rattle.part_layout.specs.Ends.{onLyric, onItem}
+use Rattle.part_layout.proofs.Lines.{between-items}
+use Rattle.part_layout.proofs.Back.{reverse-back}
+use Rattle.scan_table.specs.declared.Row.{Row}
+use Rattle.scan_table.specs.Rows.{itemsFrom, itemBytes, decItem, itemAs, itemIn, itemsIn, RowIs}
+use Rattle.scan_table.proofs.Rows.{items-none, items-get, length-items}
+use Rattle.lyrics.specs.Items.{isLine, lineIn, itemAt, lineOf, linesIn}
+use Rattle.lyrics.proofs.Applying.{item-words, lines-more}
+use Rattle.part_rows.specs.Table.{Only}
+use Rattle.part_rows.proofs.Tables.{only-none, only-then, only-wider}
+use Rattle.part_registers.specs.declared.Tables.{Tables}
+use Rattle.part_registers.specs.declared.Registers.{Registers}
+use Rattle.part_held.specs.Held.{Held}
+use Rattle.part_held.proofs.Appending.{room-same}
+use Rattle.part_held.specs.Lines.{Rest, Waits, GrowsBy, Takes}
+use Rattle.costs.specs.Music.{musicIn, musicOf}
+use Rattle.part_items.specs.Items.{begun, versed, rowFrom, lined, ownAt, Ready, Taken, after, Built}
+use Rattle.part_items.proofs.Music.{music-append, mine-append, rest-first, rest-then, rest-as, rest-room, grows-none}
+use Rattle.part_items.proofs.Each.{begun-held, addedBy, item-lines}
+use Rattle.part_items.proofs.Rows.{withLine, row-lined, only-lined, held-behind}
+
+-- ONE ITEM
+-- whose it is
+own-yes : (p : ℕ) (x : ℕ × Item) → x .0 ≡ p → mine p (x ∷ []) ≡ x .1 ∷ []
+own-yes p x e = cond-true (eqb (x .0) p) (x .1 ∷ []) [] (eq-eqb (x .0) p e)
+
+own-no : (p : ℕ) (x : ℕ × Item) → (x .0 ≡ p → ⊥) → mine p (x ∷ []) ≡ []
+own-no p x n = cond-false (eqb (x .0) p) (x .1 ∷ []) [] (ne-eqb (x .0) p n)
+
+music-one : (x : Item) → musicOf (x ∷ []) ≡ musicIn x
+music-one x = append-nil (musicIn x)
+
+reverse-one : (x : Sung) (xs : List Sung) → reverse (x ∷ xs) ≡ reverse xs ++ (x ∷ [])
+reverse-one x xs = reverse-back (x ∷ xs) ∙ ap (λ (l : List Sung). l ++ (x ∷ [])) (sym (reverse-back xs))
+
+-- its lyric line
+no-line : (text : List ℕ) (p : ℕ) (q : Row) → isLine p q ≡ false → lineOf text p q ≡ []
+unfolding lineOf
+no-line text p q e = ap (map (lineIn text)) (keep-no (isLine p) q [] e)
+
+one-line : (text : List ℕ) (p : ℕ) (q : Row) → isLine p q ≡ true → lineOf text p q ≡ lineIn text q ∷ []
+unfolding lineOf
+one-line text p q e = ap (map (lineIn text)) (keep-yes (isLine p) q [] e)
+
+-- A KIND past the lyric lines' is a music line
+played-kind : (k : ℕ) (text : List ℕ) (q : Row) → (k ≡ 0 → ⊥) → (k ≡ 1 → ⊥) → (k ≡ 2 → ⊥) → (k ≡ 3 → ⊥) → (k ≡ 4 → ⊥) → (k ≡ 5 → ⊥) → itemAs k text q ≡ played (q .unit) (q .a, q .b) (between text (q .at) (q .end))
+unfolding itemAs
+played-kind zero text q a b c d e f = absurd (a refl)
+played-kind (suc zero) text q a b c d e f = absurd (b refl)
+played-kind (suc (suc zero)) text q a b c d e f = absurd (c refl)
+played-kind (suc (suc (suc zero))) text q a b c d e f = absurd (d refl)
+played-kind (suc (suc (suc (suc zero)))) text q a b c d e f = absurd (e refl)
+played-kind (suc (suc (suc (suc (suc zero))))) text q a b c d e f = absurd (f refl)
+played-kind (suc (suc (suc (suc (suc (suc k)))))) text q a b c d e f = refl
+
+-- a lyric line with its verse and first note is the same item
+same-sung : (k : ℕ) (text : List ℕ) (q : Row) (verse start : ℕ) → k ≡ 5 → itemAs k text (withLine q verse start) ≡ itemAs k text q
+unfolding itemAs
+same-sung k text q verse start e = ap (λ (j : ℕ). itemAs j text (withLine q verse start)) e ∙ sym (ap (λ (j : ℕ). itemAs j text q) e)
+
+-- WHAT A LYRIC LINE NEEDS of a part that is held: the next verse
+versed-held : {t : Tables} {s : List ℕ} {r : Registers} (header : Key) (placed : Bool) (words : List ℕ) (l : LogState) → Held t s r [] l → Held t s (versed r placed) [] (onItem header l (sung placed words))
+unfolding onItem onLyric
+versed-held header placed words l h =
+    record {
+      stored = h .stored;
+      scoped = h .scoped;
+      key-is = h .key-is;
+      last-is = h .last-is;
+      pending-is = h .pending-is;
+      line-is = h .line-is;
+      half-is = h .half-is;
+      running-is = h .running-is;
+      sounded-is = h .sounded-is;
+      sounded-most = h .sounded-most;
+      start-is = h .start-is;
+      verse-is = ap (λ (v : ℕ). cond placed (nextVerse v) v) (h .verse-is);
+    }
+
+-- the part by another name
+pub taken-as : {text : List ℕ} {t : Tables} {header : Key} {p q i : ℕ} {s : List ℕ} {r : Registers} {s′ : List ℕ} {r′ : Registers} → q ≡ p → Taken text t header q i s r s′ r′ → Taken text t header p i s r s′ r′
+taken-as {text} {t} {header} {p} {q} {i} {s} {r} {s′} {r′} e k = subst (λ (m : ℕ). Taken text t header m i s r s′ r′) e k
+
+-- of another part
+module _ (text : List ℕ) (t : Tables) (header : Key) (p i : ℕ) (s : List ℕ) (r : Registers) (row : Row) (is : RowIs text (itemAt s i) row) where
+  other-owner : (row .part ≡ p → ⊥) → (itemIn text (itemAt s i) .0 ≡ p → ⊥)
+  unfolding itemIn
+  other-owner n e = n (ap (λ (x : ℕ × Item). x .0) (is .item) ∙ e)
+
+  pub taken-other : (row .part ≡ p → ⊥) → Taken text t header p i s r s r
+  unfolding isLine itemIn
+  taken-other n =
+      let o : ownAt text p s i ≡ [] = own-no p (itemIn text (itemAt s i)) (other-owner n) in
+      record {
+        middle = s;
+        own-row = only-none (rowFrom i) (rowFrom i + itemBytes) s;
+        tables = only-none (t .heads) (t .end) s;
+        same-item = refl;
+        grows = grows-none (r .counts) (musicOf (ownAt text p s i));
+        holds = λ l b h. rw o h;
+        lines =
+            λ l h. ap (λ (xs : List Item). reverse (foldl (onItem header) l xs .verses .lines)) o ∙ sym (append-nil (reverse (l .verses .lines)))
+            ∙ ap (λ (ls : List Sung). reverse (l .verses .lines) ++ ls) (sym (no-line text p (itemAt s i) (and-no-right (eqb (itemAt s i .kind) 5) _ (ne-eqb (itemAt s i .part) p (other-owner n)))));
+      }
+
+-- of the part
+module _ (text : List ℕ) (t : Tables) (header : Key) (i : ℕ) (s : List ℕ) (r : Registers) (row : Row) (is : RowIs text (itemAt s i) row) where
+  item-is : (x : Item) → itemAs (row .kind) text row ≡ x → itemIn text (itemAt s i) ≡ (row .part, x)
+  unfolding itemIn
+  item-is x e = sym (is .item) ∙ ap (λ (y : Item). (row .part, y)) e
+
+  own-is : (x : Item) → itemAs (row .kind) text row ≡ x → ownAt text (row .part) s i ≡ x ∷ []
+  own-is x e =
+      let q = item-is x e in
+      own-yes (row .part) (itemIn text (itemAt s i)) (ap (λ (y : ℕ × Item). y .0) q) ∙ ap (λ (y : ℕ × Item). y .1 ∷ []) q
+
+  own-music : (x : Item) → itemAs (row .kind) text row ≡ x → musicOf (ownAt text (row .part) s i) ≡ musicIn x
+  own-music x e = ap musicOf (own-is x e) ∙ music-one x
+
+  held-lined : Ready text t (row .part) i s r → (l : LogState) → Held t s r [] l → Held t (lined s i (r .verses .verse) (r .verses .start)) r [] l
+  held-lined ready l h =
+      let m = splice s (rowFrom i + 3) (r .verses .verse ∷ []) in
+      let room = rest-room (ready .room) in
+      held-behind (room-same (length-splice s (rowFrom i + 3) (r .verses .verse ∷ [])) room) _ (rowFrom i + 12) (le32 (r .verses .start)) refl (omega (arith, ready .before, length-little 4 (r .verses .start))) l
+      (held-behind room m (rowFrom i + 3) (r .verses .verse ∷ []) refl (omega (arith, ready .before)) l h)
+
+  -- none but a lyric line
+  pub taken-plain : (x : Item) → itemAs (row .kind) text row ≡ x → (row .kind ≡ 5 → ⊥) → ((l : LogState) → addedBy l x ≡ []) → {s′ : List ℕ} {r′ : Registers} {bs : List ℕ} → musicIn x ≡ bs → Takes t s r s′ r′ bs (λ l. onItem header l x)
+      → Taken text t header (row .part) i s r s′ r′
+  unfolding isLine
+  taken-plain x e n a {s′} {r′} {bs} m k =
+      let o = own-is x e in
+      record {
+        middle = s;
+        own-row = only-none (rowFrom i) (rowFrom i + itemBytes) s;
+        tables = k .only;
+        same-item = refl;
+        grows = subst (λ (b : List ℕ). GrowsBy (r .counts) (r′ .counts) b) (sym (own-music x e ∙ m)) (k .grows);
+        holds = λ l b h. subst (λ (xs : List Item). Held t s′ r′ [] (foldl (onItem header) l xs)) (sym o) (k .holds l b h);
+        lines =
+            λ l h. ap (λ (xs : List Item). reverse (foldl (onItem header) l xs .verses .lines)) o ∙ ap reverse (item-lines header l x ∙ ap (λ (ls : List Sung). ls ++ l .verses .lines) (a l))
+            ∙ sym (append-nil (reverse (l .verses .lines)))
+            ∙ ap (λ (ls : List Sung). reverse (l .verses .lines) ++ ls) (sym (no-line text (row .part) (itemAt s i) (and-no-left _ _ (ne-eqb (itemAt s i .kind) 5 (λ f. n (is .kind ∙ f))))));
+      }
+
+  -- each kind of them
+  pub taken-born : {r′ : Registers} → row .kind ≡ 0 → Takes t s r s r′ [] (λ l. onItem header l (born (eqb (row .a) 1))) → Taken text t header (row .part) i s r s r′
+  unfolding itemAs addedBy musicIn
+  taken-born e k = taken-plain (born (eqb (row .a) 1)) (ap (λ (j : ℕ). itemAs j text row) e) (λ f. omega (arith, e, f)) (λ l. refl) refl k
+
+  pub taken-reset : {r′ : Registers} → row .kind ≡ 1 → Takes t s r s r′ [] (λ l. onItem header l reset) → Taken text t header (row .part) i s r s r′
+  unfolding itemAs addedBy musicIn
+  taken-reset e k = taken-plain reset (ap (λ (j : ℕ). itemAs j text row) e) (λ f. omega (arith, e, f)) (λ l. refl) refl k
+
+  pub taken-headed : {r′ : Registers} → row .kind ≡ 2 → Takes t s r s r′ [] (λ l. onItem header l headed) → Taken text t header (row .part) i s r s r′
+  unfolding itemAs addedBy musicIn
+  taken-headed e k = taken-plain headed (ap (λ (j : ℕ). itemAs j text row) e) (λ f. omega (arith, e, f)) (λ l. refl) refl k
+
+  pub taken-keyed : {s′ : List ℕ} {r′ : Registers} → row .kind ≡ 3 → Takes t s r s′ r′ [] (λ l. onItem header l (keyed (record { fifths = row .a; minor = eqb (row .b) 1 }))) → Taken text t header (row .part) i s r s′ r′
+  unfolding itemAs addedBy musicIn
+  taken-keyed e k = taken-plain (keyed (record { fifths = row .a; minor = eqb (row .b) 1 })) (ap (λ (j : ℕ). itemAs j text row) e) (λ f. omega (arith, e, f)) (λ l. refl) refl k
+
+  pub taken-metered : {s′ : List ℕ} {r′ : Registers} → row .kind ≡ 4 → Takes t s r s′ r′ [] (λ l. onItem header l (metered (row .a, row .b))) → Taken text t header (row .part) i s r s′ r′
+  unfolding itemAs addedBy musicIn
+  taken-metered e k = taken-plain (metered (row .a, row .b)) (ap (λ (j : ℕ). itemAs j text row) e) (λ f. omega (arith, e, f)) (λ l. refl) refl k
+
+  -- a lyric line
+  pub taken-sung : row .kind ≡ 5 → Ready text t (row .part) i s r → (s′ : List ℕ) (r′ : Registers) → r′ ≡ versed r (eqb (row .a) 1) → r .verses .start < 2 ^ 32 → s′ ≡ lined s i (r .verses .verse) (r .verses .start)
+      → Taken text t header (row .part) i s r s′ r′
+  unfolding itemIn isLine lineIn addedBy itemAs musicIn
+  taken-sung e ready s′ r′ er small es =
+      let words = between text (row .at) (row .end) in
+      let x : Item = sung (eqb (row .a) 1) words in
+      let a : itemAs (row .kind) text row ≡ x = ap (λ (j : ℕ). itemAs j text row) e in
+      let o = own-is x a in
+      let q = itemAt s i in
+      let m = lined s i (r .verses .verse) (r .verses .start) in
+      let inside : rowFrom i + itemBytes ≤ length s = omega (arith, ready .before, ready .room .for-heads, ready .room .for-notes, ready .room .for-pitches, ready .room .for-scopes, ready .room .ends) in
+      let now : itemAt m i ≡ withLine q (r .verses .verse) (r .verses .start) = row-lined s i (r .verses .verse) (r .verses .start) inside small in
+      let five : q .kind ≡ 5 = sym (is .kind) ∙ e in
+      let its : q .part ≡ row .part = sym (ap (λ (y : ℕ × Item). y .0) (is .item)) in
+      let line : lineOf text (row .part) (itemAt m i) ≡ lineIn text (withLine q (r .verses .verse) (r .verses .start)) ∷ [] =
+      ap (lineOf text (row .part)) now
+      ∙ one-line text (row .part) (withLine q (r .verses .verse) (r .verses .start)) (and-both _ _ (eq-eqb (q .kind) 5 five) (eq-eqb (q .part) (row .part) its)) in
+      record {
+        middle = m;
+        own-row = only-lined s i (r .verses .verse) (r .verses .start);
+        tables = subst (λ (u : List ℕ). Only (t .heads) (t .end) m u) (sym es) (only-none (t .heads) (t .end) m);
+        same-item = ap (itemIn text) now ∙ ap (λ (y : Item). (q .part, y)) (same-sung (q .kind) text q (r .verses .verse) (r .verses .start) five);
+        grows = rw er (grows-none (r .counts) (musicOf (ownAt text (row .part) s i)));
+        holds =
+            λ l b h.
+            let w = held-lined ready l h in
+            subst (λ (xs : List Item). Held t s′ r′ [] (foldl (onItem header) l xs)) (sym o) (subst (λ (u : List ℕ). Held t u r′ [] (onItem header l x)) (sym es) (subst (λ (u : Registers). Held t m u [] (onItem header l x)) (sym er) (versed-held header (eqb (row .a) 1) words l w)));
+        lines =
+            λ l h. ap (λ (xs : List Item). reverse (foldl (onItem header) l xs .verses .lines)) o ∙ ap reverse (item-lines header l x)
+            ∙ reverse-one (record { start = l .verses .start; verse = l .verses .verse; text = words }) (l .verses .lines)
+            ∙ (λ j. reverse (l .verses .lines) ++ (record { start = sym (h .start-is) j; verse = sym (h .verse-is) j; text = item-words text q row is e j } ∷ []))
+            ∙ ap (λ (ls : List Sung). reverse (l .verses .lines) ++ ls) (sym line);
+      }
+
+  -- a music line
+  module _ (n0 : row .kind ≡ 0 → ⊥) (n1 : row .kind ≡ 1 → ⊥) (n2 : row .kind ≡ 2 → ⊥) (n3 : row .kind ≡ 3 → ⊥) (n4 : row .kind ≡ 4 → ⊥) (n5 : row .kind ≡ 5 → ⊥) where
+    is-played : itemAs (row .kind) text row ≡ played (row .unit) (row .a, row .b) (between text (row .at) (row .end))
+    is-played = played-kind (row .kind) text row n0 n1 n2 n3 n4 n5
+
+    pub played-room : Ready text t (row .part) i s r → (line : List ℕ) → line ≡ between text (row .at) (row .end) → Rest t (r .counts) (length s) line × Waits t s r
+    unfolding musicIn
+    played-room ready line e = (rest-as (own-music (played (row .unit) (row .a, row .b) (between text (row .at) (row .end))) is-played ∙ sym e) (ready .room), ready .waits)
+
+    pub taken-played : {s′ : List ℕ} {r′ : Registers} (line : List ℕ) → line ≡ between text (row .at) (row .end) → Takes t s r s′ r′ line (onLine (row .unit) (row .a, row .b) line) → Taken text t header (row .part) i s r s′ r′
+    unfolding addedBy musicIn onItem
+    taken-played {s′} {r′} line e k =
+        taken-plain (played (row .unit) (row .a, row .b) (between text (row .at) (row .end))) is-played n5 (λ l. refl) refl
+        (subst (λ (b : List ℕ). Takes t s r s′ r′ b (onLine (row .unit) (row .a, row .b) b)) e k)
+
+-- what the other kinds need
+pub plain-room : {text : List ℕ} {t : Tables} {p i : ℕ} {s : List ℕ} {r : Registers} → Ready text t p i s r → Rest t (r .counts) (length s) [] × Waits t s r
+plain-room {text} {t} {p} {i} {s} ready = (rest-first [] (musicOf (ownAt text p s i)) (ready .room), ready .waits)
+
+-- THE LOOP over the items: those before i are taken, those from i on are as they were
+pub record Going (text : List ℕ) (t : Tables) (header : Key) (p n : ℕ) (s₀ s : List ℕ) (r : Registers) (i : ℕ) : Type 0 where
+  pub low : i ≤ n
+  pub only : Only itemsFrom (t .end) s₀ s
+  pub ahead : (j : ℕ) → i ≤ j → j < n → itemAt s j ≡ itemAt s₀ j
+  pub behind : (j : ℕ) → j < i → itemIn text (itemAt s j) ≡ itemIn text (itemAt s₀ j)
+  pub lines : linesIn text s p i ≡ reverse (after header text s₀ p i .verses .lines)
+  pub held : Held t s r [] (after header text s₀ p i)
+  pub room : Rest t (r .counts) (length s) (musicOf (mine p (drop i (itemsIn text s₀ n))))
+
+-- items of rows
+items-as : (text s s₀ : List ℕ) (n : ℕ) → ((j : ℕ) → j < n → itemIn text (itemAt s j) ≡ itemIn text (itemAt s₀ j)) → itemsIn text s n ≡ itemsIn text s₀ n
+unfolding itemsIn rows
+items-as text s s₀ zero h = refl
+items-as text s s₀ (suc n) h =
+    map-append (itemIn text) (rows decItem itemBytes s itemsFrom n) (itemAt s n ∷ [])
+    ∙ (λ i. items-as text s s₀ n (λ j l. h j (omega arith)) i ++ (h n (omega arith) i ∷ []))
+    ∙ sym (map-append (itemIn text) (rows decItem itemBytes s₀ itemsFrom n) (itemAt s₀ n ∷ []))
+
+items-more : (text s : List ℕ) (i : ℕ) → itemsIn text s (i + 1) ≡ itemsIn text s i ++ (itemIn text (itemAt s i) ∷ [])
+unfolding itemsIn
+items-more text s i = ap (map (itemIn text)) (rows-more decItem itemBytes s itemsFrom i) ∙ map-append (itemIn text) (rows decItem itemBytes s itemsFrom i) (itemAt s i ∷ [])
+
+-- the part after one item more
+after-more : (header : Key) (text s : List ℕ) (p i : ℕ) → after header text s p (i + 1) ≡ foldl (onItem header) (after header text s p i) (ownAt text p s i)
+after-more header text s p i =
+    ap (λ (xs : List (ℕ × Item)). foldl (onItem header) newLog (mine p xs)) (items-more text s i)
+    ∙ ap (foldl (onItem header) newLog) (mine-append p (itemsIn text s i) (itemIn text (itemAt s i) ∷ []))
+    ∙ foldl-append (onItem header) newLog (mine p (itemsIn text s i)) (ownAt text p s i)
+
+-- what stands before a place that is not written
+pub items-front : (text s s′ : List ℕ) (n m : ℕ) → take m s′ ≡ take m s → itemsFrom + itemBytes * n ≤ m → itemsIn text s′ n ≡ itemsIn text s n
+unfolding itemsIn
+items-front text s s′ n m e h = ap (map (itemIn text)) (rows-front decItem itemBytes s s′ m itemsFrom n e h)
+
+pub lines-front : (text s s′ : List ℕ) (p i m : ℕ) → take m s′ ≡ take m s → itemsFrom + itemBytes * i ≤ m → linesIn text s′ p i ≡ linesIn text s p i
+unfolding linesIn
+lines-front text s s′ p i m e h = ap (λ (rs : List Row). map (lineIn text) (keep (isLine p) rs)) (rows-front decItem itemBytes s s′ m itemsFrom i e h)
+
+module _ (text : List ℕ) (t : Tables) (header : Key) (p n : ℕ) (s₀ : List ℕ) (before : itemsFrom + itemBytes * n ≤ t .heads) where
+  pub going-start : Rest t (begun .counts) (length s₀) (musicOf (mine p (itemsIn text s₀ n))) → (r : Registers) → r ≡ begun → Going text t header p n s₀ s₀ r 0
+  unfolding linesIn newLog
+  going-start room r e =
+      let none = items-none text s₀ in
+      record {
+        low = omega arith;
+        only = only-none itemsFrom (t .end) s₀;
+        ahead = λ j l h. refl;
+        behind = λ j l. absurd (not-suc-le-zero l);
+        lines =
+            ap (λ (rs : List Row). map (lineIn text) (keep (isLine p) rs)) (rows-none decItem itemBytes s₀ itemsFrom)
+            ∙ sym (ap (λ (xs : List (ℕ × Item)). reverse (foldl (onItem header) newLog (mine p xs) .verses .lines)) none);
+        held = rw (none, e) (begun-held t s₀ (omega (arith, room .for-scopes, room .ends)));
+        room = rw e room;
+      }
+
+  module _ (s : List ℕ) (r : Registers) (i : ℕ) (g : Going text t header p n s₀ s r i) (l : i < n) where
+    same-own : ownAt text p s i ≡ ownAt text p s₀ i
+    same-own = ap (λ (q : Row). mine p (itemIn text q ∷ [])) (g .ahead i (omega arith) l)
+
+    -- the music to come begins with this item's
+    music-next : musicOf (mine p (drop i (itemsIn text s₀ n))) ≡ musicOf (ownAt text p s i) ++ musicOf (mine p (drop (i + 1) (itemsIn text s₀ n)))
+    music-next =
+        let xs = itemsIn text s₀ n in
+        let x = itemIn text (itemAt s₀ i) in
+        ap (λ (ys : List (ℕ × Item)). musicOf (mine p ys))
+        (drop-next xs i (itemIn text (itemAt s₀ i)) (omega (arith, l, length-items text s₀ n)) ∙ ap (λ (y : ℕ × Item). y ∷ drop (i + 1) xs) (items-get text s₀ n i (itemAt s₀ i) l))
+        ∙ ap musicOf (mine-append p (x ∷ []) (drop (i + 1) xs))
+        ∙ music-append (ownAt text p s₀ i) (mine p (drop (i + 1) xs))
+        ∙ ap (λ (ys : List Item). musicOf ys ++ musicOf (mine p (drop (i + 1) xs))) (sym same-own)
+
+    pub going-ready : Ready text t p i s r
+    going-ready =
+        record {
+          room = rest-first (musicOf (ownAt text p s i)) (musicOf (mine p (drop (i + 1) (itemsIn text s₀ n)))) (rest-as music-next (g .room));
+          waits = record { state = after header text s₀ p i; between = between-items header (mine p (itemsIn text s₀ i)); held = g .held };
+          before = omega (arith, before, l);
+        }
+
+    module _ (s′ : List ℕ) (r′ : Registers) (k : Taken text t header p i s r s′ r′) where
+      -- a row before the tables
+      row-now : (j : ℕ) → j < n → itemAt s′ j ≡ itemAt (k .middle) j
+      row-now j h = ap decItem (part-front s′ (k .middle) (t .heads) (rowFrom j) itemBytes (k .tables .front) (omega (arith, before, h)))
+
+      row-before : (j : ℕ) → j < i → itemAt s′ j ≡ itemAt s j
+      row-before j h = row-now j (omega (arith, h, l)) ∙ ap decItem (part-front (k .middle) s (rowFrom i) (rowFrom j) itemBytes (k .own-row .front) (omega (arith, h)))
+
+      row-behind : (j : ℕ) → i + 1 ≤ j → j < n → itemAt s′ j ≡ itemAt s j
+      row-behind j h m = row-now j m ∙ ap decItem (part-back (k .middle) s (rowFrom i + itemBytes) (rowFrom j) itemBytes (k .own-row .back) (omega (arith, h)))
+
+      heads-end : t .heads ≤ t .end
+      heads-end = omega (arith, g .room .for-heads, g .room .for-notes, g .room .for-pitches, g .room .for-scopes)
+
+      now-only : Only itemsFrom (t .end) s s′
+      now-only =
+          only-then (only-wider (k .own-row) itemsFrom (t .end) (omega arith) (omega (arith, before, l, heads-end)))
+          (only-wider (k .tables) itemsFrom (t .end) (omega (arith, before)) (omega arith))
+
+      same-front : take (rowFrom i) s′ ≡ take (rowFrom i) s
+      same-front = only-wider (k .tables) (rowFrom i) (t .end) (omega (arith, before, l)) (omega arith) .front ∙ k .own-row .front
+
+      -- the items are the same still
+      same-behind : (j : ℕ) → j < i + 1 → itemIn text (itemAt s′ j) ≡ itemIn text (itemAt s₀ j)
+      same-behind j h =
+          by-test (eqb j i)
+          (λ e.
+          let f = eqb-true j i e in
+          ap (λ (m : ℕ). itemIn text (itemAt s′ m)) f ∙ ap (itemIn text) (row-now i l) ∙ k .same-item ∙ ap (itemIn text) (g .ahead i (omega arith) l) ∙ ap (λ (m : ℕ). itemIn text (itemAt s₀ m)) (sym f))
+          (λ e. let d = eqb-false j i e in let m : j < i = omega arith in ap (itemIn text) (row-before j m) ∙ g .behind j m)
+
+      -- the part after this item
+      after-now : foldl (onItem header) (after header text s₀ p i) (ownAt text p s i) ≡ after header text s₀ p (i + 1)
+      after-now = ap (foldl (onItem header) (after header text s₀ p i)) same-own ∙ sym (after-more header text s₀ p i)
+
+      pub going-next : Going text t header p n s₀ s′ r′ (i + 1)
+      going-next =
+          record {
+            low = omega arith;
+            only = only-then (g .only) now-only;
+            ahead = λ j h m. row-behind j h m ∙ g .ahead j (omega (arith, h)) m;
+            behind = same-behind;
+            lines =
+                lines-more text s′ p i
+                ∙ (λ j. (lines-front text s s′ p i (rowFrom i) same-front (omega arith) ∙ g .lines) j ++ lineOf text p (row-now i l j))
+                ∙ sym (k .lines (after header text s₀ p i) (g .held))
+                ∙ ap (λ (x : LogState). reverse (x .verses .lines)) after-now;
+            held = subst (λ (x : LogState). Held t s′ r′ [] x) after-now (k .holds (after header text s₀ p i) (between-items header (mine p (itemsIn text s₀ i))) (g .held));
+            room = rest-then (musicOf (ownAt text p s i)) (musicOf (mine p (drop (i + 1) (itemsIn text s₀ n)))) (rest-as music-next (g .room)) (r′ .counts) (length s′) (now-only .same-length) (k .grows);
+          }
+
+  pub going-end : (s : List ℕ) (r : Registers) (i : ℕ) → Going text t header p n s₀ s r i → n ≤ i → Built text t header p n s₀ s r
+  going-end s r i g h =
+      let e : i ≡ n = omega (arith, h, g .low) in
+      record {
+        held = subst (λ (k : ℕ). Held t s r [] (after header text s₀ p k)) e (g .held);
+        room = rest-first [] (musicOf (mine p (drop i (itemsIn text s₀ n)))) (g .room);
+        same-items = items-as text s s₀ n (λ j l. g .behind j (omega (arith, l, h)));
+        lines = subst (λ (k : ℕ). linesIn text s p k ≡ reverse (after header text s₀ p k .verses .lines)) e (g .lines);
+        only = g .only;
+      }

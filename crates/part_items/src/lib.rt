@@ -1,0 +1,267 @@
+// The items of a part in order (the line table, crate table): what each does to the part's tables and registers.
+ghost use mathlib.Core.Path.{_≡_};
+ghost use mathlib.Core.Bool.{cond};
+ghost use mathlib.Core.List.{List, []};
+ghost use Prim.Native.Nat.{ℕ, _+_, _*_, _^_, _≤_, _<_};
+ghost use lib.ListN.{length};
+ghost use Rattle.standard.specs.Keys.{Key};
+ghost use Rattle.standard.specs.Lyrics.{nextVerse};
+ghost use Rattle.reader.specs.Scan as scan;
+ghost use Rattle.reader.specs.Steps.{mine};
+ghost use Rattle.part_layout.specs.Ends.{onItem};
+ghost use Rattle.costs.specs.Music.{musicOf};
+ghost use Rattle.scan_table.specs.Rows.{itemsIn, RowIs};
+ghost use Rattle.lyrics.specs.Items.{itemAt};
+ghost use Rattle.part_held.specs.Lines.{Rest, Waits, Takes};
+ghost use Rattle.part_items.specs.Items.{begun, keyedAs, versed, lined, Ready, Taken, Built};
+use part_accidentals::AbcPartParseState;
+use part_registers::Counts;
+use part_registers::Group;
+use part_registers::Half;
+use part_registers::Last;
+use part_registers::Line;
+use part_registers::Pending;
+use part_registers::Registers;
+use part_registers::Running;
+use part_registers::Tables;
+use part_registers::Verses;
+use part_registers::Waiting;
+use scan_table::Row;
+
+// A part before its first item: C major, 4/4, unit 1/8.
+pub fn begin_part() -> Registers
+    ensures { λ r. ⌜ r ≡ begun ⌝ }
+{
+    let none = [0u32; 4];
+    let nowhere = [0u32; 4];
+    Registers {
+        counts: Counts {
+            heads: 0,
+            notes: 0,
+            pitches: 0,
+            scopes: 0,
+        },
+        key: AbcPartParseState {
+            fifths: 128,
+            minor: false,
+            scopes: none,
+        },
+        last: Last { places: nowhere },
+        pending: Pending {
+            tie: false,
+            slur: false,
+            grace: false,
+        },
+        line: Line {
+            unit: 8,
+            top: 4,
+            bottom: 4,
+            overlay: 0,
+            run: 0,
+        },
+        waiting: Waiting {
+            half: Half::Nothing,
+        },
+        group: Group {
+            running: Running::Nothing,
+        },
+        verses: Verses {
+            sounded: 0,
+            start: 0,
+            verse: 1,
+        },
+    }
+}
+
+// The registers with another key.
+fn set_key(r: Registers, fifths: u8, minor: bool) -> Registers
+    ensures { λ x. ⌜ x ≡ keyedAs r fifths minor ⌝ }
+{
+    let mut x = r;
+    x.key.fifths = fifths;
+    x.key.minor = minor;
+    x
+}
+
+// The part is named for the first time: in the header it begins with C major, else with the header's key.
+fn on_born(r: Registers, in_header: bool, fifths: u8, minor: bool) -> Registers
+    ensures { λ x. ⌜ ((t : Tables) (s : List ℕ) → Takes t s r s x [] (λ l. onItem (record { fifths = fifths; minor = minor }) l (scan.born in_header))) ⌝ }
+{
+    if in_header {
+        return set_key(r, 128, false);
+    }
+    set_key(r, fifths, minor)
+}
+
+// The part hears the header's key.
+fn on_headed(r: Registers, fifths: u8, minor: bool) -> Registers
+    ensures { λ x. ⌜ ((t : Tables) (s : List ℕ) → Takes t s r s x [] (λ l. onItem (record { fifths = fifths; minor = minor }) l scan.headed)) ⌝ }
+{
+    set_key(r, fifths, minor)
+}
+
+// A V line: nothing waits any more.
+fn on_reset(r: Registers) -> Registers
+    ensures { λ x. ⌜ ((t : Tables) (s : List ℕ) (header : Key) → Takes t s r s x [] (λ l. onItem header l scan.reset)) ⌝ }
+{
+    let none = Pending {
+        tie: false,
+        slur: false,
+        grace: false,
+    };
+    let mut x = r;
+    x.pending = none;
+    x
+}
+
+// A K line of the body: it marks the open measure. Where there is none, the header's key is heard.
+fn on_key(
+    store: &mut [u8],
+    t: Tables,
+    r: Registers,
+    fifths: u8,
+    minor: bool,
+    sharps: u8,
+    mode: bool,
+) -> Registers
+    requires { ⌜ Rest t (r .counts) (length (now store)) [] × Waits t (now store) r ⌝ }
+    ensures { λ x. ⌜ Takes t (now (store .entry)) r (now (store .exit)) x [] (λ l. onItem (record { fifths = fifths; minor = minor }) l (scan.keyed (record { fifths = sharps; minor = mode }))) ⌝ }
+{
+    let counts = r.counts;
+    if counts.heads == 0 {
+        return part_steps::hear(r, fifths, minor);
+    }
+    let i = (counts.heads - 1) as usize;
+    part_measures::set_mark(
+        store,
+        t.heads,
+        i,
+        part_ends::mode_code(mode),
+        part_rows::signed(sharps),
+    );
+    part_steps::hear(r, sharps, mode)
+}
+
+// An M line of the body, on the open measure, if there is one.
+fn on_meter(store: &mut [u8], t: Tables, r: Registers, top: u8, bottom: u8)
+    requires { ⌜ Rest t (r .counts) (length (now store)) [] × Waits t (now store) r ⌝ }
+    ensures { λ _. ⌜ ((header : Key) → Takes t (now (store .entry)) r (now (store .exit)) r [] (λ l. onItem header l (scan.metered (top, bottom)))) ⌝ }
+{
+    let counts = r.counts;
+    if counts.heads == 0 {
+        return;
+    }
+    let i = (counts.heads - 1) as usize;
+    part_measures::set_meter(store, t.heads, i, top, bottom);
+}
+
+// The verse of the next lyric line: it is counted where the part has a place for verses; 32 at most.
+fn next_verse(verse: u8, placed: bool) -> u8
+    ensures { λ r. ⌜ r ≡ cond placed (nextVerse verse) verse ⌝ }
+{
+    if placed {
+        if verse < 32 {
+            return verse + 1;
+        }
+        return 32;
+    }
+    verse
+}
+
+// A lyric line is kept for the end: its row gets its verse and its first note.
+fn on_lyric(store: &mut [u8], i: usize, r: Registers, placed: bool) -> Registers
+    requires { ⌜ 256 + 16 * i + 16 ≤ length (now store) ⌝ }
+    ensures { λ x. ⌜ (x ≡ versed r placed) × (r .verses .start < 2 ^ 32) ⌝ }
+    ensures { λ _. ⌜ now (store .exit) ≡ lined (now (store .entry)) i (r .verses .verse) (r .verses .start) ⌝ }
+{
+    let verses = r.verses;
+    let from = scan_table::ITEMS + scan_table::ITEM * i;
+    store::put_u8(store, from + 3, verses.verse);
+    store::put_u32(store, from + 12, verses.start);
+    let verse = next_verse(verses.verse, placed);
+    let mut x = r;
+    x.verses.verse = verse;
+    x
+}
+
+// An item of the part, by its kind.
+fn on_item(
+    text: &[u8],
+    store: &mut [u8],
+    i: usize,
+    row: Row,
+    t: Tables,
+    r: Registers,
+    fifths: u8,
+    minor: bool,
+) -> Registers
+    requires { ⌜ Ready (now text) t (row .part) i (now store) r × RowIs (now text) (itemAt (now store) i) row ⌝ }
+    ensures { λ x. ⌜ Taken (now (text .entry)) t (record { fifths = fifths; minor = minor }) (row .part) i (now (store .entry)) r (now (store .exit)) x ⌝ }
+{
+    let kind = row.kind;
+    if kind == 0 {
+        return on_born(r, row.a == 1, fifths, minor);
+    }
+    if kind == 1 {
+        return on_reset(r);
+    }
+    if kind == 2 {
+        return on_headed(r, fifths, minor);
+    }
+    if kind == 3 {
+        return on_key(store, t, r, fifths, minor, row.a, row.b == 1);
+    }
+    if kind == 4 {
+        on_meter(store, t, r, row.a, row.b);
+        return r;
+    }
+    if kind == 5 {
+        return on_lyric(store, i, r, row.a == 1);
+    }
+    let at = row.at;
+    let end = row.end;
+    part_body::parse_body_line(&text[at..end], store, t, r, row.unit, row.a, row.b)
+}
+
+// Item i, if it is one of the part's.
+fn take_item(
+    text: &[u8],
+    store: &mut [u8],
+    i: usize,
+    part: u8,
+    t: Tables,
+    r: Registers,
+    fifths: u8,
+    minor: bool,
+) -> Registers
+    requires { ⌜ Ready (now text) t part i (now store) r ⌝ }
+    ensures { λ x. ⌜ Taken (now (text .entry)) t (record { fifths = fifths; minor = minor }) part i (now (store .entry)) r (now (store .exit)) x ⌝ }
+{
+    let row = scan_table::get_item(text, store, i);
+    if row.part != part {
+        return r;
+    }
+    on_item(text, store, i, row, t, r, fifths, minor)
+}
+
+// The part's items among the first n, in order, into empty tables.
+pub fn build_items(
+    text: &[u8],
+    scratch: &mut [u8],
+    n: usize,
+    part: u8,
+    t: Tables,
+    fifths: u8,
+    minor: bool,
+) -> Registers
+    requires { ⌜ (256 + 16 * n ≤ t .heads) × Rest t (begun .counts) (length (now scratch)) (musicOf (mine part (itemsIn (now text) (now scratch) n))) ⌝ }
+    ensures { λ r. ⌜ Built (now (text .entry)) t (record { fifths = fifths; minor = minor }) part n (now (scratch .entry)) (now (scratch .exit)) r ⌝ }
+{
+    let mut r = begin_part();
+    let mut i: usize = 0;
+    while i < n {
+        r = take_item(text, scratch, i, part, t, r, fifths, minor);
+        i += 1;
+    }
+    r
+}

@@ -1,0 +1,173 @@
+-- WHILE A LINE IS READ as the code keeps it: a measure is open, the overlay is one of four voices, each last place is 0 or holds a note of its voice in the
+-- open measure, and where a beam runs there is one. Every token keeps it, and every line of a part begins so.
+use Prim.Native.Nat.{ℕ, zero, suc, _-_, _≤_, _<_}
+use mathlib.Core.Path.{_≡_, refl, sym, ap, subst, _∙_}
+use mathlib.Core.List.{List, [], _∷_, _++_}
+use native.Mathlib.Nat.{not-suc-le-zero}
+use native.Mathlib.Omega.{arith}
+use lib.ListN.{length, getD, length-append}
+use Rattle.laws.specs.Lists.{foldl, sum}
+use Rattle.laws.proofs.Lists.{foldl-holds}
+use Rattle.standard.specs.Keys.{Key, plainKey}
+use Rattle.standard.specs.Fields.{Meter}
+use Rattle.reader.specs.Token.{Token}
+use Rattle.reader.specs.Scan.{Item}
+use Rattle.reader.specs.State.{Note, PartState, newPart, voiceIn, voiceNow}
+use Rattle.reader.specs.Part
+use Rattle.reader.proofs.LineLaws.{Ready, ready-token, ready-begins, Kept, kept-item, kept-after}
+use Rattle.part_layout.specs.Log
+use Rattle.part_layout.specs.Log.{Head, LogState, newLog, lastPlace}
+use Rattle.part_layout.specs.Ends
+use Rattle.part_layout.specs.Sections.{notesIn}
+use Rattle.part_layout.proofs.Back.{length-back, getD-four}
+use Rattle.part_layout.proofs.Voices.{voice, lastOf, lastOf-le, lastOf-open, lastOf-voice, lastOf-none, none-lastOf}
+use Rattle.part_layout.proofs.Bars.{Bar, BarState, setBars, headOf, headsOf, logOf, lastsOf, laid, measureOf, plain, Reads, Inv, Reading, Sim, sim-step}
+use Rattle.part_layout.proofs.Measures.{sim-begins}
+use Rattle.part_layout.proofs.Reading.{sim-token, sim-between, sim-item, sim-items}
+use Rattle.part_layout.proofs.Counts.{Fits, fits-list}
+
+-- place p of voice v, which has `count` notes in the open measure, where `before` notes stand before that
+pub record Place (log : List (ℕ × Note)) (before count v p : ℕ) : Type 0 where
+  pub inside : p ≤ length log
+  pub behind : 0 < p → before < p
+  pub of-voice : (d : ℕ × Note) → 0 < p → getD log (p - 1) d .0 ≡ v
+  pub none : p ≡ 0 → count ≡ 0
+  pub only-none : count ≡ 0 → p ≡ 0
+
+-- what holds of the state
+pub record Standing (l : LogState) : Type 0 where
+  pub older : List Head
+  pub open-head : Head
+  pub heads-are : l .heads ≡ older ++ (open-head ∷ [])
+  pub overlay-4 : l .line .overlay < 4
+  pub scopes-4 : length (l .scopes) ≡ 4
+  pub last-4 : length (l .last) ≡ 4
+  pub fits : Fits (l .heads) (l .log)
+  pub places : (v : ℕ) → v < 4 → Place (l .log) (sum notesIn older) (getD (open-head .counts) v 0) v (getD (l .last) v 0)
+  pub run-has-note : 0 < l .line .run → 0 < lastPlace l
+
+-- the place of a voice's last note
+last-is : (v : ℕ) (b : Bar) (bs : List Bar) → Place (logOf (b ∷ bs)) (length (logOf bs)) (length (voice v (b .notes))) v (lastOf v (length (logOf bs)) (b .notes))
+last-is v b bs =
+    let k = length (logOf bs) in
+    record {
+      inside = omega (arith, lastOf-le v k (b .notes), length-back (logOf bs) (b .notes));
+      behind = lastOf-open v k (b .notes);
+      of-voice = lastOf-voice v (logOf bs) (b .notes);
+      none = lastOf-none v k (b .notes);
+      only-none = none-lastOf v k (b .notes);
+    }
+
+-- by other names for the same numbers
+place-as : (log : List (ℕ × Note)) (v n n′ c c′ p p′ : ℕ) → n ≡ n′ → c ≡ c′ → p ≡ p′ → Place log n c v p → Place log n′ c′ v p′
+place-as log v n n′ c c′ p p′ e f g h =
+    subst (λ (x : ℕ). Place log n′ c′ v x) g (subst (λ (x : ℕ). Place log n′ x v p) f (subst (λ (x : ℕ). Place log x c v p) e h))
+
+-- a number that is not 0
+above-zero : (n : ℕ) → (n ≡ 0 → ⊥) → 0 < n
+above-zero zero h = absurd (h refl)
+above-zero (suc n) h = omega arith
+
+-- of a state with its measures
+standing-open : (s : BarState) (bars : List Bar) → Reads (s .line .overlay) bars → Ready (plain (setBars bars s)) → Standing (laid (setBars bars s))
+unfolding lastPlace voiceNow voiceIn
+standing-open s [] r q = absurd (not-suc-le-zero (r .is-open))
+standing-open s (b ∷ bs) r q =
+    let o = s .line .overlay in
+    let k = length (logOf bs) in
+    let before : k ≡ sum notesIn (headsOf bs) = sym (fits-list bs (r .good .below .1) .all-notes) in
+    let at : (v : ℕ) → v < 4 → getD (lastsOf (b ∷ bs)) v 0 ≡ lastOf v k (b .notes) = λ v h. getD-four (λ w. lastOf w k (b .notes)) v 0 h in
+    let sings : getD (measureOf b .voices) o [] ≡ voice o (b .notes) = getD-four (λ w. voice w (b .notes)) o [] (r .good .place) in
+    record {
+      older = headsOf bs;
+      open-head = headOf b;
+      heads-are = refl;
+      overlay-4 = r .good .place;
+      scopes-4 = q .scopes-4;
+      last-4 = refl;
+      fits = fits-list (b ∷ bs) (r .good .below);
+      places =
+          λ v h. place-as (logOf (b ∷ bs)) v k (sum notesIn (headsOf bs)) (length (voice v (b .notes))) (getD (headOf b .counts) v 0) (lastOf v k (b .notes)) (getD (lastsOf (b ∷ bs)) v 0) before
+          (sym (getD-four (λ w. length (voice w (b .notes))) v 0 h)) (sym (at v h)) (last-is v b bs);
+      run-has-note =
+          λ u. above-zero (getD (lastsOf (b ∷ bs)) o 0)
+          (λ e. let z = lastOf-none o k (b .notes) (sym (at o (r .good .place)) ∙ e) in omega (arith, q .seen u, ap length sings, z));
+    }
+
+-- A PART BETWEEN LINES AND IN A LINE, as the code keeps it
+pub record Between (l : LogState) : Type 0 where
+  pub part : PartState
+  pub sim : Sim Inv l part
+  pub kept : Kept part
+
+pub record InLine (l : LogState) : Type 0 where
+  pub part : PartState
+  pub sim : Sim Reading l part
+  pub ready : Ready part
+
+-- so a part begins
+pub between-new : Between newLog
+between-new = record { part = newPart; sim = sim-items plainKey []; kept = kept-after plainKey [] }
+
+-- each item keeps it
+pub between-item : (header : Key) (l : LogState) (i : Item) → Between l → Between (Ends.onItem header l i)
+between-item header l i b =
+    record {
+      part = Part.onItem header (b .part) i;
+      sim = sim-step Inv Inv (λ x. Ends.onItem header x i) (λ x. Part.onItem header x i) (λ s k. sim-item header s i k) l (b .part) (b .sim);
+      kept = kept-item header (b .part) i (b .kept);
+    }
+
+-- a line begins
+pub in-line-begins : (u : ℕ) (t : Meter) (l : LogState) → Between l → InLine (Log.lineBegins u t l)
+in-line-begins u t l b =
+    record {
+      part = Part.lineBegins u t (b .part);
+      sim = sim-step Inv Reading (Log.lineBegins u t) (Part.lineBegins u t) (sim-begins u t) l (b .part) (b .sim);
+      ready = ready-begins u t (b .part) (b .kept .voices-kept) (b .kept .scopes-kept);
+    }
+
+-- each token keeps it
+pub in-line-token : (l : LogState) (t : Token) → InLine l → InLine (Log.onToken l t)
+in-line-token l t b =
+    record {
+      part = Part.onToken (b .part) t;
+      sim = sim-step Reading Reading (λ x. Log.onToken x t) (λ x. Part.onToken x t) (λ s k. sim-token s t k) l (b .part) (b .sim);
+      ready = ready-token (b .part) t (b .ready);
+    }
+
+-- after a line the part is between lines again
+pub in-line-ends : (l : LogState) → InLine l → Between l
+in-line-ends l b =
+    record { part = b .part; sim = sim-between l (b .part) (b .sim); kept = record { scopes-kept = b .ready .scopes-4; voices-kept = b .ready .voices-4 } }
+
+-- what it says
+pub standing : (l : LogState) → InLine l → Standing l
+standing l b =
+    let s = b .sim in
+    let q : Ready (plain (s .state)) = subst Ready (sym (s .plain-is)) (b .ready) in
+    subst Standing (s .laid-is) (standing-open (s .state) (s .state .bars) (s .holds) q)
+
+-- a head at least
+pub heads-some : (l : LogState) → InLine l → 0 < length (l .heads)
+heads-some l b =
+    let s = standing l b in
+    omega (arith, ap length (s .heads-are), length-append (s .older) (s .open-head ∷ []))
+
+-- the place of the voice being written is 0 or in the log
+pub last-inside : (l : LogState) → InLine l → lastPlace l ≤ length (l .log)
+unfolding lastPlace
+last-inside l b = let s = standing l b in s .places (l .line .overlay) (s .overlay-4) .inside
+
+-- and holds a note of that voice
+pub last-voice : (l : LogState) → InLine l → (d : ℕ × Note) → 0 < lastPlace l → getD (l .log) (lastPlace l - 1) d .0 ≡ l .line .overlay
+unfolding lastPlace
+last-voice l b = let s = standing l b in s .places (l .line .overlay) (s .overlay-4) .of-voice
+
+-- AFTER ANY ITEMS a part is between lines
+pub between-items : (header : Key) (items : List Item) → Between (foldl (Ends.onItem header) newLog items)
+between-items header items = foldl-holds Between (Ends.onItem header) (between-item header) newLog items between-new
+
+-- AFTER ANY TOKENS of a line that began so it is in a line
+pub in-line-tokens : (u : ℕ) (t : Meter) (ts : List Token) (l : LogState) → Between l → InLine (foldl Log.onToken (Log.lineBegins u t l) ts)
+in-line-tokens u t ts l b = foldl-holds InLine Log.onToken in-line-token (Log.lineBegins u t l) ts (in-line-begins u t l b)

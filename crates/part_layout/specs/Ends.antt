@@ -1,0 +1,91 @@
+-- WHAT ITEMS DO to a part as the code keeps it, and the end of a part.
+use Prim.Native.Nat.{ℕ}
+use mathlib.Core.Bool.{Bool, true, false, cond, _||_}
+use mathlib.Core.Option.{Option, none, some}
+use mathlib.Core.List.{List, [], _∷_, _++_, reverse}
+use lib.ListN.{replicate}
+use Rattle.laws.specs.Lists.{foldl}
+use Rattle.standard.specs.Keys.{Key}
+use Rattle.standard.specs.Bars.{endsEnding}
+use Rattle.standard.specs.Notes.{nothingPending}
+use Rattle.standard.specs.Lyrics.{nextVerse}
+use Rattle.reader.specs.Scan.{Item, born, reset, headed, keyed, metered, sung, played}
+use Rattle.reader.specs.State.{Note, voltaEnds, voltaAlone, Sung, Verses}
+use Rattle.reader.specs.Voltas.{isStart}
+use Rattle.reader.specs.Lyrics.{Syllable, sungBy}
+use Rattle.reader.specs.Part.{firstKey}
+use Rattle.part_layout.specs.Log.{Head, LogState, withMeter, withMark, withVolta, setKey, setHeads, setPending, setVerses, newLog, onOpen, isEmptyHead, openIsEmpty, hears, onLine}
+
+unfoldable pub onLyric : Bool → List ℕ → LogState → LogState
+onLyric placed t s =
+    let v = s .verses in
+    setVerses
+    (record { sounded = v .sounded; start = v .start; verse = cond placed (nextVerse (v .verse)) (v .verse); lines = record { start = v .start; verse = v .verse; text = t } ∷ v .lines })
+    s
+
+unfoldable pub onKey : Key → Key → List Head → LogState → LogState
+onKey header k [] s = hears header s
+onKey header k (m ∷ ms) s = onOpen (withMark k) (hears k s)
+
+unfoldable pub onItem : Key → LogState → Item → LogState
+onItem header s (born inHeader) = setKey (firstKey header inHeader) s
+onItem header s reset = setPending nothingPending s
+onItem header s headed = setKey header s
+onItem header s (keyed k) = onKey header k (s .heads) s
+onItem header s (metered t) = onOpen (withMeter t) s
+onItem header s (sung placed t) = onLyric placed t s
+onItem header s (played u t l) = onLine u t l s
+
+-- THE END OF A PART
+-- an empty measure at the end goes, but not the only one
+unfoldable pub dropped : List Head → List Head
+dropped [] = []
+dropped (m ∷ []) = m ∷ []
+dropped (m ∷ n ∷ []) = cond (isEmptyHead n) (m ∷ []) (m ∷ n ∷ [])
+dropped (m ∷ n ∷ o ∷ ms) = m ∷ dropped (n ∷ o ∷ ms)
+
+-- voltas closed (reader/specs/Voltas, over heads)
+unfoldable pub starts : Head → Bool
+starts m = isStart (m .volta)
+
+unfoldable pub lastThere : List Head → Bool
+lastThere [] = true
+lastThere (m ∷ ms) = starts m
+
+unfoldable pub endsAt : Head → List Head → Bool
+endsAt m ms = endsEnding (m .right) || lastThere ms
+
+unfoldable pub close : Option (List ℕ) → List Head → List Head
+close span [] = []
+close none (m ∷ ms) =
+    elim (starts m) [
+      | true ↦ elim (endsAt m ms) [ true ↦ withVolta voltaAlone (m .passes) m ∷ close none ms | false ↦ m ∷ close (some (m .passes)) ms ]
+      | false ↦ m ∷ close none ms
+    ]
+close (some ps) (m ∷ ms) = elim (endsAt m ms) [ true ↦ withVolta voltaEnds ps m ∷ close none ms | false ↦ m ∷ close (some ps) ms ]
+
+-- "The first measure always has a key mark"
+unfoldable pub markedBy : Key → Head → Option Key → Head
+markedBy header m none = withMark header m
+markedBy header m (some k) = m
+
+unfoldable pub marked : Key → List Head → List Head
+marked header [] = []
+marked header (m ∷ ms) = markedBy header m (m .key) ∷ ms
+
+-- a part as the code leaves it: its heads, its notes in the order written, and for each note of voice 0 that is no rest its syllables
+pub record Laid : Type 0 where
+  pub heads : List Head
+  pub log : List (ℕ × Note)
+  pub words : List (List Syllable)
+
+unfoldable pub finished : Key → LogState → Laid
+finished header s =
+    record {
+      heads = marked header (close none (dropped (s .heads)));
+      log = s .log;
+      words = sungBy (reverse (s .verses .lines)) (replicate (s .verses .sounded) []);
+    }
+
+unfoldable pub build : Key → List Item → Laid
+build header items = finished header (foldl (onItem header) newLog items)

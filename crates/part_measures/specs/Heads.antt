@@ -1,0 +1,33 @@
+-- THE HEAD OF A MEASURE as a row of 28 bytes: layout's headBytes.
+use Prim.Native.Nat.{ℕ, _+_}
+use mathlib.Core.Bool.{Bool, true, _&&_}
+use mathlib.Core.List.{List, [], _∷_, _++_}
+use lib.Dec.{eqb}
+use lib.ListN.{getD}
+use Rattle.laws.specs.Bytes.{le32, u32At}
+use Rattle.reader.specs.Codes.{barlineCode, voltaCode}
+use Rattle.reader.specs.Records.{markBytes, passBits}
+use Rattle.part_layout.specs.Log.{Head}
+
+-- a measure without its notes: 28 bytes whatever the counts; with four, headBytes (`head-row`)
+unfoldable pub headRow : Head → List ℕ
+headRow m =
+    (le32 (getD (m .counts) 0 0) ++ le32 (getD (m .counts) 1 0) ++ le32 (getD (m .counts) 2 0) ++ le32 (getD (m .counts) 3 0))
+    ++ (barlineCode (m .left) ∷ barlineCode (m .right) ∷ m .meter .0 ∷ m .meter .1 ∷ [])
+    ++ markBytes (m .key)
+    ++ (voltaCode (m .volta) ∷ getD (m .passes) 0 0 ∷ le32 (passBits (m .passes)))
+
+-- a head without notes: its left barline by number, its meter
+unfoldable pub newRow : ℕ → ℕ → ℕ → List ℕ
+newRow left top bottom =
+    (0 ∷ 0 ∷ 0 ∷ 0 ∷ [])
+    ++ (0 ∷ 0 ∷ 0 ∷ 0 ∷ [])
+    ++ (0 ∷ 0 ∷ 0 ∷ 0 ∷ [])
+    ++ (0 ∷ 0 ∷ 0 ∷ 0 ∷ [])
+    ++ (left ∷ 0 ∷ top ∷ bottom ∷ [])
+    ++ (0 ∷ 0 ∷ 0 ∷ 0 ∷ [])
+    ++ (0 ∷ 0 ∷ 0 ∷ 0 ∷ [])
+
+-- the four counts at a place are 0
+unfoldable pub noNotes : List ℕ → ℕ → Bool
+noNotes s at = eqb 0 (u32At s at) && (eqb 0 (u32At s (at + 4)) && (eqb 0 (u32At s (at + 8)) && (eqb 0 (u32At s (at + 12)) && true)))

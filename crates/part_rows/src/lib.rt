@@ -1,0 +1,115 @@
+// The rows of a part's tables in scratch: heads of measures (28 bytes), notes (16), pitches (5). A table is where it begins, a row its index.
+ghost use mathlib.Core.Path.{_≡_};
+ghost use mathlib.Core.List.{[], _∷_};
+ghost use Prim.Native.Nat.{_+_, _*_, _≤_};
+ghost use lib.ListN.{length, getD};
+ghost use Rattle.laws.specs.Bytes.{splice};
+ghost use Rattle.reader.specs.Records.{signed8, signed16};
+ghost use Rattle.part_rows.specs.Encoded.{rowBytes, pitchRow};
+
+// A note as its row holds it: kind, value, dots, the marks of ties, slurs and graces, beam, tuplet and boundary, and how many pitches it has.
+pub struct NoteRow {
+    pub kind: u8,
+    pub value: u8,
+    pub dots: u8,
+    pub marks: u8,
+    pub beam: u8,
+    pub actual: u8,
+    pub normal: u8,
+    pub boundary: u8,
+    pub pitches: u32,
+}
+
+// A pitch as sounded; octave, alter and cents have 128 added.
+pub struct Sounded {
+    pub step: u8,
+    pub octave: u8,
+    pub alter: u8,
+    pub cents: u8,
+}
+
+// What broken rhythm and beams ask of a note in its row.
+pub struct Written {
+    pub kind: u8,
+    pub value: u8,
+    pub dots: u8,
+}
+
+// NOTES
+
+// Writes a note and its voice as row i.
+pub fn put_note(store: &mut [u8], at: usize, i: usize, n: NoteRow, voice: u8)
+    requires { ⌜ at + 16 * i + 16 ≤ length (now store) ⌝ }
+    ensures { λ _. ⌜ now (store .exit) ≡ splice (now (store .entry)) (at + 16 * i) (rowBytes n voice) ⌝ }
+{
+    let place = at + 16 * i;
+    store::put_4(store, place, n.kind, n.value, n.dots, n.marks);
+    store::put_4(store, place + 4, n.beam, n.actual, n.normal, n.boundary);
+    store::put_u32(store, place + 8, n.pitches);
+    store::put_4(store, place + 12, voice, 0, 0, 0);
+}
+
+// Another value, with its dots, in row i.
+pub fn set_note_value(store: &mut [u8], at: usize, i: usize, value: u8, dots: u8)
+    requires { ⌜ at + 16 * i + 16 ≤ length (now store) ⌝ }
+    ensures { λ _. ⌜ now (store .exit) ≡ splice (now (store .entry)) (at + 16 * i + 1) (value ∷ dots ∷ []) ⌝ }
+{
+    let place = at + 16 * i + 1;
+    store::put_u8(store, place, value);
+    store::put_u8(store, place + 1, dots);
+}
+
+// Another beam in row i.
+pub fn set_note_beam(store: &mut [u8], at: usize, i: usize, beam: u8)
+    requires { ⌜ at + 16 * i + 16 ≤ length (now store) ⌝ }
+    ensures { λ _. ⌜ now (store .exit) ≡ splice (now (store .entry)) (at + 16 * i + 4) (beam ∷ []) ⌝ }
+{
+    store::put_u8(store, at + 16 * i + 4, beam);
+}
+
+// Kind, value and dots of row i.
+pub fn get_written(store: &[u8], at: usize, i: usize) -> Written
+    requires { ⌜ at + 16 * i + 16 ≤ length (now store) ⌝ }
+    ensures { λ r. ⌜ r ≡ record { kind = getD (now (store .entry)) (at + 16 * i) 0; value = getD (now (store .entry)) (at + 16 * i + 1) 0; dots = getD (now (store .entry)) (at + 16 * i + 2) 0 } ⌝ }
+{
+    let place = at + 16 * i;
+    Written {
+        kind: store[place],
+        value: store[place + 1],
+        dots: store[place + 2],
+    }
+}
+
+// PITCHES
+
+// A signed number, kept with 128 added, as a byte.
+pub fn signed(n: u8) -> u8
+    ensures { λ r. ⌜ r ≡ signed8 n ⌝ }
+{
+    if n < 128 { n + 128 } else { n - 128 }
+}
+
+// The higher byte of the same in two bytes.
+fn sign(n: u8) -> u8
+    ensures { λ r. ⌜ signed16 n ≡ signed8 n ∷ r ∷ [] ⌝ }
+{
+    if n < 128 { 255 } else { 0 }
+}
+
+// Writes a pitch as row i.
+pub fn put_pitch(store: &mut [u8], at: usize, i: usize, p: Sounded)
+    requires { ⌜ at + 5 * i + 5 ≤ length (now store) ⌝ }
+    ensures { λ _. ⌜ now (store .exit) ≡ splice (now (store .entry)) (at + 5 * i) (pitchRow p) ⌝ }
+{
+    let place = at + 5 * i;
+    let cents = signed(p.cents);
+    store::put_4(
+        store,
+        place,
+        p.step,
+        signed(p.octave),
+        signed(p.alter),
+        cents,
+    );
+    store::put_u8(store, place + 4, sign(p.cents));
+}

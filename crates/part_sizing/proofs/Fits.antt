@@ -1,0 +1,154 @@
+-- THE TABLES FIT: a byte of music pays 28 bytes and makes a measure of 28, or a note, its pitch and its lyric head (25), or a rest and the head that it may get
+-- (20), or an accidental (8). A byte of lyrics pays for a row of 16.
+use Prim.Native.Nat.{ℕ, _+_, _-_, _*_, _^_, _≤_, _<_}
+use mathlib.Core.Path.{_≡_, refl, ap, _∙_}
+use mathlib.Core.Bool.{Bool, true, false, cond, _&&_, _||_}
+use mathlib.Core.Logic.{_⊎_, inl, inr}
+use mathlib.Core.List.{List, [], _∷_, map}
+use native.Mathlib.Omega.{arith}
+use lib.Dec.{eqb}
+use lib.ListN.{length}
+use borrow.Author.Tests.{eqb-true}
+use Rattle.laws.specs.Lists.{keep, sum}
+use Rattle.laws.specs.Bytes.{between, rows}
+use Rattle.laws.proofs.Bools.{by-test, and-left, and-right, or-either}
+use Rattle.standard.specs.Bytes.{is}
+use Rattle.standard.specs.Pitches.{isLetter}
+use Rattle.reader.specs.Steps.{mine}
+use Rattle.bounds.specs.Prices.{lyricBytes}
+use Rattle.costs.specs.Sizes.{isBar, isRest, isSign, bars, letters, rests, signs, tones}
+use Rattle.scan_table.specs.declared.Row.{Row}
+use Rattle.scan_table.specs.Rows.{decItem, itemAs, itemIn, itemsIn}
+use Rattle.lyrics.specs.declared.Sheet.{Sheet}
+use Rattle.lyrics.specs.Items.{isLine, lineIn, linesIn, rowsOf, Fits}
+use Rattle.part_registers.specs.declared.Tables.{Tables}
+use Rattle.part_sizing.specs.declared.Made.{Made}
+use Rattle.part_sizing.specs.Counting.{madeOf, tablesAt}
+use Rattle.part_sizing.specs.Room.{PartRoom, musicAt, Sized}
+use Rattle.part_sizing.proofs.Counting.{bytes-in}
+
+-- A BYTE OF MUSIC
+abbrev one : Bool → ℕ
+one b = cond b 1 0
+
+abbrev Paid : ℕ → Type 0
+Paid c = 28 * one (isBar c) + 25 * one (isLetter c) + 20 * one (isRest c) + 8 * one (isSign c) ≤ 28
+
+-- one of these bytes
+at-byte : (k c : ℕ) → Paid k → eqb c k ≡ true → Paid c
+at-byte k c h e = rw (eqb-true c k e) h
+
+letter-paid : (b : Bool) → 25 * one b ≤ 28
+letter-paid true = omega arith
+letter-paid false = omega arith
+
+bar-paid : (c : ℕ) → isBar c ≡ true → Paid c
+bar-paid c e = go (or-either (is "|" c) (is ":" c) e)
+  where
+    go : (is "|" c ≡ true) ⊎ (is ":" c ≡ true) → Paid c
+    go (inl h) = at-byte 124 c (omega arith) h
+    go (inr h) = at-byte 58 c (omega arith) h
+
+rest-paid : (c : ℕ) → isRest c ≡ true → Paid c
+rest-paid c e = go (or-either (is "z" c || is "x" c || is "Z" c) (is "X" c) e)
+  where
+    two : (is "z" c ≡ true) ⊎ (is "x" c ≡ true) → Paid c
+    two (inl h) = at-byte 122 c (omega arith) h
+    two (inr h) = at-byte 120 c (omega arith) h
+
+    three : ((is "z" c || is "x" c) ≡ true) ⊎ (is "Z" c ≡ true) → Paid c
+    three (inl h) = two (or-either (is "z" c) (is "x" c) h)
+    three (inr h) = at-byte 90 c (omega arith) h
+
+    go : ((is "z" c || is "x" c || is "Z" c) ≡ true) ⊎ (is "X" c ≡ true) → Paid c
+    go (inl h) = three (or-either (is "z" c || is "x" c) (is "Z" c) h)
+    go (inr h) = at-byte 88 c (omega arith) h
+
+sign-paid : (c : ℕ) → isSign c ≡ true → Paid c
+sign-paid c e = go (or-either (is "^" c || is "_" c) (is "=" c) e)
+  where
+    two : (is "^" c ≡ true) ⊎ (is "_" c ≡ true) → Paid c
+    two (inl h) = at-byte 94 c (omega arith) h
+    two (inr h) = at-byte 95 c (omega arith) h
+
+    go : ((is "^" c || is "_" c) ≡ true) ⊎ (is "=" c ≡ true) → Paid c
+    go (inl h) = two (or-either (is "^" c) (is "_" c) h)
+    go (inr h) = at-byte 61 c (omega arith) h
+
+byte-paid : (c : ℕ) → Paid c
+byte-paid c =
+    by-test (isBar c) (bar-paid c)
+    (λ a. by-test (isRest c) (rest-paid c)
+    (λ b. by-test (isSign c) (sign-paid c) (λ d. rw (a, b, d) (omega (arith, letter-paid (isLetter c))))))
+
+-- MUSIC
+count-cons : (p : ℕ → Bool) (c : ℕ) (l : List ℕ) → length (keep p (c ∷ l)) ≡ one (p c) + length (keep p l)
+count-cons p c l = by-test (p c) (λ e. rw e (omega arith)) (λ e. rw e (omega arith))
+
+music-paid : (l : List ℕ) → 28 * bars l + 25 * letters l + 20 * rests l + 8 * signs l ≤ 28 * length l
+unfolding bars letters rests signs
+music-paid [] = omega arith
+music-paid (c ∷ l) = omega (arith, music-paid l, byte-paid c, count-cons isBar c l, count-cons isLetter c l, count-cons isRest c l, count-cons isSign c l)
+
+-- LYRICS: the rows that the lyric lines of a part can need
+lyric-five : (k : ℕ) (text : List ℕ) (r : Row) → k ≡ 5 → lyricBytes (itemAs k text r) ≡ length (between text (r .at) (r .end))
+unfolding itemAs lyricBytes
+lyric-five k text r e = ap (λ (j : ℕ). lyricBytes (itemAs j text r)) e
+
+lines-rows : (text : List ℕ) (p : ℕ) (rs : List Row) → rowsOf (map (lineIn text) (keep (isLine p) rs)) ≤ sum lyricBytes (mine p (map (itemIn text) rs))
+unfolding rowsOf lineIn isLine itemIn
+lines-rows text p [] = omega arith
+lines-rows text p (r ∷ rs) =
+    by-test (eqb (r .kind) 5 && eqb (r .part) p)
+    (λ e.
+    let k = eqb-true (r .kind) 5 (and-left (eqb (r .kind) 5) (eqb (r .part) p) e) in
+    rw (e, and-right (eqb (r .kind) 5) (eqb (r .part) p) e) (omega (arith, lines-rows text p rs, lyric-five (r .kind) text r k)))
+    (λ e. rw e
+    (by-test (eqb (r .part) p) (λ f. rw f (omega (arith, lines-rows text p rs))) (λ f. rw f (lines-rows text p rs))))
+
+pub rows-most : (text s : List ℕ) (p n : ℕ) → rowsOf (linesIn text s p n) ≤ sum lyricBytes (mine p (itemsIn text s n))
+unfolding linesIn itemsIn
+rows-most text s p n = lines-rows text p (rows decItem 16 s 256 n)
+
+-- A PART
+module _ (text s : List ℕ) (n p : ℕ) (room : PartRoom text s n p) where
+  abbrev made : Made
+  made = madeOf (musicAt text s n p)
+
+  -- the tables end early enough
+  pub tables-end : (m : Made) → m ≡ made → tablesAt n m .end < 2 ^ 32
+  tables-end m e = rw e (omega (arith, room .small, bytes-in (mine p (itemsIn text s n)), music-paid (musicAt text s n p)))
+
+  pub tables-fit : (m : Made) (t : Tables) → m ≡ made → t ≡ tablesAt n m → Sized text s n p t
+  tables-fit m t e f =
+      rw (f ∙ ap (tablesAt n) e)
+      (let b = bytes-in (mine p (itemsIn text s n)) in
+      let paid = music-paid (musicAt text s n p) in
+      record {
+        is = refl;
+        behind-items = refl;
+        rest =
+            record {
+              for-heads = omega arith;
+              for-notes = omega arith;
+              for-pitches = omega arith;
+              for-scopes = omega arith;
+              ends = omega (arith, room .fits, b, paid);
+              small = omega (arith, room .small, b, paid);
+            };
+        sheet = omega (arith, room .fits, b, paid);
+        few = omega (arith, room .small, b);
+      })
+
+-- THE SHEET of the lyrics, once the part is read: scratch has the same items, and of its notes that sound there are no more than its music can make
+pub sheet-fits : (text s : List ℕ) (n p : ℕ) (t : Tables) → Sized text s n p t → length text ≤ 67108864 → (s′ : List ℕ) → itemsIn text s′ n ≡ itemsIn text s n → length s′ ≡ length s
+    → (h : Sheet) → h .heads ≡ t .scopes → h .log ≡ t .scopes + 4 * h .sounded → h .sounded ≤ tones (musicAt text s n p) → Fits text s′ n p h
+sheet-fits text s n p t z short s′ e l h at log most =
+    let few : rowsOf (linesIn text s′ p n) ≤ sum lyricBytes (mine p (itemsIn text s n)) = rw e at (rows-most text s′ p n) in
+    record {
+      before-heads = omega (arith, at, z .behind-items, z .rest .for-heads, z .rest .for-notes, z .rest .for-pitches);
+      apart = omega (arith, at, log);
+      short = omega (arith, short);
+      inside = omega (arith, log, most, l, few, z .sheet);
+      few = omega (arith, few, z .few);
+    }

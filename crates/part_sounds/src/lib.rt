@@ -1,0 +1,166 @@
+// Notes and rests: pitches resolved and written; the note's row is left to be appended, for all tokens in one place.
+ghost use mathlib.Core.Path.{_≡_};
+ghost use Prim.Native.Nat.{_<_};
+ghost use lib.ListN.{length};
+ghost use Rattle.part_accidentals.specs.Resolving.{signs};
+ghost use Rattle.part_held.specs.Held.{Room, Holding};
+ghost use Rattle.part_sounds.specs.Sounds.{restRow, soundRow, pendingOn, keptOf, restLeft, soundLeft, Finishable, Finishes, Leaves, Pushable, Pushes, NotesAs};
+use part_registers::Counts;
+use part_registers::Pending;
+use part_registers::Registers;
+use part_registers::Tables;
+use part_rows::NoteRow;
+use token_lengths::Length;
+use token_pitches::Pitch;
+
+// What a token leaves: the registers and, if it is a note, rest or chord, the row that is still to be appended.
+pub struct Left {
+    pub registers: Registers,
+    pub appends: bool,
+    pub row: NoteRow,
+}
+
+// The row of a rest.
+fn rest_row(kind: u8, written: Length) -> NoteRow
+    ensures { λ r. ⌜ r ≡ restRow kind written ⌝ }
+{
+    NoteRow {
+        kind,
+        value: token_lengths::value_of(written),
+        dots: token_lengths::dots_of(written),
+        marks: 0,
+        beam: 0,
+        actual: 0,
+        normal: 0,
+        boundary: 0,
+        pitches: 0,
+    }
+}
+
+// The row of a note or chord with its marks and the number of its pitches.
+fn sound_row(written: Length, marks: u8, pitches: u32) -> NoteRow
+    ensures { λ r. ⌜ r ≡ soundRow written marks pitches ⌝ }
+{
+    NoteRow {
+        kind: 0,
+        value: token_lengths::value_of(written),
+        dots: token_lengths::dots_of(written),
+        marks,
+        beam: 0,
+        actual: 0,
+        normal: 0,
+        boundary: 0,
+        pitches,
+    }
+}
+
+// What waits after a note: the end of its tie, and an open grace brace.
+fn after_pending(p: Pending, tie: bool) -> Pending
+    ensures { λ r. ⌜ r ≡ pendingOn p tie ⌝ }
+{
+    Pending {
+        tie,
+        slur: false,
+        grace: p.grace,
+    }
+}
+
+// A token without a row (this one is never read).
+pub fn keep(r: Registers) -> Left
+    ensures { λ left. ⌜ left ≡ keptOf r ⌝ }
+{
+    Left {
+        registers: r,
+        appends: false,
+        row: rest_row(0, Length::WholeBar(0)),
+    }
+}
+
+// A rest.
+pub fn append_rest(r: Registers, kind: u8, written: Length) -> Left
+    ensures { λ left. ⌜ left ≡ restLeft r kind written ⌝ }
+{
+    Left {
+        registers: r,
+        appends: true,
+        row: rest_row(kind, written),
+    }
+}
+
+// A pitch, resolved by its accidental, its scope or the key, goes to the end of the pitches.
+pub fn push_pitch(store: &mut [u8], t: Tables, r: Registers, pitch: Pitch) -> Registers
+    requires { ⌜ Room t (r .counts) (length (now store)) 0 0 1 (signs (pitch .mark)) × Pushable t (now store) r × (pitch .step < 7) ⌝ }
+    ensures { λ x. ⌜ Pushes t (now (store .entry)) r (now (store .exit)) x pitch ⌝ }
+{
+    let line = r.line;
+    let voice = line.overlay as usize;
+    let p = part_accidentals::resolve_abc_pitch(
+        store,
+        t.scopes,
+        r.counts.scopes,
+        r.key,
+        voice,
+        pitch,
+    );
+    let count = r.counts.pitches as usize;
+    let sounded = p.sounded;
+    part_rows::put_pitch(store, t.pitches, count, sounded);
+    let pitches = r.counts.pitches + 1;
+    let scopes = p.count;
+    let mut x = r;
+    let c = r.counts;
+    let counts = Counts {
+        heads: c.heads,
+        notes: c.notes,
+        pitches,
+        scopes,
+    };
+    x.counts = counts;
+    let key = p.state;
+    x.key = key;
+    x
+}
+
+// A note or chord whose pitches are written.
+pub fn append_sound(r: Registers, written: Length, tie: bool, slur: bool, pitches: u32) -> Left
+    ensures { λ left. ⌜ left ≡ soundLeft r written tie slur pitches ⌝ }
+{
+    let marks = part_registers::marks(r.pending, tie, slur);
+    let row = sound_row(written, marks, pitches);
+    let mut x = r;
+    x.pending = after_pending(r.pending, tie);
+    Left {
+        registers: x,
+        appends: true,
+        row,
+    }
+}
+
+// A note.
+pub fn append_note(
+    store: &mut [u8],
+    t: Tables,
+    r: Registers,
+    pitch: Pitch,
+    written: Length,
+    tie: bool,
+    slur: bool,
+) -> Left
+    requires { ⌜ Room t (r .counts) (length (now store)) 0 1 1 (signs (pitch .mark)) × Holding t (now store) r × (pitch .step < 7) ⌝ }
+    ensures { λ left. ⌜ Leaves t (now (store .exit)) left (λ s x. NotesAs t (now (store .entry)) r s x pitch written tie slur) ⌝ }
+{
+    let x = push_pitch(store, t, r, pitch);
+    append_sound(x, written, tie, slur, 1)
+}
+
+// The row that a token leaves goes to the end of its voice. One call for all tokens, so that the registers need not go through memory.
+pub fn append_left(store: &mut [u8], t: Tables, left: Left) -> Registers
+    requires { ⌜ Finishable t (now store) left ⌝ }
+    ensures { λ x. ⌜ Finishes t (now (store .entry)) left (now (store .exit)) x ⌝ }
+{
+    let r = left.registers;
+    if left.appends {
+        return part_append::append(store, t, r, left.row);
+    }
+    r
+}

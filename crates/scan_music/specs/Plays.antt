@@ -1,0 +1,59 @@
+-- What a music line comes to in the scan: the definition's count of notes, L and M after it, and its first refusal, in one answer.
+use Prim.Native.Nat.{ℕ, suc, _+_, max}
+use mathlib.Core.Bool.{Bool, false, _||_}
+use mathlib.Core.Option.{Option, none, some}
+use mathlib.Core.List.{List, _∷_}
+use lib.Dec.{eqb, ltb}
+use Rattle.reader.specs.Tokens.{Effect, counts, refuses, setsUnit, setsMeter, passes}
+use Rattle.reader.specs.Scan.{noteCount, lastUnit, lastMeter, firstRefusal}
+use Rattle.tokens.specs.declared.Effect as code
+use Rattle.tokens.specs.declared.Effect.the-variants as effect
+use Rattle.scan_states.specs.declared.State.{State}
+use Rattle.scan_music.specs.declared.Count.{Count}
+use Rattle.scan_music.specs.declared.Played.{Played}
+use Rattle.scan_music.specs.declared.Played.the-variants.{On, Refused}
+
+-- an effect as the definitions have it
+unfoldable pub effectAs : code.Effect → Effect
+effectAs effect.Counts = counts
+effectAs (effect.Refuses n) = refuses n
+effectAs (effect.SetsUnit u) = setsUnit u
+effectAs (effect.SetsMeter t b) = setsMeter (t, b)
+effectAs effect.Passes = passes
+
+-- effects, after these notes and with this L and M, unless one is refused
+unfoldable pub playedAs : Count → List Effect → Option ℕ → Played
+playedAs p es (some k) = Refused k
+playedAs p es none =
+    On (record { notes = p .notes + noteCount es; unit = lastUnit es (p .unit); top = lastMeter es (p .top, p .bottom) .0; bottom = lastMeter es (p .top, p .bottom) .1 })
+
+unfoldable pub playedFor : Count → List Effect → Played
+playedFor p es = playedAs p es (firstRefusal (p .notes) es)
+
+-- the same from what was played so far
+unfoldable pub playedOn : Played → List Effect → Played
+playedOn (On p) es = playedFor p es
+playedOn (Refused k) es = Refused k
+
+-- a token is still to come, and nothing is refused
+unfoldable pub goesOn : Played → ℕ → ℕ → Bool
+goesOn (On p) at end = ltb at end
+goesOn (Refused k) at end = false
+
+-- the state behind a music line: one item and one line more, a place for verses for every part up to this one
+abbrev pub playedTo : State → Count → State
+playedTo st q = record {
+  in_header = st .in_header;
+  fifths = st .fifths;
+  minor = st .minor;
+  unit = q .unit;
+  top = q .top;
+  bottom = q .bottom;
+  part = st .part;
+  notes = q .notes;
+  lines = suc (st .lines);
+  places = max (st .places) (suc (st .part));
+  opened = st .opened || eqb (st .part) 0;
+  voices = st .voices;
+  items = st .items + 1;
+}

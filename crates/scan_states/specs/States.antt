@@ -1,0 +1,85 @@
+-- What the scan knows between two lines, as the definitions have it, and what one line comes to.
+use Prim.Native.Nat.{ℕ, suc, _+_, _*_, _≤_, _<_}
+use mathlib.Core.Path.{_≡_}
+use mathlib.Core.List.{List, []}
+use Rattle.reader.specs.Steps.{refuse, on, first}
+use Rattle.reader.specs.Scan.{ScanState, Out}
+use Rattle.scan_table.specs.Rows.{voicesIn, itemsIn}
+use Rattle.scan_states.specs.declared.State.{State}
+use Rattle.scan_states.specs.declared.Step.{Step}
+use Rattle.scan_states.specs.declared.Step.the-variants.{On, Refused}
+
+-- the definition's state, with these voices
+abbrev pub heldIn : List (List ℕ) → State → ScanState
+heldIn vs st =
+    record {
+      env = record { inHeader = st .in_header; voices = vs; headerKey = record { fifths = st .fifths; minor = st .minor } };
+      unit = st .unit;
+      meter = (st .top, st .bottom);
+      part = st .part;
+      notes = st .notes;
+      lines = st .lines;
+      places = st .places;
+      opened = st .opened;
+    }
+
+-- with those in scratch
+abbrev pub held : List ℕ → List ℕ → State → ScanState
+held text s st = heldIn (voicesIn text s (st .voices)) st
+
+-- how far the scan has come, with every item so far
+abbrev pub reached : List ℕ → List ℕ → Step → Out
+reached text s (On st) = on (held text s st) (itemsIn text s (st .items))
+reached text s (Refused n l) = refuse n l
+
+-- one line more; one item and one line more
+abbrev pub nextOf : State → State
+nextOf st = record {
+  in_header = st .in_header;
+  fifths = st .fifths;
+  minor = st .minor;
+  unit = st .unit;
+  top = st .top;
+  bottom = st .bottom;
+  part = st .part;
+  notes = st .notes;
+  lines = suc (st .lines);
+  places = st .places;
+  opened = st .opened;
+  voices = st .voices;
+  items = st .items;
+}
+
+abbrev pub addedTo : State → State
+addedTo st = record {
+  in_header = st .in_header;
+  fifths = st .fifths;
+  minor = st .minor;
+  unit = st .unit;
+  top = st .top;
+  bottom = st .bottom;
+  part = st .part;
+  notes = st .notes;
+  lines = suc (st .lines);
+  places = st .places;
+  opened = st .opened;
+  voices = st .voices;
+  items = st .items + 1;
+}
+
+-- THE ROOM that a line may need in a scratch store of n bytes: two items
+pub record Ready (n : ℕ) (st : State) : Type 0 where
+  pub lines-fit : st .lines < 10000
+  pub voices-fit : st .voices ≤ 32
+  pub part-fits : st .part < 32
+  pub room : 256 + 16 * (st .items + 2) ≤ n
+
+-- what a line leaves: at most one item more, and one for each voice that is new
+abbrev pub Follows : State → Step → Type 0
+Follows st (On t) = (t .lines ≡ suc (st .lines)) × ((t .voices ≤ 32) × ((t .part < 32) × (t .items + st .voices ≤ suc (st .items) + t .voices)))
+Follows st (Refused n l) = Unit {0}
+
+-- ONE LINE: o is what the definition makes of it; the items so far stand before its own
+pub record Stepped (text s₀ : List ℕ) (st : State) (o : Out) (s : List ℕ) (r : Step) : Type 0 where
+  pub is : reached text s r ≡ first (itemsIn text s₀ (st .items)) o
+  pub follows : Follows st r

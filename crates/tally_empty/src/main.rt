@@ -1,4 +1,0 @@
-// The same program on no input.
-fn main() {
-    tally_run::run();
-}

@@ -1,4 +1,0 @@
-// The same program on two voices.
-fn main() {
-    tally_run::run();
-}

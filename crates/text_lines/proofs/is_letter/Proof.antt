@@ -1,0 +1,20 @@
+-- `text_lines::is_letter` meets its contract.
+use mathlib.Core.Path.{sym, _∙_}
+use borrow.Author.Needs.{needs}
+use Rattle.text_lines.proofs.is_letter.Statement.{statement}
+use Rattle.text_lines.proofs.is_letter.Tie as tie
+
+is-within-requires : tie.Need-is-within-requires
+is-within-requires c κs = search needs
+
+returns : tie.Need-returns
+returns c = rw (sym (c .before .is-within .ensures) ∙ c .if1 .taken)
+
+is-within-requires-2 : tie.Need-is-within-requires-2
+is-within-requires-2 c κs = search needs
+
+returns-2 : tie.Need-returns-2
+returns-2 c = c .is-within2 .ensures ∙ rw (sym (c .before .before .is-within .ensures) ∙ c .before .if1 .left)
+
+pub is-letter-spec : {M : Type 1} → statement M
+is-letter-spec = tie.close (tie.spec is-within-requires returns is-within-requires-2 returns-2)

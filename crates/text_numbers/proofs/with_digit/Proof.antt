@@ -1,0 +1,89 @@
+-- `text_numbers::with_digit` meets its contract: each `return` has the variant and the tests that led there.
+use Prim.Native.Nat.{_+_, _-_, _*_, _≤_, _<_}
+use native.Mathlib.Nat.{zero-add}
+use native.Mathlib.Omega.{arith}
+use borrow.Author.Tests.{le-leb, lt-leb}
+use Rattle.text_numbers.specs.Digits.{withDigit, most}
+use Rattle.text_numbers.proofs.Numbers.{digit-low}
+use borrow.Author.Needs.{needs}
+use Rattle.text_numbers.proofs.with_digit.Statement.{statement}
+use Rattle.text_numbers.proofs.with_digit.Tie as tie
+
+sub-d : tie.Need-sub-d
+sub-d c = digit-low _ (c .pre)
+
+cast-d : tie.Need-cast-d
+cast-d c = search needs
+
+enum-told : tie.Need-enum-told
+enum-told c = search needs
+
+enum-told-2 : tie.Need-enum-told-2
+enum-told-2 c = search needs
+
+enum-known-n : tie.Need-enum-known-n
+enum-known-n c = search needs
+
+returns : tie.Need-returns
+unfolding withDigit
+returns c =
+    let g = c .before .before .n .given in
+    let far : most < g .0 .0 * 10 + (c .before .before .before .before .args .b - 48) = omega arith in
+    rw (g .1, lt-leb _ _ far)
+
+sub-if2 : tie.Need-sub-if2
+sub-if2 c = search needs
+
+mul-if2 : tie.Need-mul-if2
+mul-if2 c = search needs
+
+returns-2 : tie.Need-returns-2
+unfolding withDigit
+returns-2 c =
+    let g = c .before .before .before .n .given in
+    let far : most < g .0 .0 * 10 + (c .before .before .before .before .before .args .b - 48) = omega arith in
+    rw (g .1, lt-leb _ _ far)
+
+mul-t8 : tie.Need-mul-t8
+mul-t8 c = search needs
+
+add-t9 : tie.Need-add-t9
+add-t9 c = search needs
+
+returns-3 : tie.Need-returns-3
+unfolding withDigit
+returns-3 c =
+    let a = c .before .before .args in
+    let near : a .b - 48 ≤ most = omega (arith, c .before .before .fits .b) in
+    rw (c .enum-told .given .1, zero-add, le-leb _ _ near)
+
+returns-4 : tie.Need-returns-4
+unfolding withDigit
+returns-4 c = rw (c .enum-told2 .given .1)
+
+returns-5 : tie.Need-returns-5
+unfolding withDigit
+returns-5 c =
+    let g = c .before .before .before .n .given in
+    let b = c .before .before .before .before .before in
+    let near : g .0 .0 * 10 + (b .args .b - 48) ≤ most = omega (arith, b .fits .b) in
+    rw (g .1, le-leb _ _ near)
+
+pub with-digit-spec : {M : Type 1} → statement M
+with-digit-spec =
+    tie.close
+    (tie.spec
+    sub-d
+    cast-d
+    enum-told
+    enum-told-2
+    enum-known-n
+    returns
+    sub-if2
+    mul-if2
+    returns-2
+    mul-t8
+    add-t9
+    returns-3
+    returns-4
+    returns-5)

@@ -1,0 +1,27 @@
+-- `token_lengths::longer` meets its contract.
+use borrow.Author.Tests.{lt-ltb, le-ltb}
+use Rattle.token_lengths.specs.Values.{longerOf}
+use borrow.Author.Needs.{needs}
+use Rattle.token_lengths.proofs.longer.Statement.{statement}
+use Rattle.token_lengths.proofs.longer.Tie as tie
+
+enum-told : tie.Need-enum-told
+enum-told c = search needs
+
+enum-known-best : tie.Need-enum-known-best
+enum-known-best c = search needs
+
+returns : tie.Need-returns
+unfolding longerOf
+returns c = rw (c .before .before .best .given .1, lt-ltb _ _ (c .if1 .taken))
+
+returns-2 : tie.Need-returns-2
+unfolding longerOf
+returns-2 c = rw (c .enum-told .given .1)
+
+returns-3 : tie.Need-returns-3
+unfolding longerOf
+returns-3 c = rw (c .before .before .best .given .1, le-ltb _ _ (c .if1 .left))
+
+pub longer-spec : {M : Type 1} → statement M
+longer-spec = tie.close (tie.spec enum-told enum-known-best returns returns-2 returns-3)

@@ -1,0 +1,57 @@
+-- A letter alone: where a plain byte or the line's end stands behind it, no octave mark, no length, no tie and no slur end does.
+use Prim.Native.Nat.{ℕ, _+_}
+use mathlib.Core.Path.{_≡_, refl, ap, _∙_}
+use mathlib.Core.Bool.{true, false}
+use mathlib.Core.Logic.{_⊎_, inl, inr}
+use mathlib.Core.List.{List, [], _∷_}
+use native.Mathlib.Omega.{arith}
+use lib.Dec.{ltb, leb, eqb}
+use borrow.Author.Tests.{ltb-true, lt-leb, eqb-true}
+use Rattle.laws.specs.Lists.{span}
+use Rattle.laws.proofs.Bools.{by-test, both-true, and-no-left, and-no-right, or-either}
+use Rattle.laws.proofs.Spans.{span-off}
+use Rattle.standard.specs.Bytes.{isDigit, first}
+use Rattle.standard.specs.Pitches.{stepOf, letterOctave}
+use Rattle.reader.specs.Lengths.{number, lengthOf}
+use Rattle.reader.specs.Pitches.{Octave, octaveFrom, octaveOf, Before}
+use Rattle.reader.specs.Sounds.{behind, noteAs}
+use Rattle.reader.specs.Token.{note, taken}
+use Rattle.token_lexemes.specs.Lexemes.{isPlain}
+
+-- a plain byte is no byte that is not plain
+module _ (c : ℕ) (h : isPlain c ≡ true) where
+  no-sign : (x : ℕ) → isPlain x ≡ false → eqb c x ≡ false
+  no-sign x k = by-test (eqb c x) (λ e. absurd (both-true (isPlain c) h (ap isPlain (eqb-true c x e) ∙ k))) (λ e. e)
+
+  no-digit : isDigit c ≡ false
+  no-digit = go (or-either (ltb c 39) (ltb 57 c) h)
+    where
+      go : (ltb c 39 ≡ true) ⊎ (ltb 57 c ≡ true) → isDigit c ≡ false
+      go (inl e) = and-no-left (leb 48 c) (leb c 57) (lt-leb 48 c (omega (arith, ltb-true c 39 e)))
+      go (inr e) = and-no-right (leb 48 c) (leb c 57) (lt-leb c 57 (ltb-true 57 c e))
+
+-- what stands from the plain byte on
+module _ (s : List ℕ) (h : isPlain (first s) ≡ true) where
+  no-run : (x : ℕ) → eqb 0 x ≡ false → isPlain x ≡ false → span (λ c. eqb c x) s ≡ 0
+  no-run x z k = span-off (λ c. eqb c x) z s 0 (no-sign (first s) h x k)
+
+  no-marks : (c : ℕ) → octaveOf c s ≡ record { octave = letterOctave c; used = 0; fine = true }
+  unfolding octaveOf octaveFrom letterOctave
+  no-marks c = by-test (ltb c 97) (λ e. rw (e, no-run 44 refl refl, no-run 39 refl refl)) (λ e. rw (e, no-run 44 refl refl, no-run 39 refl refl))
+
+  no-length : lengthOf s ≡ record { num = 1; den = 1; used = 0 }
+  unfolding lengthOf number
+  no-length = let n : span isDigit s ≡ 0 = span-off isDigit refl s 0 (no-digit (first s) h) in rw (n, lengthOf) (rw (no-sign (first s) h 47 refl, n))
+
+no-behind : (s : List ℕ) → isPlain (first s) ≡ true → behind s ≡ record { tie = false; slur = false; used = 0 }
+unfolding behind
+no-behind [] h = refl
+no-behind (c ∷ s) h = rw (no-sign c h 45 refl, behind) (rw (no-sign c h 41 refl))
+
+pub plain-note : (a : Before) (c : ℕ) (s : List ℕ) → isPlain (first s) ≡ true
+    → noteAs a c s ≡ taken (note (record { step = stepOf c; octave = letterOctave c; mark = a .mark }) (record { num = 1; den = 1; used = 0 }) (record { tie = false; slur = false; used = 0 })) (a .used + 1)
+unfolding noteAs
+plain-note a c s h =
+    let f : octaveOf c s .fine ≡ true = ap (λ (o : Octave). o .fine) (no-marks s h c) in
+    let n : a .used + 1 + 0 + 0 + 0 ≡ a .used + 1 = omega arith in
+    rw (f, noteAs) (rw (no-marks s h c, no-length s h, no-behind s h, n))

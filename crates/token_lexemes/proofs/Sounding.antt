@@ -1,0 +1,159 @@
+-- Notes, by position.
+use Prim.Native.Nat.{ℕ, suc, _+_, _-_, _≤_, _<_}
+use mathlib.Core.Path.{_≡_, sym, ap, _∙_}
+use mathlib.Core.Bool.{true, false}
+use mathlib.Core.List.{List, [], _∷_}
+use native.Mathlib.Omega.{arith}
+use lib.ListN.{length, getD, drop, length-drop, drop-of-length-le}
+use lib.Seq.{drop-drop}
+use Rattle.laws.proofs.Bools.{by-test}
+use Rattle.standard.specs.Pitches.{isLetter, stepOf}
+use Rattle.standard.specs.Bytes.{first}
+use Rattle.standard.specs.Notes as standard
+use Rattle.reader.specs.Lengths.{Length, lengthOf}
+use Rattle.reader.specs.Pitches.{octaveFrom, octaveOf, Before, accidentalOf}
+use Rattle.reader.specs.Sounds.{behind, noteAs, noteAfter, noteOf}
+use Rattle.reader.specs.Tokens.{pitched, tokenAs}
+use Rattle.token_lengths.specs.declared.Suffix.{Suffix}
+use Rattle.token_lengths.specs.Values.{suffixAt}
+use Rattle.text_runs.proofs.Places.{drop-here, first-at}
+use Rattle.text_runs.specs.declared.Behind as runs
+use Rattle.text_runs.specs.Behind.{behindFor}
+use Rattle.token_pitches.specs.Pitches.{noteChar, markFor, markOf, beforeFor, octaveFor}
+use Rattle.token_pitches.specs.declared.Mark.{Mark}
+use Rattle.token_pitches.specs.declared.NoteChar.{NoteChar}
+use Rattle.token_pitches.specs.declared.Octave.the-variants.{At, Out}
+use Rattle.token_pitches.specs.declared.Before as code
+use Rattle.token_pitches.proofs.Octaves.{fine, refused}
+use Rattle.token_pitches.proofs.Walk.{mark-back}
+use Rattle.token_pitches.proofs.InChord.{mark-forth}
+use Rattle.token_lexemes.specs.Lexemes.{isPlain, lexemeFor, cutFor}
+use Rattle.token_lexemes.specs.declared.Lexeme.the-variants.{Note, Nothing, Refused}
+use Rattle.token_lexemes.proofs.Plain.{plain-note}
+
+-- FROM THE LETTER ON
+note-out : (a : Before) (c : ℕ) (s : List ℕ) → octaveOf c s .fine ≡ false → (at : ℕ) → record { lexeme = Refused 12; next = at + (a .used + 1 + length s) } ≡ cutFor at (noteAs a c s)
+unfolding noteAs lexemeFor
+note-out a c s f at = rw (f, noteAs)
+
+note-fine : (a : Before) (c : ℕ) (s : List ℕ) → octaveOf c s .fine ≡ true → (at : ℕ)
+    → record {
+      lexeme = Note (record { step = stepOf c; octave = octaveOf c s .octave; mark = markFor (a .mark) }) (lengthOf (drop (octaveOf c s .used) s) .num) (lengthOf (drop (octaveOf c s .used) s) .den)
+          (behind (drop (octaveOf c s .used + lengthOf (drop (octaveOf c s .used) s) .used) s) .tie) (behind (drop (octaveOf c s .used + lengthOf (drop (octaveOf c s .used) s) .used) s) .slur);
+      next = at + (a .used + 1 + octaveOf c s .used + lengthOf (drop (octaveOf c s .used) s) .used + behind (drop (octaveOf c s .used + lengthOf (drop (octaveOf c s .used) s) .used) s) .used);
+    }
+    ≡ cutFor at (noteAs a c s)
+unfolding noteAs lexemeFor
+note-fine a c s f at = rw (f, noteAs)
+
+module _ (line : List ℕ) (at : ℕ) (h : at < length line) (mark : Mark) (l : NoteChar) (e : l ≡ noteChar (getD line at 0)) where
+  marks : octaveFrom (l .octave) (drop (at + 1) line) ≡ octaveOf (getD line at 0) (drop (at + 1) line)
+  unfolding octaveOf
+  marks = rw e
+
+  pub letter-out : octaveFor (at + 1) (octaveFrom (l .octave) (drop (at + 1) line)) ≡ Out
+      → record { lexeme = Refused 12; next = length line } ≡ cutFor at (noteAs (record { mark = markOf mark; used = 0 }) (getD line at 0) (drop (at + 1) line))
+  letter-out r =
+      let s = drop (at + 1) line in
+      let o = octaveOf (getD line at 0) s in
+      let q : octaveFor (at + 1) o ≡ Out = ap (octaveFor (at + 1)) (sym marks) ∙ r in
+      let n : length line ≡ at + (0 + 1 + length s) = omega (arith, length-drop (at + 1) line) in
+      by-test (o .fine)
+      (λ f. let k = fine (at + 1) o f in let z : _≡_ {A = ℕ} 0 1 = cc in absurd (omega arith))
+      (λ f. ap (λ x. record { lexeme = Refused 12; next = x }) n ∙ note-out (record { mark = markOf mark; used = 0 }) (getD line at 0) s f at)
+
+  -- a letter alone
+  pub letter-plain : isPlain (getD line (at + 1) 0) ≡ true
+      → record { lexeme = Note (record { step = l .step; octave = l .octave; mark = mark }) 1 1 false false; next = at + 1 } ≡ cutFor at (noteAs (record { mark = markOf mark; used = 0 }) (getD line at 0) (drop (at + 1) line))
+  unfolding lexemeFor
+  letter-plain p =
+      let q : isPlain (first (drop (at + 1) line)) ≡ true = ap isPlain (first-at line (at + 1)) ∙ p in
+      let m : mark ≡ markFor (markOf mark) = sym (mark-forth mark) in
+      (λ j. record { lexeme = Note (record { step = e j .step; octave = e j .octave; mark = m j }) 1 1 false false; next = at + 1 })
+      ∙ ap (cutFor at) (sym (plain-note (record { mark = markOf mark; used = 0 }) (getD line at 0) (drop (at + 1) line) q))
+
+  pub letter-in : (octave next : ℕ) (r : octaveFor (at + 1) (octaveFrom (l .octave) (drop (at + 1) line)) ≡ At octave next)
+      (len : Suffix) → len ≡ suffixAt line next → (b : runs.Behind) → b ≡ behindFor (len .next) (behind (drop (len .next) line))
+      → record { lexeme = Note (record { step = l .step; octave = octave; mark = mark }) (len .num) (len .den) (b .tie) (b .slur); next = b .next }
+      ≡ cutFor at (noteAs (record { mark = markOf mark; used = 0 }) (getD line at 0) (drop (at + 1) line))
+  unfolding suffixAt
+  letter-in octave next r len el b eb =
+      let s = drop (at + 1) line in
+      let o = octaveOf (getD line at 0) s in
+      let q : octaveFor (at + 1) o ≡ At octave next = ap (octaveFor (at + 1)) (sym marks) ∙ r in
+      by-test (o .fine)
+      (λ f. let k : At (o .octave) (at + 1 + o .used) ≡ At octave next = sym (fine (at + 1) o f) ∙ q in
+      let a : octave ≡ o .octave = cc in
+      let n : at + 1 + o .used ≡ next = cc in
+      let st : l .step ≡ stepOf (getD line at 0) = ap (λ (x : NoteChar). x .step) e in
+      let m : mark ≡ markFor (markOf mark) = sym (mark-forth mark) in
+      let d : drop next line ≡ drop (o .used) s = ap (λ i. drop i line) (sym n) ∙ sym (drop-drop (o .used) (at + 1) line) in
+      let g : lengthOf (drop next line) ≡ lengthOf (drop (o .used) s) = ap lengthOf d in
+      let len-num : len .num ≡ lengthOf (drop (o .used) s) .num = ap (λ (x : Suffix). x .num) el ∙ ap (λ (x : Length). x .num) g in
+      let len-den : len .den ≡ lengthOf (drop (o .used) s) .den = ap (λ (x : Suffix). x .den) el ∙ ap (λ (x : Length). x .den) g in
+      let len-next : len .next ≡ next + lengthOf (drop (o .used) s) .used = ap (λ (x : Suffix). x .next) el ∙ ap (λ (x : Length). next + x .used) g in
+      let p : at + 1 + (o .used + lengthOf (drop (o .used) s) .used) ≡ len .next = omega arith in
+      let v : drop (len .next) line ≡ drop (o .used + lengthOf (drop (o .used) s) .used) s =
+      ap (λ i. drop i line) (sym p) ∙ sym (drop-drop (o .used + lengthOf (drop (o .used) s) .used) (at + 1) line) in
+      let w : behind (drop (len .next) line) ≡ behind (drop (o .used + lengthOf (drop (o .used) s) .used) s) = ap behind v in
+      let b-tie : b .tie ≡ behind (drop (o .used + lengthOf (drop (o .used) s) .used) s) .tie = ap (λ (x : runs.Behind). x .tie) eb ∙ ap (λ (x : standard.Behind). x .tie) w in
+      let b-slur : b .slur ≡ behind (drop (o .used + lengthOf (drop (o .used) s) .used) s) .slur = ap (λ (x : runs.Behind). x .slur) eb ∙ ap (λ (x : standard.Behind). x .slur) w in
+      let b-next : b .next ≡ len .next + behind (drop (o .used + lengthOf (drop (o .used) s) .used) s) .used = ap (λ (x : runs.Behind). x .next) eb ∙ ap (λ (x : standard.Behind). len .next + x .used) w in
+      let u : b .next ≡ at + (0 + 1 + o .used + lengthOf (drop (o .used) s) .used + behind (drop (o .used + lengthOf (drop (o .used) s) .used) s) .used) = omega arith in
+      (λ j. record { lexeme = Note (record { step = st j; octave = a j; mark = m j }) (len-num j) (len-den j) (b-tie j) (b-slur j); next = u j })
+      ∙ note-fine (record { mark = markOf mark; used = 0 }) (getD line at 0) s f at)
+      (λ f. let k = refused (at + 1) o f in let z : _≡_ {A = ℕ} 0 1 = cc in absurd (omega arith))
+
+-- WITH WHAT STANDS BEFORE IT
+shift : (a : Before) (c : ℕ) (s : List ℕ) (at : ℕ) → cutFor (at + a .used) (noteAs (record { mark = a .mark; used = 0 }) c s) ≡ cutFor at (noteAs a c s)
+shift a c s at =
+    let o = octaveOf c s in
+    by-test (o .fine)
+    (λ f. let l = lengthOf (drop (o .used) s) in
+    let b = behind (drop (o .used + l .used) s) in
+    let n : at + a .used + (0 + 1 + o .used + l .used + b .used) ≡ at + (a .used + 1 + o .used + l .used + b .used) = omega arith in
+    sym (note-fine (record { mark = a .mark; used = 0 }) c s f (at + a .used))
+    ∙ ap (λ x. record { lexeme = Note (record { step = stepOf c; octave = o .octave; mark = markFor (a .mark) }) (l .num) (l .den) (b .tie) (b .slur); next = x }) n
+    ∙ note-fine a c s f at)
+    (λ f. let n : at + a .used + (0 + 1 + length s) ≡ at + (a .used + 1 + length s) = omega arith in
+    sym (note-out (record { mark = a .mark; used = 0 }) c s f (at + a .used)) ∙ ap (λ x. record { lexeme = Refused 12; next = x }) n ∙ note-out a c s f at)
+
+after-end : (a : Before) (s : List ℕ) (at : ℕ) → s ≡ [] → record { lexeme = Nothing; next = at + a .used } ≡ cutFor at (noteAfter a s)
+unfolding noteAfter lexemeFor
+after-end a s at e = rw e
+
+after-other : (a : Before) (s : List ℕ) (at c : ℕ) (t : List ℕ) → s ≡ c ∷ t → isLetter c ≡ false → record { lexeme = Nothing; next = at + a .used + 1 } ≡ cutFor at (noteAfter a s)
+unfolding noteAfter lexemeFor
+after-other a s at c t e f = let n : at + a .used + 1 ≡ at + suc (a .used) = omega arith in rw (e, f, noteAfter) (rw n)
+
+after-letter : (a : Before) (s : List ℕ) (at c : ℕ) (t : List ℕ) → s ≡ c ∷ t → isLetter c ≡ true → cutFor (at + a .used) (noteAs (record { mark = a .mark; used = 0 }) c t) ≡ cutFor at (noteAfter a s)
+unfolding noteAfter
+after-letter a s at c t e f = rw (e, f, noteAfter) (shift a c t at)
+
+module _ (line : List ℕ) (at : ℕ) (b : code.Before) (e : b ≡ beforeFor at (accidentalOf (drop at line))) where
+  there : drop (accidentalOf (drop at line) .used) (drop at line) ≡ drop (b .next) line
+  there = drop-drop (accidentalOf (drop at line) .used) at line ∙ ap (λ i. drop i line) (sym (ap (λ (x : code.Before). x .next) e))
+
+  place : b .next ≡ at + accidentalOf (drop at line) .used
+  place = ap (λ (x : code.Before). x .next) e
+
+  pub note-ends : length line ≤ b .next → record { lexeme = Nothing; next = b .next } ≡ cutFor at (tokenAs pitched (drop at line))
+  unfolding tokenAs noteOf
+  note-ends h =
+      ap (λ x. record { lexeme = Nothing; next = x }) place
+      ∙ after-end (accidentalOf (drop at line)) (drop (accidentalOf (drop at line) .used) (drop at line)) at (there ∙ drop-of-length-le line h)
+
+  module _ (h : b .next < length line) where
+    pub note-other : isLetter (getD line (b .next) 0) ≡ false → record { lexeme = Nothing; next = b .next + 1 } ≡ cutFor at (tokenAs pitched (drop at line))
+    unfolding tokenAs noteOf
+    note-other f =
+        ap (λ x. record { lexeme = Nothing; next = x + 1 }) place
+        ∙ after-other (accidentalOf (drop at line)) (drop (accidentalOf (drop at line) .used) (drop at line)) at (getD line (b .next) 0) (drop (b .next + 1) line) (there ∙ drop-here line (b .next) h) f
+
+    pub note-letter : isLetter (getD line (b .next) 0) ≡ true
+        → cutFor (b .next) (noteAs (record { mark = markOf (b .mark); used = 0 }) (getD line (b .next) 0) (drop (b .next + 1) line)) ≡ cutFor at (tokenAs pitched (drop at line))
+    unfolding tokenAs noteOf
+    note-letter f =
+        let m : markOf (b .mark) ≡ accidentalOf (drop at line) .mark = ap (λ (x : code.Before). markOf (x .mark)) e ∙ mark-back (accidentalOf (drop at line) .mark) in
+        (λ j. cutFor (place j) (noteAs (record { mark = m j; used = 0 }) (getD line (b .next) 0) (drop (b .next + 1) line)))
+        ∙ after-letter (accidentalOf (drop at line)) (drop (accidentalOf (drop at line) .used) (drop at line)) at (getD line (b .next) 0) (drop (b .next + 1) line) (there ∙ drop-here line (b .next) h) f

@@ -1,0 +1,37 @@
+-- `token_lexemes::quoted_text` meets its contract.
+use mathlib.Core.Path.{_≡_}
+use native.Mathlib.Omega.{arith}
+use Prim.Native.Nat.{_+_}
+use lib.ListN.{length, drop, length-drop}
+use Rattle.reader.specs.Token.{quoted, taken}
+use Rattle.reader.specs.Tokens.{tokenAs}
+use Rattle.token_lexemes.specs.Lexemes.{lexemeFor}
+use Rattle.token_lexemes.proofs.Closed.{closed, unclosed}
+use borrow.Author.Needs.{needs}
+use Rattle.token_lexemes.proofs.quoted_text.Statement.{statement}
+use Rattle.token_lexemes.proofs.quoted_text.Tie as tie
+
+add-find : tie.Need-add-find
+add-find c = search needs
+
+find-requires : tie.Need-find-requires
+find-requires c κs = search needs
+
+add-t8 : tie.Need-add-t8
+add-t8 c = search needs
+
+returns : tie.Need-returns
+unfolding tokenAs lexemeFor
+returns c =
+    let a = c .before .before .before .args in
+    closed (a .line .now) (a .at) 34 (c .before .find .result) (c .before .before .before .pre) (c .before .find .ensures) quoted (taken quoted (length (drop (a .at) (a .line .now)))) (c .if1 .taken)
+
+returns-2 : tie.Need-returns-2
+unfolding tokenAs lexemeFor
+returns-2 c =
+    let a = c .before .before .before .args in
+    let n : length (a .line .now) ≡ a .at + length (drop (a .at) (a .line .now)) = rw (length-drop (a .at) (a .line .now)) (omega (arith, c .before .before .before .pre)) in
+    rw n (unclosed (a .line .now) (a .at) 34 (c .before .find .result) (c .before .before .before .pre) (c .before .find .ensures) quoted (taken quoted (length (drop (a .at) (a .line .now)))) (c .if1 .left))
+
+pub quoted-text-spec : {M : Type 1} → statement M
+quoted-text-spec = tie.close (tie.spec add-find find-requires add-t8 returns returns-2)

@@ -1,0 +1,33 @@
+-- `token_lexemes::tuplet_or_slur` meets its contract.
+use mathlib.Core.Path.{sym, _∙_}
+use Rattle.token_lexemes.proofs.Ratio.{slur-instead, tuplet-read}
+use borrow.Author.Needs.{needs}
+use Rattle.token_lexemes.proofs.tuplet_or_slur.Statement.{statement}
+use Rattle.token_lexemes.proofs.tuplet_or_slur.Tie as tie
+
+parse-abc-tuplet-requires : tie.Need-parse-abc-tuplet-requires
+parse-abc-tuplet-requires c κs = search needs
+
+enum-known-actual : tie.Need-enum-known-actual
+enum-known-actual c = search needs
+
+enum-told : tie.Need-enum-told
+enum-told c = search needs
+
+add-t9 : tie.Need-add-t9
+add-t9 c = search needs
+
+returns : tie.Need-returns
+returns c =
+    let a = c .before .before .before .before .args in
+    slur-instead (a .line .now) (a .at) (sym (c .before .before .parse-abc-tuplet .ensures) ∙ c .enum-told .given .1)
+
+returns-2 : tie.Need-returns-2
+returns-2 c =
+    let a = c .before .before .before .before .before .args in
+    tuplet-read (a .line .now) (a .at) _ _ _ _ (sym (c .before .before .before .parse-abc-tuplet .ensures) ∙ c .before .actual .given .1)
+
+pub tuplet-or-slur-spec : {M : Type 1} → statement M
+tuplet-or-slur-spec =
+    tie.close
+    (tie.spec parse-abc-tuplet-requires enum-known-actual enum-told add-t9 returns returns-2)

@@ -1,0 +1,33 @@
+-- `token_lexemes::volta` meets its contract.
+use mathlib.Core.Path.{sym, _∙_}
+use Rattle.token_lexemes.proofs.Ending.{no-passes, passes-read}
+use borrow.Author.Needs.{needs}
+use Rattle.token_lexemes.proofs.volta.Statement.{statement}
+use Rattle.token_lexemes.proofs.volta.Tie as tie
+
+add-parse-passes : tie.Need-add-parse-passes
+add-parse-passes c = search needs
+
+parse-passes-requires : tie.Need-parse-passes-requires
+parse-passes-requires c κs = search needs
+
+enum-known-first : tie.Need-enum-known-first
+enum-known-first c = search needs
+
+enum-told : tie.Need-enum-told
+enum-told c = search needs
+
+returns : tie.Need-returns
+returns c =
+    let s = c .before .before .before .before in
+    no-passes (s .args .line .now) (s .args .at) (s .pre) (sym (c .before .before .parse-passes .ensures) ∙ c .enum-told .given .1)
+
+returns-2 : tie.Need-returns-2
+returns-2 c =
+    let s = c .before .before .before .before .before in
+    passes-read (s .args .line .now) (s .args .at) (s .pre) _ _ _ (sym (c .before .before .before .parse-passes .ensures) ∙ c .before .first .given .1)
+
+pub volta-spec : {M : Type 1} → statement M
+volta-spec =
+    tie.close
+    (tie.spec add-parse-passes parse-passes-requires enum-known-first enum-told returns returns-2)

@@ -1,0 +1,305 @@
+// Tokens as they stand in a music line, each read by a function of its own: all but what a `[` begins with.
+ghost use mathlib.Core.Path.{_≡_};
+ghost use Prim.Native.Nat.{suc, _+_, _<_};
+ghost use lib.Dec.{eqb};
+ghost use lib.ListN.{length, drop, getD};
+ghost use Rattle.laws.specs.Lists.{span};
+ghost use Rattle.reader.specs.Lengths.{lengthOf};
+ghost use Rattle.reader.specs.Token.{decoration, skipped, taken};
+ghost use Rattle.reader.specs.PassLists.{voltaOf};
+ghost use Rattle.reader.specs.Sounds.{noteAs};
+ghost use Rattle.reader.specs.Tokens.{closedBy, brokenOf, quote, paren, bars, pitched, tokenAs};
+ghost use Rattle.token_pitches.specs.Pitches.{markOf};
+ghost use Rattle.token_lexemes.specs.Lexemes.{isPlain, cutFor, restFor};
+use token_marks::Barline;
+use token_pitches::Mark;
+use token_pitches::Pitch;
+
+// A token with its length as written, num / den of the unit. A chord's pitches are read again from `place` on (`next_chord_pitch`): no array in an enum.
+pub enum Lexeme {
+    Space,
+    Overlay,
+    Quoted,
+    Broken {
+        up: bool,
+        count: u8,
+    },
+    Tuplet {
+        actual: u8,
+        normal: u8,
+        count: u64,
+    },
+    Slur,
+    GraceOpen,
+    GraceClose,
+    Decoration,
+    Barline {
+        right: Barline,
+        left: Barline,
+        opens: bool,
+    },
+    Volta {
+        first: u8,
+        passes: u32,
+    },
+    Unit(u32),
+    Meter {
+        top: u8,
+        bottom: u8,
+    },
+    Key {
+        fifths: u8,
+        minor: bool,
+    },
+    Field,
+    Chord {
+        place: usize,
+        count: usize,
+        num: u32,
+        den: u32,
+        tie: bool,
+        slur: bool,
+    },
+    Rest {
+        kind: u8,
+        num: u32,
+        den: u32,
+    },
+    Note {
+        pitch: Pitch,
+        num: u32,
+        den: u32,
+        tie: bool,
+        slur: bool,
+    },
+    Nothing,
+    Skipped,
+    Refused(u8),
+}
+
+// A token and the position after it.
+pub struct Cut {
+    pub lexeme: Lexeme,
+    pub next: usize,
+}
+
+// A quoted text, or, unclosed, the rest of the line.
+pub fn quoted_text(line: &[u8], at: usize) -> Cut
+    requires { ⌜ at < length (now line) ⌝ }
+    ensures { λ r. ⌜ r ≡ cutFor at (tokenAs quote (drop at (now (line .entry)))) ⌝ }
+{
+    let close = text_runs::find(line, at + 1, line.len(), b'"');
+    if close < line.len() {
+        return Cut {
+            lexeme: Lexeme::Quoted,
+            next: close + 1,
+        };
+    }
+    Cut {
+        lexeme: Lexeme::Quoted,
+        next: line.len(),
+    }
+}
+
+// `!name!` or `+name+`; an unclosed `b` means nothing.
+pub fn decoration(line: &[u8], at: usize, b: u8) -> Cut
+    requires { ⌜ at < length (now line) ⌝ }
+    ensures { λ r. ⌜ r ≡ cutFor at (closedBy (λ c. eqb c b) decoration (drop 1 (drop at (now (line .entry)))) (taken skipped 1)) ⌝ }
+{
+    let close = text_runs::find(line, at + 1, line.len(), b);
+    if close < line.len() {
+        return Cut {
+            lexeme: Lexeme::Decoration,
+            next: close + 1,
+        };
+    }
+    Cut {
+        lexeme: Lexeme::Skipped,
+        next: at + 1,
+    }
+}
+
+// Broken rhythm: the equal signs `b` from `at` on, 255 at most (refusal 13).
+pub fn broken(line: &[u8], at: usize, b: u8, up: bool) -> Cut
+    requires { ⌜ at < length (now line) ⌝ }
+    ensures { λ r. ⌜ r ≡ cutFor at (brokenOf up (suc (span (λ c. eqb c b) (drop 1 (drop at (now (line .entry)))))) (drop at (now (line .entry)))) ⌝ }
+{
+    let end = text_runs::run_end(line, at + 1, b);
+    let count = end - at;
+    if 255 < count {
+        return Cut {
+            lexeme: Lexeme::Refused(13),
+            next: line.len(),
+        };
+    }
+    Cut {
+        lexeme: Lexeme::Broken {
+            up,
+            count: count as u8,
+        },
+        next: end,
+    }
+}
+
+// A tuplet, or a slur start instead.
+pub fn tuplet_or_slur(line: &[u8], at: usize) -> Cut
+    requires { ⌜ at < length (now line) ⌝ }
+    ensures { λ r. ⌜ r ≡ cutFor at (tokenAs paren (drop at (now (line .entry)))) ⌝ }
+{
+    let token_marks::Tuplet::Read {
+        actual,
+        normal,
+        count,
+        next,
+    } = token_marks::parse_abc_tuplet(line, at)
+    else {
+        return Cut {
+            lexeme: Lexeme::Slur,
+            next: at + 1,
+        };
+    };
+    Cut {
+        lexeme: Lexeme::Tuplet {
+            actual,
+            normal,
+            count,
+        },
+        next,
+    }
+}
+
+// A barline, and whether a measure opens behind it; a lone `:` means nothing.
+pub fn bar_line(line: &[u8], at: usize) -> Cut
+    requires { ⌜ at < length (now line) ⌝ }
+    ensures { λ r. ⌜ r ≡ cutFor at (tokenAs bars (drop at (now (line .entry)))) ⌝ }
+{
+    let token_marks::Bar::Read { right, left, next } = token_marks::parse_barline(line, at) else {
+        return Cut {
+            lexeme: Lexeme::Skipped,
+            next: at + 1,
+        };
+    };
+    let opens = text_numbers::byte_at(line, next) != b']';
+    Cut {
+        lexeme: Lexeme::Barline { right, left, opens },
+        next,
+    }
+}
+
+// An ending with its passes, or refusal 14.
+pub fn volta(line: &[u8], at: usize) -> Cut
+    requires { ⌜ at < length (now line) ⌝ }
+    ensures { λ r. ⌜ r ≡ cutFor at (voltaOf (drop (at + 1) (now (line .entry)))) ⌝ }
+{
+    let token_passes::Passes::Read { first, bits, next } = token_passes::parse_passes(line, at + 1)
+    else {
+        return Cut {
+            lexeme: Lexeme::Refused(14),
+            next: line.len(),
+        };
+    };
+    Cut {
+        lexeme: Lexeme::Volta {
+            first,
+            passes: bits,
+        },
+        next,
+    }
+}
+
+// A rest and its length.
+pub fn rest(line: &[u8], at: usize, kind: u8) -> Cut
+    requires { ⌜ at < length (now line) ⌝ }
+    ensures { λ r. ⌜ r ≡ restFor at kind (lengthOf (drop (at + 1) (now (line .entry)))) ⌝ }
+{
+    let length = token_lengths::parse_duration_suffix(line, at + 1);
+    Cut {
+        lexeme: Lexeme::Rest {
+            kind,
+            num: length.num,
+            den: length.den,
+        },
+        next: length.next,
+    }
+}
+
+// Behind a note's letter `b` ends the note: it is none of `'`, `)`, `,`, `-`, `/` and the digits.
+pub fn is_plain(b: u8) -> bool
+    ensures { λ r. ⌜ r ≡ isPlain b ⌝ }
+{
+    b < 39 || 57 < b
+}
+
+// A note from its letter on, which stands at `at`, with the accidental before it; or refusal 12. Most are a letter alone.
+fn note_from_letter(line: &[u8], at: usize, mark: Mark) -> Cut
+    requires { ⌜ at < length (now line) ⌝ }
+    ensures { λ r. ⌜ r ≡ cutFor at (noteAs (record { mark = markOf mark; used = 0 }) (getD (now (line .entry)) at 0) (drop (at + 1) (now (line .entry)))) ⌝ }
+{
+    let letter = token_pitches::abc_note_char(line[at]);
+    if is_plain(text_numbers::byte_at(line, at + 1)) {
+        return Cut {
+            lexeme: Lexeme::Note {
+                pitch: Pitch {
+                    step: letter.step,
+                    octave: letter.octave,
+                    mark,
+                },
+                num: 1,
+                den: 1,
+                tie: false,
+                slur: false,
+            },
+            next: at + 1,
+        };
+    }
+    let token_pitches::Octave::At {
+        octave,
+        next: after_octave,
+    } = token_pitches::octave_marks(line, at + 1, letter.octave)
+    else {
+        return Cut {
+            lexeme: Lexeme::Refused(12),
+            next: line.len(),
+        };
+    };
+    let length = token_lengths::parse_duration_suffix(line, after_octave);
+    let after_length = length.next;
+    let behind = text_runs::note_annotations(line, after_length);
+    Cut {
+        lexeme: Lexeme::Note {
+            pitch: Pitch {
+                step: letter.step,
+                octave,
+                mark,
+            },
+            num: length.num,
+            den: length.den,
+            tie: behind.tie,
+            slur: behind.slur,
+        },
+        next: behind.next,
+    }
+}
+
+// A note with its accidentals, which take the byte behind them even if that is no letter.
+pub fn note(line: &[u8], at: usize) -> Cut
+    requires { ⌜ at < length (now line) ⌝ }
+    ensures { λ r. ⌜ r ≡ cutFor at (tokenAs pitched (drop at (now (line .entry)))) ⌝ }
+{
+    let before = token_pitches::accidental_before(line, at);
+    let mark = before.mark;
+    let place = before.next;
+    if line.len() <= place {
+        return Cut {
+            lexeme: Lexeme::Nothing,
+            next: place,
+        };
+    }
+    if token_pitches::is_letter(line[place]) {
+        return note_from_letter(line, place, mark);
+    }
+    Cut {
+        lexeme: Lexeme::Nothing,
+        next: place + 1,
+    }
+}

@@ -1,0 +1,345 @@
+-- THE LYRICS IN THE ORDER OF THE READING: what the rows give is layout's section.
+use Prim.Native.Nat.{ℕ, zero, suc, _+_, _-_, _*_, _/_, _^_, _≤_, _<_}
+use mathlib.Core.Path.{_≡_, refl, sym, ap, subst, _∙_}
+use mathlib.Core.Bool.{Bool, true, false, cond, _&&_}
+use mathlib.Core.List.{List, [], _∷_, _++_, map}
+use native.Mathlib.Decide.{decLt}
+use native.Mathlib.Nat.{add-zero}
+use native.Mathlib.Omega.{arith}
+use lib.Dec.{eqb}
+use borrow.Author.Tests.{eq-eqb, ne-eqb}
+use lib.Seq.{drop-drop}
+use lib.ListN.{length, getD, take, drop, length-append, length-take, length-drop, take-append-drop, drop-of-length-le, List·getD-eq-default}
+use Rattle.laws.specs.Lists.{All, cat, sum}
+use Rattle.laws.specs.Bytes.{part, splice, encAll, le32}
+use Rattle.laws.proofs.Bools.{by-test, and-both, and-no-left, and-no-right}
+use Rattle.laws.proofs.Lists.{map-map, drop-next, cat-singles, keep-yes, keep-no, All-left, All-right}
+use Rattle.laws.proofs.Splices.{lent-back}
+use Rattle.laws.proofs.Numbers.{length-little}
+use Rattle.laws.proofs.Rows.{encAll-none, encAll-append, length-encAll}
+use Rattle.standard.specs.Notes.{isSounded}
+use Rattle.reader.specs.State.{Note}
+use Rattle.reader.specs.Lyrics.{Syllable}
+use Rattle.reader.specs.Codes.{bit}
+use Rattle.reader.specs.Records.{isSung, lyricBytes, lyricsOf, section}
+use Rattle.part_layout.specs.Log.{Head}
+use Rattle.part_layout.specs.Sections as layout
+use Rattle.part_layout.specs.Sections.{notesIn, ofVoice, inOrder}
+use Rattle.part_rows.specs.Table.{Table}
+use Rattle.part_rows.specs.Encoded.{noteRow}
+use Rattle.part_rows.proofs.Bytes.{length-note}
+use Rattle.part_measures.specs.Heads.{headRow}
+use Rattle.part_measures.proofs.Heads.{length-head}
+use Rattle.store_sections.specs.declared.Wrote.{Wrote}
+use Rattle.store_sections.specs.declared.Wrote.the-variants.{To, NoRoom}
+use Rattle.store_sections.specs.Writes.{WroteIs}
+use Rattle.store_sections.proofs.Writes.{count-last}
+use Rattle.write_notes.specs.Out.{noteCount, NotesIn}
+use Rattle.write_notes.proofs.Tables.{table-rest, table-take, table-drop, table-first}
+use Rattle.write_notes.proofs.Out.{wrote-as, kind-code, bit-le, byte-kind, byte-voice, count-out}
+use Rattle.write_notes.proofs.Sung.{sungIn, lyrics-none, lyrics-passed, lyrics-taken, lyrics-measure}
+use Rattle.write_pitches.specs.Out.{musicOut, PitchesIn}
+use Rattle.write_pitches.proofs.Out.{music-section}
+use Rattle.write_syllables.specs.Pieces.{piece, pieces}
+use Rattle.write_syllables.proofs.Pieces.{length-record}
+use Rattle.write_lyrics.specs.declared.Passed.{Passed}
+use Rattle.write_lyrics.specs.declared.Passed.the-variants as P
+use Rattle.write_lyrics.specs.Out.{leadRow, sungRow, sungRows, rowsOut, Says, PassedIs, measuresOut, countOf, sectionOut}
+
+-- A ROW, as the code asks for it
+module _ (s : List ℕ) (p : ℕ) where
+  pub row-other : (getD s (p + 12) 0 ≡ 0 → ⊥) → sungRow s p ≡ false
+  unfolding sungRow leadRow
+  row-other h = and-no-left _ _ (ne-eqb _ 0 h)
+
+  pub row-rest : (getD s p 0 ≡ 0 → ⊥) → sungRow s p ≡ false
+  unfolding sungRow
+  row-rest h = and-no-right (leadRow s p) _ (ne-eqb _ 0 h)
+
+  pub row-sung : getD s (p + 12) 0 ≡ 0 → getD s p 0 ≡ 0 → sungRow s p ≡ true
+  unfolding sungRow leadRow
+  row-sung h g = and-both _ _ (eq-eqb _ 0 h) (eq-eqb _ 0 g)
+
+-- STEPS, as the loops take them
+sung-step : (s : List ℕ) (p k : ℕ) → 0 < k → sungRows s p k ≡ bit (sungRow s p) 1 + sungRows s (p + 16) (k - 1)
+unfolding sungRows
+sung-step s p zero h = absurd (omega arith)
+sung-step s p (suc k) h = let e : suc k - 1 ≡ k = omega arith in rw e
+
+pub sung-other : (s : List ℕ) (p k : ℕ) → 0 < k → sungRow s p ≡ false → sungRows s p k ≡ sungRows s (p + 16) (k - 1)
+unfolding bit
+sung-other s p k h e = sung-step s p k h ∙ rw e (omega arith)
+
+pub sung-one : (s : List ℕ) (p k : ℕ) → 0 < k → sungRow s p ≡ true → sungRows s p k ≡ 1 + sungRows s (p + 16) (k - 1)
+unfolding bit
+sung-one s p k h e = sung-step s p k h ∙ rw e
+
+pub sung-none : (s : List ℕ) (p k : ℕ) → k ≡ 0 → sungRows s p k ≡ 0
+unfolding sungRows
+sung-none s p k h = rw h
+
+pub sung-low : (s : List ℕ) (p k : ℕ) → sungRows s p k ≤ k
+unfolding sungRows
+sung-low s p zero = omega arith
+sung-low s p (suc k) = omega (arith, bit-le (sungRow s p) 1, sung-low s (p + 16) k)
+
+-- what the rows of a measure say, where the answer is known
+pub passed-to : {d bs e : List ℕ} {j : ℕ} {r : Passed} → PassedIs d bs e j r → {n q : ℕ} → r ≡ P.To n q → WroteIs d bs e (To n) × (q ≡ j)
+passed-to {d} {bs} {e} {j} w p = subst (Says d bs e j) p (w .says)
+
+pub passed-none : {d bs e : List ℕ} {j : ℕ} {r : Passed} → PassedIs d bs e j r → r ≡ P.NoRoom → WroteIs d bs e NoRoom
+passed-none {d} {bs} {e} {j} w p = subst (Says d bs e j) p (w .says)
+
+module _ (b : Bool) (ws : List (List Syllable)) (s : List ℕ) where
+  rows-step : (i j p k : ℕ) → 0 < k
+      → rowsOut b ws s i j p k ≡ cond (sungRow s p) (pieces b i (getD ws j [])) [] ++ rowsOut b ws s (i + bit (leadRow s p) 1) (j + bit (sungRow s p) 1) (p + 16) (k - 1)
+  unfolding rowsOut
+  rows-step i j p zero h = absurd (omega arith)
+  rows-step i j p (suc k) h = let e : suc k - 1 ≡ k = omega arith in rw e
+
+  -- of another voice
+  pub rows-other : (i j p k : ℕ) → 0 < k → (getD s (p + 12) 0 ≡ 0 → ⊥) → rowsOut b ws s i j p k ≡ rowsOut b ws s i j (p + 16) (k - 1)
+  unfolding bit leadRow
+  rows-other i j p k h n = rows-step i j p k h ∙ rw (row-other s p n, ne-eqb _ 0 n, add-zero i, add-zero j)
+
+  -- a rest
+  pub rows-rest : (i j p k : ℕ) → 0 < k → getD s (p + 12) 0 ≡ 0 → (getD s p 0 ≡ 0 → ⊥) → rowsOut b ws s i j p k ≡ rowsOut b ws s (i + 1) j (p + 16) (k - 1)
+  unfolding bit leadRow
+  rows-rest i j p k h v n = rows-step i j p k h ∙ rw (row-rest s p n, eq-eqb _ 0 v, add-zero j)
+
+  -- one that is sung
+  pub rows-sung : (i j p k : ℕ) → 0 < k → getD s (p + 12) 0 ≡ 0 → getD s p 0 ≡ 0
+      → rowsOut b ws s i j p k ≡ pieces b i (getD ws j []) ++ rowsOut b ws s (i + 1) (j + 1) (p + 16) (k - 1)
+  unfolding bit leadRow
+  rows-sung i j p k h v n = rows-step i j p k h ∙ rw (row-sung s p v n, eq-eqb _ 0 v)
+
+  pub rows-none : (i j p k : ℕ) → k ≡ 0 → rowsOut b ws s i j p k ≡ []
+  unfolding rowsOut
+  rows-none i j p k h = rw h
+
+  pub measures-step : (i j h p n k q : ℕ) → 0 < n → k ≡ noteCount s h → q ≡ sungRows s p k
+      → measuresOut b ws s i j h p n ≡ rowsOut b ws s i j p k ++ measuresOut b ws s (i + k) (j + q) (h + 28) (p + 16 * k) (n - 1)
+  unfolding measuresOut
+  measures-step i j h p zero k q l e f = absurd (omega arith)
+  measures-step i j h p (suc n) k q l e f = let g : suc n - 1 ≡ n = omega arith in rw (g, f, e)
+
+  pub measures-none : (i j h p n : ℕ) → n ≡ 0 → measuresOut b ws s i j h p n ≡ []
+  unfolding measuresOut
+  measures-none i j h p n l = rw l
+
+-- WHAT IS WRITTEN FOR THE LYRICS
+abbrev pub out : Bool → ℕ × Syllable → List ℕ
+out b x = piece b (x .0) (x .1)
+
+pieces-out : (b : Bool) (i : ℕ) (ys : List Syllable) → pieces b i ys ≡ encAll (out b) (map (λ y. (i, y)) ys)
+unfolding pieces encAll
+pieces-out b i ys = ap cat (sym (map-map (λ y. (i, y)) (out b) ys))
+
+lyrics-nil : (i : ℕ) (ws : List (List Syllable)) → lyricsOf i [] ws ≡ []
+unfolding lyricsOf
+lyrics-nil i ws = refl
+
+-- a note that takes the next syllables, if there are any
+lyrics-next : (i j : ℕ) (x : ℕ × Note) (xs : List (ℕ × Note)) (ws : List (List Syllable)) → isSung x ≡ true
+    → lyricsOf i (x ∷ xs) (drop j ws) ≡ map (λ y. (i, y)) (getD ws j []) ++ lyricsOf (i + 1) xs (drop (j + 1) ws)
+lyrics-next i j x xs ws e = go (decLt j (length ws))
+  where
+    one : suc i ≡ i + 1
+    one = omega arith
+
+    go : Dec (j < length ws) → lyricsOf i (x ∷ xs) (drop j ws) ≡ map (λ y. (i, y)) (getD ws j []) ++ lyricsOf (i + 1) xs (drop (j + 1) ws)
+    go (yes l) =
+        ap (lyricsOf i (x ∷ xs)) (drop-next ws j [] l) ∙ lyrics-taken i x xs (getD ws j []) (drop (j + 1) ws) e
+        ∙ ap (λ (k : ℕ). map (λ y. (i, y)) (getD ws j []) ++ lyricsOf k xs (drop (j + 1) ws)) one
+    go (no l) =
+        let n : length ws ≤ j = omega arith in
+        let a : drop j ws ≡ [] = drop-of-length-le ws n in
+        let m : length ws ≤ j + 1 = omega arith in
+        let b : drop (j + 1) ws ≡ [] = drop-of-length-le ws m in
+        ap (lyricsOf i (x ∷ xs)) a ∙ lyrics-none i (x ∷ xs)
+        ∙ sym ((λ k. map (λ y. (i, y)) (List·getD-eq-default ws [] {n = j} n k) ++ lyricsOf (i + 1) xs (b k)) ∙ lyrics-none (i + 1) xs)
+
+-- A ROW OF A TABLE
+module _ (s : List ℕ) (p : ℕ) (x : ℕ × Note) (xs : List (ℕ × Note)) (t : Table noteRow 16 s p (x ∷ xs)) where
+  row : part s p 16 ≡ noteRow x
+  row = let place : p + 16 * 0 ≡ p = omega arith in ap (λ (k : ℕ). part s k 16) (sym place) ∙ table-first noteRow 16 length-note x xs t
+
+  behind : Table noteRow 16 s (p + 16) xs
+  behind = table-rest noteRow 16 length-note (x ∷ []) xs (p + 16) (omega arith) t
+
+  lead-is : leadRow s p ≡ eqb (x .0) 0
+  unfolding leadRow
+  lead-is = ap (λ (k : ℕ). eqb k 0) (byte-voice s p x row)
+
+  sung-is : sungRow s p ≡ isSung x
+  unfolding sungRow isSung
+  sung-is = (λ i. lead-is i && eqb (byte-kind s p x row i) 0) ∙ ap (λ (c : Bool). eqb (x .0) 0 && c) (kind-code (x .1 .kind))
+
+-- A NOTE of another voice, a rest, and one that is sung
+pub note-case {ℓ} : {P : Type ℓ} (x : ℕ × Note) → (eqb (x .0) 0 ≡ false → isSung x ≡ false → P) → (eqb (x .0) 0 ≡ true → isSung x ≡ false → P) → (eqb (x .0) 0 ≡ true → isSung x ≡ true → P) → P
+unfolding isSung
+note-case x other quiet sung =
+    let a = eqb (x .0) 0 in
+    let b = isSounded (x .1 .kind) in
+    by-test a (λ v. by-test b (λ k. sung v (and-both a b v k)) (λ k. quiet v (and-no-right a b k))) (λ v. other v (and-no-left a b v))
+
+voice-own : (x : ℕ × Note) (xs : List (ℕ × Note)) → eqb (x .0) 0 ≡ true → ofVoice 0 (x ∷ xs) ≡ x ∷ ofVoice 0 xs
+unfolding ofVoice
+voice-own x xs e = keep-yes _ x xs e
+
+voice-other : (x : ℕ × Note) (xs : List (ℕ × Note)) → eqb (x .0) 0 ≡ false → ofVoice 0 (x ∷ xs) ≡ ofVoice 0 xs
+unfolding ofVoice
+voice-other x xs e = keep-no _ x xs e
+
+-- how many are sung
+bit-yes : {b : Bool} (n : ℕ) → b ≡ true → bit b 1 + n ≡ suc n
+unfolding bit
+bit-yes n e = rw e (omega arith)
+
+bit-no : {b : Bool} (n : ℕ) → b ≡ false → bit b 1 + n ≡ n
+unfolding bit
+bit-no n e = rw e (omega arith)
+
+sung-out : (s : List ℕ) (p : ℕ) (xs : List (ℕ × Note)) → Table noteRow 16 s p xs → sungRows s p (length xs) ≡ sungIn (ofVoice 0 xs)
+unfolding sungRows ofVoice
+sung-out s p [] t = refl
+sung-out s p (x ∷ xs) t =
+    let ih = sung-out s (p + 16) xs (behind s p x xs t) in
+    let e = sung-is s p x xs t in
+    note-case x (λ v n. bit-no _ (e ∙ n) ∙ ih ∙ ap sungIn (sym (voice-other x xs v)))
+    (λ v n. bit-no _ (e ∙ n) ∙ ih ∙ ap length (sym (keep-no isSung x (ofVoice 0 xs) n)) ∙ ap sungIn (sym (voice-own x xs v)))
+    (λ v y. bit-yes _ (e ∙ y) ∙ ap suc ih ∙ ap length (sym (keep-yes isSung x (ofVoice 0 xs) y)) ∙ ap sungIn (sym (voice-own x xs v)))
+
+-- ONE MEASURE
+module _ (b : Bool) (ws : List (List Syllable)) (s : List ℕ) where
+  abbrev shown : ℕ → ℕ → List (ℕ × Note) → List ℕ
+  shown i j xs = encAll (out b) (lyricsOf i xs (drop j ws))
+
+  shown-passed : (i j : ℕ) (x : ℕ × Note) (xs : List (ℕ × Note)) → isSung x ≡ false → shown (i + 1) j xs ≡ shown i j (x ∷ xs)
+  shown-passed i j x xs n =
+      let one : i + 1 ≡ suc i = omega arith in
+      ap (λ (k : ℕ). shown k j xs) one ∙ ap (encAll (out b)) (sym (lyrics-passed i x xs (drop j ws) n))
+
+  shown-next : (i j : ℕ) (x : ℕ × Note) (xs : List (ℕ × Note)) → isSung x ≡ true → pieces b i (getD ws j []) ++ shown (i + 1) (j + 1) xs ≡ shown i j (x ∷ xs)
+  shown-next i j x xs y =
+      ap (λ (l : List ℕ). l ++ shown (i + 1) (j + 1) xs) (pieces-out b i (getD ws j []))
+      ∙ sym (encAll-append (out b) (map (λ y. (i, y)) (getD ws j [])) (lyricsOf (i + 1) xs (drop (j + 1) ws)))
+      ∙ ap (encAll (out b)) (sym (lyrics-next i j x xs ws y))
+
+  -- the rest of the rows, by what the first is
+  after : (i j p k : ℕ) (u v : Bool) → leadRow s p ≡ u → sungRow s p ≡ v
+      → rowsOut b ws s i j p (suc k) ≡ cond v (pieces b i (getD ws j [])) [] ++ rowsOut b ws s (i + bit u 1) (j + bit v 1) (p + 16) k
+  unfolding rowsOut
+  after i j p k u v e f = λ m. cond (f m) (pieces b i (getD ws j [])) [] ++ rowsOut b ws s (i + bit (e m) 1) (j + bit (f m) 1) (p + 16) k
+
+  rows-out : (i j p : ℕ) (xs : List (ℕ × Note)) → Table noteRow 16 s p xs → rowsOut b ws s i j p (length xs) ≡ shown i j (ofVoice 0 xs)
+  unfolding rowsOut ofVoice bit
+  rows-out i j p [] t = sym (ap (encAll (out b)) (lyrics-nil i (drop j ws)) ∙ encAll-none (out b))
+  rows-out i j p (x ∷ xs) t =
+      let u = lead-is s p x xs t in
+      let v = sung-is s p x xs t in
+      let ih : (i j : ℕ) → rowsOut b ws s i j (p + 16) (length xs) ≡ shown i j (ofVoice 0 xs) = λ i j. rows-out i j (p + 16) xs (behind s p x xs t) in
+      note-case x (λ e n. after i j p (length xs) false false (u ∙ e) (v ∙ n) ∙ rw (add-zero i, add-zero j) (ih i j ∙ ap (shown i j) (sym (voice-other x xs e))))
+      (λ e n. after i j p (length xs) true false (u ∙ e) (v ∙ n) ∙ rw (add-zero j) (ih (i + 1) j ∙ shown-passed i j x (ofVoice 0 xs) n ∙ ap (shown i j) (sym (voice-own x xs e))))
+      (λ e y. after i j p (length xs) true true (u ∙ e) (v ∙ y) ∙ ap (λ (l : List ℕ). pieces b i (getD ws j []) ++ l) (ih (i + 1) (j + 1)) ∙ shown-next i j x (ofVoice 0 xs) y
+      ∙ ap (shown i j) (sym (voice-own x xs e)))
+
+  -- ALL MEASURES
+  measures-out : (i j h p : ℕ) (ms : List Head) (log : List (ℕ × Note)) → Table headRow 28 s h ms → Table noteRow 16 s p log → All (λ (m : Head). length (m .counts) ≡ 4) ms
+      → sum notesIn ms ≡ length log → length log < 2 ^ 32 → All (λ (x : ℕ × Note). x .0 < 4) log → measuresOut b ws s i j h p (length ms) ≡ shown i j (inOrder ms log)
+  unfolding measuresOut inOrder
+  measures-out i j h p [] log t u four e l low = sym (ap (encAll (out b)) (lyrics-nil i (drop j ws)) ∙ encAll-none (out b))
+  measures-out i j h p (m ∷ ms) log t u four e l low =
+      let k = notesIn m in
+      let a = take k log in
+      let z = drop k log in
+      let both = subst (All (λ (x : ℕ × Note). x .0 < 4)) (sym (take-append-drop k log)) low in
+      let n : noteCount s h ≡ k = count-out s h m ms t (four .0) (omega arith) in
+      let front : length a ≡ k = length-take k log ∙ omega arith in
+      let ta = table-take noteRow 16 length-note k log u in
+      let here : sungRows s p k ≡ sungIn (ofVoice 0 a) = ap (sungRows s p) (sym front) ∙ sung-out s p a ta in
+      let first : rowsOut b ws s i j p k ≡ shown i j (ofVoice 0 a) = ap (rowsOut b ws s i j p) (sym front) ∙ rows-out i j p a ta in
+      let ih =
+      measures-out (i + k) (j + sungIn (ofVoice 0 a)) (h + 28) (p + 16 * k) ms z (table-rest headRow 28 length-head (m ∷ []) ms (h + 28) (omega arith) t)
+      (table-drop noteRow 16 length-note k log (p + 16 * k) (omega arith) refl u)
+      (four .1)
+      (omega (arith, length-drop k log))
+      (omega (arith, length-drop k log))
+      (All-right _ a z both) in
+      (λ q. rowsOut b ws s i j p (n q) ++ measuresOut b ws s (i + n q) (j + sungRows s p (n q)) (h + 28) (p + 16 * n q) (length ms))
+      ∙ (λ q. first q ++ measuresOut b ws s (i + k) (j + here q) (h + 28) (p + 16 * k) (length ms))
+      ∙ (λ q. shown i j (ofVoice 0 a) ++ ih q)
+      ∙ (λ q. shown i j (ofVoice 0 a) ++ encAll (out b) (lyricsOf (i + sym front q) (inOrder ms z) (sym (drop-drop (sungIn (ofVoice 0 a)) j ws) q)))
+      ∙ sym (encAll-append (out b) (lyricsOf i (ofVoice 0 a) (drop j ws)) (lyricsOf (i + length a) (inOrder ms z) (drop (sungIn (ofVoice 0 a)) (drop j ws))))
+      ∙ ap (encAll (out b)) (sym (lyrics-measure i a (inOrder ms z) (drop j ws) (All-left _ a z both)))
+
+-- THE SECTION
+-- a section with its count
+abbrev shownIn : Bool → List (ℕ × Syllable) → List ℕ
+shownIn b ls = le32 (countOf b (length (encAll (out b) ls))) ++ encAll (out b) ls
+
+records-section : (ls : List (ℕ × Syllable)) → shownIn false ls ≡ section (λ (x : ℕ × Syllable). lyricBytes (x .0) (x .1)) ls
+unfolding section encAll
+records-section ls =
+    let n : length (encAll (out false) ls) ≡ 11 * length ls = length-encAll (out false) 11 (λ x. length-record (x .0) (x .1)) ls in
+    let e : length (encAll (out false) ls) / 11 ≡ length ls = omega (arith, n) in
+    ap (λ (k : ℕ). le32 k ++ encAll (out false) ls) e
+
+texts-section : (ls : List (ℕ × Syllable)) → shownIn true ls ≡ section (λ (c : ℕ). c ∷ []) (cat (map (λ (x : ℕ × Syllable). x .1 .text) ls))
+unfolding section encAll
+texts-section ls = let ts = cat (map (λ (x : ℕ × Syllable). x .1 .text) ls) in ap (λ (l : List ℕ). le32 (length ts) ++ l) (sym (cat-singles ts))
+
+section-out : (b : Bool) (ws : List (List Syllable)) {s : List ℕ} {heads n notes count : ℕ} {ms : List Head} {log : List (ℕ × Note)} → NotesIn s heads n notes count ms log
+    → sectionOut b ws s heads n notes ≡ shownIn b (lyricsOf 0 (inOrder ms log) ws)
+unfolding sectionOut
+section-out b ws {s} {heads} {n} {notes} {count} {ms} {log} h =
+    let f = h .fits in
+    let bytes : measuresOut b ws s 0 0 heads notes n ≡ encAll (out b) (lyricsOf 0 (inOrder ms log) ws) =
+    ap (measuresOut b ws s 0 0 heads notes) (sym (h .heads-count))
+    ∙ measures-out b ws s 0 0 heads notes ms log (h .heads-held) (h .notes-held) (f .four-counts) (f .all-notes) (omega (arith, h .small, h .notes-count)) (f .voices-below) in
+    λ i. le32 (countOf b (length (bytes i))) ++ bytes i
+
+-- as it is written, its count last
+module _ (b : Bool) (ws : List (List Syllable)) (s : List ℕ) (heads n notes : ℕ) where
+  section-length : length (sectionOut b ws s heads n notes) ≡ 4 + length (measuresOut b ws s 0 0 heads notes n)
+  unfolding sectionOut
+  section-length =
+      let bs = measuresOut b ws s 0 0 heads notes n in
+      length-append (le32 (countOf b (length bs))) bs ∙ omega (arith, length-little 4 (countOf b (length bs)))
+
+  pub section-short : {d e : List ℕ} → length d < 4 → WroteIs d (sectionOut b ws s heads n notes) e NoRoom
+  section-short h = record { says = omega (arith, section-length) }
+
+  pub section-none : (d : List ℕ) {e f : List ℕ} → 4 ≤ length d → WroteIs (take (length d - 4) (drop 4 d)) (measuresOut b ws s 0 0 heads notes n) f NoRoom → WroteIs d (sectionOut b ws s heads n notes) e NoRoom
+  section-none d h g =
+      let room = simp (length-take, length-drop) at (g .says) in
+      record { says = omega (arith, section-length, room) }
+
+  pub section-fits : (d : List ℕ) {f : List ℕ} {len : ℕ} → 4 ≤ length d → WroteIs (take (length d - 4) (drop 4 d)) (measuresOut b ws s 0 0 heads notes n) f (To len) → 4 + len ≤ length d
+  section-fits d h g =
+      let (p, q, r) = g .says in
+      let room = simp (length-take, length-drop) at q in
+      omega (arith, room)
+
+  pub section-wrote : (d : List ℕ) {e f : List ℕ} (len low count : ℕ) → 4 ≤ length d → WroteIs (take (length d - 4) (drop 4 d)) (measuresOut b ws s 0 0 heads notes n) f (To len)
+      → le32 low ≡ le32 count → count ≡ countOf b len → e ≡ splice (take 4 d ++ (f ++ drop (length d - 4) (drop 4 d))) 0 (le32 low)
+      → WroteIs d (sectionOut b ws s heads n notes) e (To (4 + len))
+  unfolding sectionOut
+  section-wrote d {e} {f} len low count h g l c p =
+      let bs = measuresOut b ws s 0 0 heads notes n in
+      let (q, room, r) = g .says in
+      let fits = section-fits d h g in
+      let back = lent-back d 4 (length d - 4) f 0 bs r (omega arith) in
+      let number : le32 low ≡ le32 (countOf b (length bs)) = l ∙ ap le32 c ∙ ap (λ (k : ℕ). le32 (countOf b k)) q in
+      let w = count-last bs (countOf b (length bs)) back (p ∙ ap (splice (take 4 d ++ (f ++ drop (length d - 4) (drop 4 d))) 0) number) (omega arith) in
+      subst (λ (k : ℕ). WroteIs d (le32 (countOf b (length bs)) ++ bs) e (To (4 + k))) (sym q) w
+
+-- FIVE SECTIONS
+pub sections-say : {d e : List ℕ} {r : Wrote} (s : List ℕ) (heads n notes count pitches sounds : ℕ) (ws : List (List Syllable))
+    → WroteIs d (musicOut s heads n notes count pitches sounds ++ sectionOut false ws s heads n notes ++ sectionOut true ws s heads n notes) e r
+    → (ms : List Head) (log : List (ℕ × Note)) → PitchesIn s heads n notes pitches sounds ms log → length log ≡ count → WroteIs d (layout.sections (record { heads = ms; log = log; words = ws })) e r
+unfolding layout.sections layout.lyrics layout.lyricText layout.notesOf layout.pitchesOf
+sections-say s heads n notes count pitches sounds ws w ms log h l =
+    let lyrics = section-out false ws (h .held) ∙ records-section (lyricsOf 0 (inOrder ms log) ws) in
+    let texts = section-out true ws (h .held) ∙ texts-section (lyricsOf 0 (inOrder ms log) ws) in
+    wrote-as w (λ i. music-section h l i ++ lyrics i ++ texts i)

@@ -1,0 +1,53 @@
+-- NOTHING SUNG: where no row is written no note has a syllable, and the section is empty.
+use Prim.Native.Nat.{ℕ, zero, suc, _+_, _*_}
+use mathlib.Core.Path.{_≡_, refl, ap, _∙_}
+use mathlib.Core.Bool.{Bool, true, false, cond}
+use mathlib.Core.List.{List, [], _∷_, _++_, map, append-nil}
+use lib.ListN.{length, getD}
+use Rattle.laws.specs.Bytes.{le32}
+use Rattle.laws.proofs.Rows.{encAll-none}
+use Rattle.reader.specs.Codes.{bit}
+use Rattle.reader.specs.Lyrics.{Syllable}
+use Rattle.write_notes.specs.Out.{noteCount}
+use Rattle.lyrics.specs.declared.Sheet.{Sheet}
+use Rattle.lyrics.specs.Sheet.{sungFrom, headsIn, syllablesIn}
+use Rattle.write_syllables.specs.Pieces.{piece, pieces}
+use Rattle.write_lyrics.specs.Out.{leadRow, sungRow, sungRows, rowsOut, measuresOut, countOf, sectionOut}
+
+no-syllable : (text s : List ℕ) (h : Sheet) → h .count ≡ 0 → (j : ℕ) → getD (syllablesIn text s h) j [] ≡ []
+unfolding syllablesIn sungFrom
+no-syllable text s h z j = go (headsIn s (h .heads) (h .sounded)) j
+  where
+    go : (ks : List ℕ) (j : ℕ) → getD (map (sungFrom text s (h .log) (h .count)) ks) j [] ≡ []
+    go [] j = refl
+    go (k ∷ ks) zero = ap (λ (n : ℕ). sungFrom text s (h .log) n k) z
+    go (k ∷ ks) (suc j) = go ks j
+
+module _ (texts : Bool) (ws : List (List Syllable)) (e : (j : ℕ) → getD ws j [] ≡ []) (s : List ℕ) where
+  row-silent : (b : Bool) (i j : ℕ) → cond b (pieces texts i (getD ws j [])) [] ≡ []
+  unfolding pieces
+  row-silent true i j = ap (pieces texts i) (e j) ∙ encAll-none (piece texts i)
+  row-silent false i j = refl
+
+  rows-silent : (i j p k : ℕ) → rowsOut texts ws s i j p k ≡ []
+  unfolding rowsOut
+  rows-silent i j p zero = refl
+  rows-silent i j p (suc k) =
+      ap (λ (x : List ℕ). x ++ rowsOut texts ws s (i + bit (leadRow s p) 1) (j + bit (sungRow s p) 1) (p + 16) k) (row-silent (sungRow s p) i j)
+      ∙ rows-silent (i + bit (leadRow s p) 1) (j + bit (sungRow s p) 1) (p + 16) k
+
+  measures-silent : (i j h p n : ℕ) → measuresOut texts ws s i j h p n ≡ []
+  unfolding measuresOut
+  measures-silent i j h p zero = refl
+  measures-silent i j h p (suc n) =
+      ap (λ (x : List ℕ). x ++ measuresOut texts ws s (i + noteCount s h) (j + sungRows s p (noteCount s h)) (h + 28) (p + 16 * noteCount s h) n) (rows-silent i j p (noteCount s h))
+      ∙ measures-silent (i + noteCount s h) (j + sungRows s p (noteCount s h)) (h + 28) (p + 16 * noteCount s h) n
+
+none-counted : (texts : Bool) → le32 (countOf texts 0) ++ [] ≡ le32 0
+none-counted true = append-nil (le32 0)
+none-counted false = append-nil (le32 0)
+
+pub section-silent : (texts : Bool) (text s : List ℕ) (h : Sheet) (heads n notes : ℕ) → h .count ≡ 0 → sectionOut texts (syllablesIn text s h) s heads n notes ≡ le32 0
+unfolding sectionOut
+section-silent texts text s h heads n notes z =
+    ap (λ (out : List ℕ). le32 (countOf texts (length out)) ++ out) (measures-silent texts (syllablesIn text s h) (no-syllable text s h z) s 0 0 heads notes n) ∙ none-counted texts

@@ -1,0 +1,359 @@
+-- THE NOTES IN THE ORDER OF THE READING: what the rows give is layout's section.
+use Prim.Native.Nat.{ℕ, zero, suc, _+_, _-_, _*_, _%_, _^_, _≤_, _<_}
+use mathlib.Core.Path.{_≡_, refl, sym, ap, subst, _∙_}
+use mathlib.Core.Bool.{Bool, true, false, cond}
+use mathlib.Core.List.{List, [], _∷_, _++_, append-nil, append-assoc}
+use native.Mathlib.Nat.{add-zero}
+use native.Mathlib.Omega.{arith}
+use lib.Dec.{eqb}
+use borrow.Author.Tests.{eq-eqb, ne-eqb, le-leb, lt-leb}
+use lib.ListN.{length, getD, take, drop, length-append, length-take, length-drop, take-append-drop}
+use Rattle.laws.specs.Lists.{All, keep, sum}
+use Rattle.laws.specs.Bytes.{part, splice, encAll, little, le32, u32At}
+use Rattle.laws.proofs.Lists.{sum-append, getD-sum, All-left, All-right}
+use Rattle.laws.proofs.Parts.{length-part, getD-part, part-none, part-cons, part-add, part-part}
+use Rattle.laws.proofs.Splices.{spliced-next}
+use Rattle.laws.proofs.Numbers.{length-little, littleAt-part}
+use Rattle.laws.proofs.Rows.{encAll-none, encAll-cons, encAll-append}
+use Rattle.standard.specs.Notes.{NoteKind, sounded, rest, invisibleRest, barRest, invisibleBarRest, isSounded, beamable, Flags}
+use Rattle.reader.specs.State.{Note}
+use Rattle.reader.specs.Codes.{kindCode, bit}
+use Rattle.reader.specs.Records.{isUnbeamed, flagByte, noteBytes, section}
+use Rattle.part_layout.specs.Log.{Head}
+use Rattle.part_layout.specs.Sections.{headBytes, notesIn, ofVoice, byVoice, inOrder}
+use Rattle.part_rows.specs.Table.{Table}
+use Rattle.part_rows.specs.Encoded.{marksByte, rowBytes, noteRow}
+use Rattle.part_rows.proofs.Bytes.{length-note}
+use Rattle.part_measures.specs.Heads.{headRow}
+use Rattle.part_measures.proofs.Heads.{length-head, head-row, head-count}
+use Rattle.store_sections.specs.declared.Wrote.{Wrote}
+use Rattle.store_sections.specs.declared.Wrote.the-variants.{To, NoRoom}
+use Rattle.store_sections.specs.Writes.{WroteIs}
+use Rattle.write_notes.specs.Out.{loneRow, flagsOut, noteOut, voiceOut, voicesOut, noteCount, total, notesOut, NotesIn}
+use Rattle.write_notes.proofs.Tables.{table-rest, table-take, table-drop, table-first}
+
+-- STEPS, as the loops take them
+pub voice-step : (s : List ℕ) (v p k : ℕ) → 0 < k → voiceOut s v p k ≡ cond (eqb (getD s (p + 12) 0) v) (noteOut s p) [] ++ voiceOut s v (p + 16) (k - 1)
+unfolding voiceOut
+voice-step s v p zero h = absurd (omega arith)
+voice-step s v p (suc k) h = let e : suc k - 1 ≡ k = omega arith in rw e
+
+pub voice-yes : (s : List ℕ) (v p k : ℕ) → 0 < k → eqb (getD s (p + 12) 0) v ≡ true → voiceOut s v p k ≡ noteOut s p ++ voiceOut s v (p + 16) (k - 1)
+voice-yes s v p k h e = voice-step s v p k h ∙ rw e
+
+pub voice-no : (s : List ℕ) (v p k : ℕ) → 0 < k → eqb (getD s (p + 12) 0) v ≡ false → voiceOut s v p k ≡ voiceOut s v (p + 16) (k - 1)
+voice-no s v p k h e = voice-step s v p k h ∙ rw e
+
+pub voice-none : (s : List ℕ) (v p k : ℕ) → k ≡ 0 → voiceOut s v p k ≡ []
+unfolding voiceOut
+voice-none s v p k h = rw h
+
+pub voices-step : (s : List ℕ) (p k v j : ℕ) → v < j → voicesOut s p k v (j - v) ≡ voiceOut s v p k ++ voicesOut s p k (v + 1) (j - (v + 1))
+unfolding voicesOut
+voices-step s p k v j h =
+    let e : j - v ≡ suc (j - (v + 1)) = omega arith in
+    let f : suc v ≡ v + 1 = omega arith in
+    rw (e, voicesOut, f)
+
+pub voices-none : (s : List ℕ) (p k v j : ℕ) → j ≤ v → voicesOut s p k v (j - v) ≡ []
+unfolding voicesOut
+voices-none s p k v j h = let e : j - v ≡ 0 = omega arith in rw e
+
+pub notes-step : (s : List ℕ) (h p n : ℕ) → 0 < n → notesOut s h p n ≡ voicesOut s p (noteCount s h) 0 4 ++ notesOut s (h + 28) (p + 16 * noteCount s h) (n - 1)
+unfolding notesOut
+notes-step s h p zero l = absurd (omega arith)
+notes-step s h p (suc n) l = let e : suc n - 1 ≡ n = omega arith in rw e
+
+pub notes-none : (s : List ℕ) (h p n : ℕ) → n ≡ 0 → notesOut s h p n ≡ []
+unfolding notesOut
+notes-none s h p n l = rw l
+
+pub total-step : (s : List ℕ) (h n : ℕ) → 0 < n → total s h n ≡ noteCount s h + total s (h + 28) (n - 1)
+unfolding total
+total-step s h zero l = absurd (omega arith)
+total-step s h (suc n) l = let e : suc n - 1 ≡ n = omega arith in rw e
+
+pub length-note-out : (s : List ℕ) (p : ℕ) → p + 16 ≤ length s → length (noteOut s p) ≡ 12
+unfolding noteOut part
+length-note-out s p h = simp (length-take, length-drop) (omega arith)
+
+-- FLAGS, as the code asks for them
+module _ (s : List ℕ) (p : ℕ) where
+  plain : loneRow s p ≡ false → getD s (p + 3) 0 % 32 ≡ flagsOut s p
+  unfolding flagsOut bit
+  plain e = rw e (omega arith)
+
+  pub flags-rest : (getD s p 0 ≡ 0 → ⊥) → getD s (p + 3) 0 % 32 ≡ flagsOut s p
+  unfolding loneRow
+  flags-rest h = plain (simp (ne-eqb _ 0 h))
+
+  pub flags-long : getD s p 0 ≡ 0 → getD s (p + 1) 0 < 5 → getD s (p + 3) 0 % 32 ≡ flagsOut s p
+  unfolding loneRow
+  flags-long z h = plain (simp (eq-eqb _ 0 z, lt-leb 5 _ h))
+
+  pub flags-short : getD s p 0 ≡ 0 → 5 ≤ getD s (p + 1) 0 → 9 < getD s (p + 1) 0 → getD s (p + 3) 0 % 32 ≡ flagsOut s p
+  unfolding loneRow
+  flags-short z l h = plain (simp (eq-eqb _ 0 z, le-leb 5 (getD s (p + 1) 0) l, lt-leb _ 9 h))
+
+  pub flags-beamed : getD s p 0 ≡ 0 → 5 ≤ getD s (p + 1) 0 → getD s (p + 1) 0 ≤ 9 → (getD s (p + 4) 0 ≡ 0 → ⊥) → getD s (p + 3) 0 % 32 ≡ flagsOut s p
+  unfolding loneRow
+  flags-beamed z l h b = plain (simp (eq-eqb _ 0 z, le-leb 5 (getD s (p + 1) 0) l, le-leb (getD s (p + 1) 0) 9 h, ne-eqb _ 0 b))
+
+  pub flags-lone : getD s p 0 ≡ 0 → 5 ≤ getD s (p + 1) 0 → getD s (p + 1) 0 ≤ 9 → getD s (p + 4) 0 ≡ 0 → getD s (p + 3) 0 % 32 + 32 ≡ flagsOut s p
+  unfolding loneRow flagsOut bit
+  flags-lone z l h b = simp (eq-eqb _ 0 z, le-leb 5 (getD s (p + 1) 0) l, le-leb (getD s (p + 1) 0) 9 h, eq-eqb _ 0 b)
+
+-- A record, as it is written
+pub note-wrote : {d t e : List ℕ} (s : List ℕ) (p fl : ℕ) → t ≡ splice d 0 (getD s p 0 ∷ getD s (p + 1) 0 ∷ getD s (p + 2) 0 ∷ fl ∷ []) → e ≡ splice t 4 (part s (p + 4) 8) → fl ≡ flagsOut s p
+    → p + 16 ≤ length s → 12 ≤ length d → WroteIs d (noteOut s p) e (To 12)
+unfolding noteOut
+note-wrote {d} {t} {e} s p fl q r f h l =
+    record {
+      says = (
+        sym (length-note-out s p h),
+        l,
+        spliced-next d t e 0 4 _ _ q r refl ∙ ap (λ (k : ℕ). splice d 0 ((getD s p 0 ∷ getD s (p + 1) 0 ∷ getD s (p + 2) 0 ∷ k ∷ []) ++ part s (p + 4) 8)) f,
+      );
+    }
+
+-- its last eight bytes are copied four by four
+pub four-bytes : (s : List ℕ) (p : ℕ) → p + 4 ≤ length s → part s p 4 ≡ getD s p 0 ∷ getD s (p + 1) 0 ∷ getD s (p + 2) 0 ∷ getD s (p + 3) 0 ∷ []
+four-bytes s p h =
+    let two : p + 1 + 1 ≡ p + 2 = omega arith in
+    let three : p + 2 + 1 ≡ p + 3 = omega arith in
+    rw (part-cons s p 3 (omega arith), part-cons s (p + 1) 2 (omega arith), two, part-cons s (p + 2) 1 (omega arith), three, part-cons s (p + 3) 0 (omega arith), part-none)
+
+pub copied-twice : (t u e s : List ℕ) (p : ℕ) → u ≡ splice t 4 (part s (p + 4) 4) → e ≡ splice u 8 (part s (p + 8) 4) → p + 16 ≤ length s → e ≡ splice t 4 (part s (p + 4) 8)
+copied-twice t u e s p q r h =
+    let n : length (part s (p + 4) 4) ≡ 4 = length-part s (p + 4) 4 (omega arith) in
+    let k : p + 8 ≡ p + 4 + 4 = omega arith in
+    spliced-next t u e 4 8 _ _ q r (omega arith)
+    ∙ ap (splice t 4) (ap (λ (j : ℕ). part s (p + 4) 4 ++ part s j 4) k ∙ sym (part-add s (p + 4) 4 4))
+
+pub measures-length : (s : List ℕ) (h n : ℕ) → h + 28 * n ≤ length s → length (le32 n ++ part s h (28 * n)) ≡ 4 + 28 * n
+measures-length s h n room = length-append (le32 n) (part s h (28 * n)) ∙ omega (arith, length-little 4 n, length-part s h (28 * n) room)
+
+pub measures-wrote : {d t e : List ℕ} (s : List ℕ) (h n : ℕ) → t ≡ splice d 0 (le32 n) → e ≡ splice t 4 (part s h (28 * n)) → h + 28 * n ≤ length s → 4 + 28 * n ≤ length d
+    → WroteIs d (le32 n ++ part s h (28 * n)) e (To (4 + 28 * n))
+measures-wrote {d} {t} {e} s h n q r room l =
+    let four : length (le32 n) ≡ 4 = length-little 4 n in
+    record { says = (sym (measures-length s h n room), l, spliced-next d t e 0 4 _ _ q r (omega arith)) }
+
+pub measures-none : {d e : List ℕ} (s : List ℕ) (h n : ℕ) → h + 28 * n ≤ length s → length d < 4 + 28 * n → WroteIs d (le32 n ++ part s h (28 * n)) e NoRoom
+measures-none s h n room l = record { says = omega (arith, measures-length s h n room) }
+
+-- the same bytes in other words
+pub wrote-as : {d a e : List ℕ} {r : Wrote} → WroteIs d a e r → {b : List ℕ} → a ≡ b → WroteIs d b e r
+wrote-as {d} {a} {e} {r} w p = subst (λ (l : List ℕ). WroteIs d l e r) p w
+
+-- A ROW
+-- a note sounds where its kind is 0
+pub kind-code : (k : NoteKind) → eqb (kindCode k) 0 ≡ isSounded k
+unfolding kindCode isSounded
+kind-code sounded = refl
+kind-code rest = refl
+kind-code invisibleRest = refl
+kind-code barRest = refl
+kind-code invisibleBarRest = refl
+
+-- a flag is at most its bit
+pub bit-le : (b : Bool) (n : ℕ) → bit b n ≤ n
+unfolding bit
+bit-le true n = omega arith
+bit-le false n = omega arith
+
+marks-small : (f : Flags) → marksByte f % 32 ≡ marksByte f
+unfolding marksByte
+marks-small f = omega (arith, bit-le (f .tieStart) 1, bit-le (f .tieEnd) 2, bit-le (f .slurStart) 4, bit-le (f .slurEnd) 8, bit-le (f .grace) 16)
+
+module _ (s : List ℕ) (p : ℕ) (x : ℕ × Note) (e : part s p 16 ≡ noteRow x) where
+  byte : (k : ℕ) → k < 16 → getD s (p + k) 0 ≡ getD (noteRow x) k 0
+  byte k h = sym (getD-part s p 16 k h) ∙ ap (λ (l : List ℕ). getD l k 0) e
+
+  pub byte-kind : getD s p 0 ≡ kindCode (x .1 .kind)
+  unfolding rowBytes
+  byte-kind = ap (λ (k : ℕ). getD s k 0) (sym (add-zero p)) ∙ byte 0 (omega arith)
+
+  pub byte-voice : getD s (p + 12) 0 ≡ x .0
+  unfolding rowBytes little
+  byte-voice = byte 12 (omega arith)
+
+  lone : loneRow s p ≡ isUnbeamed (x .1)
+  unfolding loneRow isUnbeamed beamable rowBytes
+  lone = rw (byte-kind, byte 1 (omega arith), byte 4 (omega arith), kind-code)
+
+  flags : flagsOut s p ≡ flagByte (x .1)
+  unfolding flagsOut flagByte rowBytes marksByte
+  flags = rw (byte 3 (omega arith), lone) (ap (λ (k : ℕ). k + bit (isUnbeamed (x .1)) 32) (marks-small (x .1 .flags)))
+
+  back : part s (p + 4) 8 ≡ part (noteRow x) 4 8
+  back = sym (part-part s p 16 4 8 (omega arith)) ∙ ap (λ (l : List ℕ). part l 4 8) e
+
+  pub note-out : noteOut s p ≡ noteBytes (x .1)
+  unfolding noteOut noteBytes rowBytes little part
+  note-out = rw (byte-kind, byte 1 (omega arith), byte 2 (omega arith), flags, back)
+
+-- ONE VOICE
+abbrev pub out : ℕ × Note → List ℕ
+out x = noteBytes (x .1)
+
+kept-by : (v : ℕ) (x : ℕ × Note) (xs : List (ℕ × Note)) (b : Bool) → eqb (x .0) v ≡ b → cond b (out x) [] ++ encAll out (ofVoice v xs) ≡ encAll out (ofVoice v (x ∷ xs))
+unfolding ofVoice
+kept-by v x xs true e = rw e (sym (encAll-cons out x (keep (λ (x : ℕ × Note). eqb (x .0) v) xs)))
+kept-by v x xs false e = rw e
+
+pub voice-out : (s : List ℕ) (v p : ℕ) (xs : List (ℕ × Note)) → Table noteRow 16 s p xs → voiceOut s v p (length xs) ≡ encAll out (ofVoice v xs)
+unfolding voiceOut ofVoice
+voice-out s v p [] t = sym (encAll-none out)
+voice-out s v p (x ∷ xs) t =
+    let place : p + 16 * 0 ≡ p = omega arith in
+    let row = ap (λ (k : ℕ). part s k 16) (sym place) ∙ table-first noteRow 16 length-note x xs t in
+    let ih = voice-out s v (p + 16) xs (table-rest noteRow 16 length-note (x ∷ []) xs (p + 16) (omega arith) t) in
+    rw (byte-voice s p x row, note-out s p x row, ih) (kept-by v x xs (eqb (x .0) v) refl)
+
+-- byVoice, with the first voice before the others
+pub by-voice : (xs : List (ℕ × Note)) → byVoice xs ≡ ofVoice 0 xs ++ (ofVoice 1 xs ++ (ofVoice 2 xs ++ ofVoice 3 xs))
+unfolding byVoice
+by-voice xs = append-assoc (ofVoice 0 xs ++ ofVoice 1 xs) (ofVoice 2 xs) (ofVoice 3 xs) ∙ append-assoc (ofVoice 0 xs) (ofVoice 1 xs) (ofVoice 2 xs ++ ofVoice 3 xs)
+
+pub measure-out : (s : List ℕ) (p : ℕ) (xs : List (ℕ × Note)) → Table noteRow 16 s p xs → voicesOut s p (length xs) 0 4 ≡ encAll out (byVoice xs)
+unfolding voicesOut
+measure-out s p xs t =
+    let v : (v : ℕ) → voiceOut s v p (length xs) ≡ encAll out (ofVoice v xs) = λ v. voice-out s v p xs t in
+    rw (v 0, v 1, v 2, v 3, append-nil)
+    (sym (ap (encAll out) (by-voice xs) ∙ encAll-append out (ofVoice 0 xs) (ofVoice 1 xs ++ (ofVoice 2 xs ++ ofVoice 3 xs)) ∙ rw (encAll-append out (ofVoice 1 xs) (ofVoice 2 xs ++ ofVoice 3 xs), encAll-append out (ofVoice 2 xs) (ofVoice 3 xs))))
+
+-- ALL MEASURES
+-- a head's four counts
+four-sum : (cs : List ℕ) → length cs ≡ 4 → sum (λ n. n) cs ≡ getD cs 0 0 + getD cs 1 0 + getD cs 2 0 + getD cs 3 0
+four-sum [] h = absurd (omega arith)
+four-sum (a ∷ []) h = absurd (omega arith)
+four-sum (a ∷ b ∷ []) h = absurd (omega arith)
+four-sum (a ∷ b ∷ c ∷ []) h = absurd (omega arith)
+four-sum (a ∷ b ∷ c ∷ d ∷ []) h = omega arith
+four-sum (a ∷ b ∷ c ∷ d ∷ e ∷ cs) h = absurd (omega arith)
+
+pub count-out : (s : List ℕ) (h : ℕ) (m : Head) (ms : List Head) → Table headRow 28 s h (m ∷ ms) → length (m .counts) ≡ 4 → notesIn m < 2 ^ 32 → noteCount s h ≡ notesIn m
+unfolding noteCount notesIn
+count-out s h m ms t four small =
+    let place : h + 28 * 0 ≡ h = omega arith in
+    let row = ap (λ (k : ℕ). part s k 28) (sym place) ∙ table-first headRow 28 length-head m ms t in
+    let at : (v : ℕ) → v < 4 → 4 * v + 4 ≤ 28 → u32At s (h + 4 * v) ≡ getD (m .counts) v 0 =
+    λ v l k. sym (littleAt-part 4 s h 28 (4 * v) k) ∙ ap (λ (r : List ℕ). u32At r (4 * v)) row ∙ head-count m v l (omega (arith, getD-sum (m .counts) v)) in
+    let z : u32At s h ≡ getD (m .counts) 0 0 = ap (u32At s) (sym (add-zero h)) ∙ at 0 (omega arith) (omega arith) in
+    rw (z, at 1 (omega arith) (omega arith), at 2 (omega arith) (omega arith), at 3 (omega arith) (omega arith)) (sym (four-sum (m .counts) four))
+
+pub notes-out : (s : List ℕ) (h p : ℕ) (ms : List Head) (log : List (ℕ × Note)) → Table headRow 28 s h ms → Table noteRow 16 s p log → All (λ (m : Head). length (m .counts) ≡ 4) ms
+    → sum notesIn ms ≡ length log → length log < 2 ^ 32 → notesOut s h p (length ms) ≡ encAll out (inOrder ms log)
+unfolding notesOut inOrder
+notes-out s h p [] log t u four e l = sym (encAll-none out)
+notes-out s h p (m ∷ ms) log t u four e l =
+    let k = notesIn m in
+    let n : noteCount s h ≡ k = count-out s h m ms t (four .0) (omega arith) in
+    let front : length (take k log) ≡ k = length-take k log ∙ omega arith in
+    let first = ap (λ (j : ℕ). voicesOut s p j 0 4) (n ∙ sym front) ∙ measure-out s p (take k log) (table-take noteRow 16 length-note k log u) in
+    let ih =
+    notes-out s (h + 28) (p + 16 * k) ms (drop k log) (table-rest headRow 28 length-head (m ∷ []) ms (h + 28) (omega arith) t) (table-drop noteRow 16 length-note k log (p + 16 * k) (omega arith) refl u)
+    (four .1)
+    (omega (arith, length-drop k log))
+    (omega (arith, length-drop k log)) in
+    (λ i. first i ++ notesOut s (h + 28) (p + 16 * n i) (length ms)) ∙ rw ih (sym (encAll-append out (byVoice (take k log)) (inOrder ms (drop k log))))
+
+pub total-out : (s : List ℕ) (h : ℕ) (ms : List Head) → Table headRow 28 s h ms → All (λ (m : Head). length (m .counts) ≡ 4) ms → sum notesIn ms < 2 ^ 32 → total s h (length ms) ≡ sum notesIn ms
+unfolding total
+total-out s h [] t four l = refl
+total-out s h (m ∷ ms) t four l =
+    rw (count-out s h m ms t (four .0) (omega arith), total-out s (h + 28) ms (table-rest headRow 28 length-head (m ∷ []) ms (h + 28) (omega arith) t) (four .1) (omega arith))
+
+-- EACH NOTE ONCE: a sum over the notes in order is the sum over the log
+one-of : (v n : ℕ) → v < 4 → cond (eqb v 0) n 0 + (cond (eqb v 1) n 0 + (cond (eqb v 2) n 0 + cond (eqb v 3) n 0)) ≡ n
+one-of zero n h = omega arith
+one-of (suc zero) n h = omega arith
+one-of (suc (suc zero)) n h = omega arith
+one-of (suc (suc (suc zero))) n h = omega arith
+one-of (suc (suc (suc (suc v)))) n h = absurd (omega arith)
+
+module _ (f : ℕ × Note → ℕ) where
+  voice-sum : (v : ℕ) (x : ℕ × Note) (xs : List (ℕ × Note)) (b : Bool) → eqb (x .0) v ≡ b → sum f (ofVoice v (x ∷ xs)) ≡ cond b (f x) 0 + sum f (ofVoice v xs)
+  unfolding ofVoice
+  voice-sum v x xs true e = rw e
+  voice-sum v x xs false e = rw e (omega arith)
+
+  four-voices : (xs : List (ℕ × Note)) → All (λ (x : ℕ × Note). x .0 < 4) xs → sum f (ofVoice 0 xs) + (sum f (ofVoice 1 xs) + (sum f (ofVoice 2 xs) + sum f (ofVoice 3 xs))) ≡ sum f xs
+  unfolding ofVoice
+  four-voices [] h = refl
+  four-voices (x ∷ xs) h =
+      omega (
+        arith,
+        voice-sum 0 x xs (eqb (x .0) 0) refl,
+        voice-sum 1 x xs (eqb (x .0) 1) refl,
+        voice-sum 2 x xs (eqb (x .0) 2) refl,
+        voice-sum 3 x xs (eqb (x .0) 3) refl,
+        one-of (x .0) (f x) (h .0),
+        four-voices xs (h .1),
+      )
+
+  by-voice-sum : (xs : List (ℕ × Note)) → All (λ (x : ℕ × Note). x .0 < 4) xs → sum f (byVoice xs) ≡ sum f xs
+  by-voice-sum xs h =
+      ap (sum f) (by-voice xs) ∙ sum-append f (ofVoice 0 xs) (ofVoice 1 xs ++ (ofVoice 2 xs ++ ofVoice 3 xs))
+      ∙ omega (arith, sum-append f (ofVoice 1 xs) (ofVoice 2 xs ++ ofVoice 3 xs), sum-append f (ofVoice 2 xs) (ofVoice 3 xs), four-voices xs h)
+
+  pub in-order-sum : (ms : List Head) (log : List (ℕ × Note)) → sum notesIn ms ≡ length log → All (λ (x : ℕ × Note). x .0 < 4) log → sum f (inOrder ms log) ≡ sum f log
+  unfolding inOrder
+  in-order-sum [] [] e h = refl
+  in-order-sum [] (x ∷ log) e h = absurd (omega arith)
+  in-order-sum (m ∷ ms) log e h =
+      let k = notesIn m in
+      let a = take k log in
+      let b = drop k log in
+      let both = subst (All (λ (x : ℕ × Note). x .0 < 4)) (sym (take-append-drop k log)) h in
+      sum-append f (byVoice a) (inOrder ms b)
+      ∙ (λ i. by-voice-sum a (All-left _ a b both) i + in-order-sum ms b (omega (arith, length-drop k log)) (All-right _ a b both) i)
+      ∙ sym (sum-append f a b) ∙ ap (sum f) (take-append-drop k log)
+
+ones : (xs : List (ℕ × Note)) → sum (λ x. 1) xs ≡ length xs
+ones [] = refl
+ones (x ∷ xs) = omega (arith, ones xs)
+
+pub length-by-voice : (xs : List (ℕ × Note)) → All (λ (x : ℕ × Note). x .0 < 4) xs → length (byVoice xs) ≡ length xs
+length-by-voice xs h = sym (ones (byVoice xs)) ∙ by-voice-sum (λ x. 1) xs h ∙ ones xs
+
+pub length-in-order : (ms : List Head) (log : List (ℕ × Note)) → sum notesIn ms ≡ length log → All (λ (x : ℕ × Note). x .0 < 4) log → length (inOrder ms log) ≡ length log
+length-in-order ms log e h = sym (ones (inOrder ms log)) ∙ in-order-sum (λ x. 1) ms log e h ∙ ones log
+
+-- THE SECTIONS
+pub notes-section : {s : List ℕ} {heads n notes count : ℕ} {ms : List Head} {log : List (ℕ × Note)} → NotesIn s heads n notes count ms log
+    → le32 count ++ notesOut s heads notes n ≡ section (λ (x : ℕ × Note). noteBytes (x .1)) (inOrder ms log)
+unfolding section encAll
+notes-section {s} {heads} {n} {notes} {count} {ms} {log} h =
+    let f = h .fits in
+    let l : count ≡ length (inOrder ms log) = sym (length-in-order ms log (f .all-notes) (f .voices-below) ∙ h .notes-count) in
+    let bytes = ap (λ (k : ℕ). notesOut s heads notes k) (sym (h .heads-count)) ∙ notes-out s heads notes ms log (h .heads-held) (h .notes-held) (f .four-counts) (f .all-notes) (omega (arith, h .small, h .notes-count)) in
+    λ i. le32 (l i) ++ bytes i
+
+-- the notes have room where the tables hold them
+pub notes-total : {s : List ℕ} {heads n notes count : ℕ} {ms : List Head} {log : List (ℕ × Note)} → NotesIn s heads n notes count ms log → total s heads n ≡ count
+notes-total {s} {heads} {n} {notes} {count} {ms} {log} h =
+    let f = h .fits in
+    ap (total s heads) (sym (h .heads-count)) ∙ total-out s heads ms (h .heads-held) (f .four-counts) (omega (arith, f .all-notes, h .small, h .notes-count)) ∙ f .all-notes ∙ h .notes-count
+
+-- a table of headRow is one of headBytes
+pub heads-bytes : (ms : List Head) → All (λ (m : Head). length (m .counts) ≡ 4) ms → encAll headRow ms ≡ encAll headBytes ms
+unfolding encAll
+heads-bytes [] h = refl
+heads-bytes (m ∷ ms) h = λ i. head-row m (h .0) i ++ heads-bytes ms (h .1) i
+
+pub measures-section : (s : List ℕ) (heads n : ℕ) (ms : List Head) → Table headRow 28 s heads ms → length ms ≡ n → All (λ (m : Head). length (m .counts) ≡ 4) ms
+    → le32 n ++ part s heads (28 * n) ≡ section headBytes ms
+unfolding section encAll
+measures-section s heads n ms t e four = ap (λ (k : ℕ). le32 k ++ part s heads (28 * k)) (sym e) ∙ ap (λ (l : List ℕ). le32 (length ms) ++ l) (t .holds ∙ heads-bytes ms four)
+
+-- A WRITER OF THESE BYTES writes the section of whatever the tables hold
+pub notes-say : {d e : List ℕ} {r : Wrote} (s : List ℕ) (heads n notes count : ℕ) → WroteIs d (le32 count ++ notesOut s heads notes n) e r
+    → WroteIs d (le32 count ++ notesOut s heads notes n) e r × ((ms : List Head) (log : List (ℕ × Note)) → NotesIn s heads n notes count ms log → WroteIs d (section (λ (x : ℕ × Note). noteBytes (x .1)) (inOrder ms log)) e r)
+notes-say s heads n notes count w = (w, λ ms log h. wrote-as w (notes-section h))
+
+pub measures-say : {d e : List ℕ} {r : Wrote} (s : List ℕ) (heads n : ℕ) → WroteIs d (le32 n ++ part s heads (28 * n)) e r
+    → WroteIs d (le32 n ++ part s heads (28 * n)) e r
+    × ((ms : List Head) → Table headRow 28 s heads ms → length ms ≡ n → All (λ (m : Head). length (m .counts) ≡ 4) ms → WroteIs d (section headBytes ms) e r)
+measures-say s heads n w = (w, λ ms t h f. wrote-as w (measures-section s heads n ms t h f))
