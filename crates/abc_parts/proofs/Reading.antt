@@ -39,8 +39,8 @@ use Rattle.write_pitches.specs.Out.{pitchTotal, PitchesIn}
 use Rattle.write_pitches.proofs.Out.{pitches-total}
 use Rattle.part_registers.specs.declared.Tables.{Tables}
 use Rattle.part_registers.specs.declared.Registers.{Registers}
-use Rattle.part_held.specs.Held.{pitchesIn}
-use Rattle.costs.specs.Sizes.{tones}
+use Rattle.part_invariant.specs.Held.{pitchesIn}
+use Rattle.capacity.specs.Sizes.{tones}
 use Rattle.part_sizing.specs.Room.{musicAt, Sized}
 use Rattle.part_sizing.proofs.Fits.{sheet-fits}
 use Rattle.part_items.specs.Items.{after, Built}

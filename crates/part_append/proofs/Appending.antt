@@ -11,9 +11,9 @@ use Rattle.part_rows.specs.Encoded.{rowBytes}
 use Rattle.part_registers.specs.declared.Tables.{Tables}
 use Rattle.part_registers.specs.declared.Registers.{Registers}
 use Rattle.part_registers.specs.Notes.{beams, groupedRow, beamedRow, halvedRow}
-use Rattle.part_held.specs.Held.{Room, Appendable, Appends}
-use Rattle.part_held.specs.Appended.{beforeStore, appended}
-use Rattle.part_held.proofs.Appending.{append-small, appends}
+use Rattle.part_invariant.specs.Held.{Room, Appendable, Appends}
+use Rattle.part_invariant.specs.Appended.{beforeStore, appended}
+use Rattle.part_invariant.proofs.Appending.{append-small, appends}
 
 -- THE BEAM OF THE NOTE BEFORE, by the code's tests
 module _ (s : List ℕ) (at place run kind value : ℕ) where

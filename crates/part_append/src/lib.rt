@@ -2,8 +2,8 @@
 ghost use mathlib.Core.Path.{_≡_};
 ghost use Prim.Native.Nat.{_+_, _*_, _^_, _≤_, _<_};
 ghost use lib.ListN.{length};
-ghost use Rattle.part_held.specs.Held.{Room, Appendable, Appends};
-ghost use Rattle.part_held.specs.Appended.{beforeStore, placed, soundedOn, appended};
+ghost use Rattle.part_invariant.specs.Held.{Room, Appendable, Appends};
+ghost use Rattle.part_invariant.specs.Appended.{beforeStore, placed, soundedOn, appended};
 ghost use Rattle.part_registers.specs.Notes.{halvedRow, beamedRow};
 use part_registers::Counts;
 use part_registers::Group;

@@ -22,9 +22,9 @@ use Rattle.reader.specs.State as State
 use Rattle.reader.specs.State.{voltaBegins, noScopes, withTime}
 use Rattle.part_layout.specs.Log.{Head, LogState, withLeft, withRight, withMeter, withVolta, newHead, onLastHead, onOpen, openIsEmpty, isEmptyHead, leftSet, endedHeads, endedLast, onBarline, onToken, setLine, setScopes, setLast, setHeads, noCounts}
 use Rattle.part_layout.proofs.Lines.{Standing}
-use Rattle.token_marks.specs.declared.Barline.{Barline}
-use Rattle.token_marks.specs.declared.Barline.the-variants.{Normal, RepeatStart, RepeatEnd, RepeatBoth, Double, Final}
-use Rattle.token_marks.specs.Bars.{barlineFor}
+use Rattle.token_symbols.specs.declared.Barline.{Barline}
+use Rattle.token_symbols.specs.declared.Barline.the-variants.{Normal, RepeatStart, RepeatEnd, RepeatBoth, Double, Final}
+use Rattle.token_symbols.specs.Bars.{barlineFor}
 use Rattle.part_rows.specs.Table.{Table, Only}
 use Rattle.part_rows.specs.Encoded.{scopeRow}
 use Rattle.part_rows.proofs.Tables.{table-row, table-none, only-splice, only-then}
@@ -35,10 +35,10 @@ use Rattle.part_registers.specs.declared.Line.{Line}
 use Rattle.part_registers.specs.declared.Counts.{Counts}
 use Rattle.part_registers.specs.declared.Tables.{Tables}
 use Rattle.part_registers.specs.declared.Registers.{Registers}
-use Rattle.part_held.specs.Held.{Room, Stored, Held, Holding, pitchesIn, Grows, Does}
-use Rattle.part_held.proofs.Stores.{withHeads, head-altered, head-only, head-pushed, head-pushed-only, scoped-behind}
-use Rattle.part_held.proofs.Logs.{last-head, count-most, counts-4}
-use Rattle.part_held.proofs.Appending.{someHead, room-same}
+use Rattle.part_invariant.specs.Held.{Room, Stored, Held, Holding, pitchesIn, Grows, Does}
+use Rattle.part_invariant.proofs.Stores.{withHeads, head-altered, head-only, head-pushed, head-pushed-only, scoped-behind}
+use Rattle.part_invariant.proofs.Logs.{last-head, count-most, counts-4}
+use Rattle.part_invariant.proofs.Appending.{someHead, room-same}
 use Rattle.part_bars.specs.Bars.{codeOf, leftStore, nowhere, ended, opened, timed}
 
 -- there is a head

@@ -2,8 +2,8 @@
 use Prim.Native.Nat.{ℕ, _+_}
 use mathlib.Core.List.{List, [], _∷_}
 use Rattle.laws.specs.Bytes.{splice}
-use Rattle.token_marks.specs.declared.Barline.{Barline}
-use Rattle.token_marks.specs.declared.Barline.the-variants.{Normal, RepeatStart, RepeatEnd, RepeatBoth, Double, Final}
+use Rattle.token_symbols.specs.declared.Barline.{Barline}
+use Rattle.token_symbols.specs.declared.Barline.the-variants.{Normal, RepeatStart, RepeatEnd, RepeatBoth, Double, Final}
 use Rattle.part_accidentals.specs.declared.AbcPartParseState.{AbcPartParseState}
 use Rattle.part_registers.specs.declared.Registers.{Registers}
 

@@ -10,8 +10,8 @@ ghost use Rattle.reader.specs.Codes.{modeCode};
 ghost use Rattle.reader.specs.Barlines.{leftOf};
 ghost use Rattle.reader.specs.Token as token;
 ghost use Rattle.part_layout.specs.Log.{onBarline, onToken};
-ghost use Rattle.token_marks.specs.Bars.{barlineFor};
-ghost use Rattle.part_held.specs.Held.{Room, Holding, Does};
+ghost use Rattle.token_symbols.specs.Bars.{barlineFor};
+ghost use Rattle.part_invariant.specs.Held.{Room, Holding, Does};
 ghost use Rattle.part_bars.specs.Bars.{codeOf, leftStore, cleared, ended, opened};
 use part_accidentals::AbcPartParseState;
 use part_registers::Counts;
@@ -19,7 +19,7 @@ use part_registers::Last;
 use part_registers::Line;
 use part_registers::Registers;
 use part_registers::Tables;
-use token_marks::Barline;
+use token_symbols::Barline;
 
 // A barline's number.
 fn barline_code(b: Barline) -> u8

@@ -13,16 +13,16 @@ use Rattle.reader.proofs.TokenBounds.{token-within}
 use Rattle.part_layout.specs.Log.{LogState, onToken, lineBegins, onLine}
 use Rattle.part_layout.proofs.Lines.{InLine, in-line-begins, in-line-token, standing}
 use Rattle.bounds.proofs.TokenRanges.{token-fits}
-use Rattle.costs.specs.Sizes.{bars, letters, rests, tones, signs}
-use Rattle.costs.specs.Pays.{makes, Spends}
-use Rattle.costs.proofs.Tokens.{token-spends}
+use Rattle.capacity.specs.Sizes.{bars, letters, rests, tones, signs}
+use Rattle.capacity.specs.Pays.{makes, Spends}
+use Rattle.capacity.proofs.Tokens.{token-spends}
 use Rattle.part_rows.specs.Table.{Only}
 use Rattle.part_rows.proofs.Tables.{only-none, only-then}
 use Rattle.part_registers.specs.declared.Tables.{Tables}
 use Rattle.part_registers.specs.declared.Counts.{Counts}
 use Rattle.part_registers.specs.declared.Registers.{Registers}
-use Rattle.part_held.specs.Held.{Room, Held, Holding, Does}
-use Rattle.part_held.specs.Lines.{Waits, Rest, Takes}
+use Rattle.part_invariant.specs.Held.{Room, Held, Holding, Does}
+use Rattle.part_invariant.specs.Lines.{Waits, Rest, Takes}
 use Rattle.tokens.specs.declared.Tokenised.{Tokenised}
 use Rattle.tokens.specs.Tokens.{tokenisedFor}
 use Rattle.tokens.proofs.Chords.{chord-pitches}

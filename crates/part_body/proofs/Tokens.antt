@@ -16,14 +16,14 @@ use Rattle.reader.specs.Part.{restNote}
 use Rattle.reader.specs.Token.{Token, space, overlay, quoted, broken, tuplet, slur, graceOpen, graceClose, decoration, barline, volta, unit, meter, key, field, chord, rest, note, nothing, skipped, refused}
 use Rattle.part_layout.specs.Log.{LogState, onToken, onSound}
 use Rattle.bounds.specs.Ranges.{TokenFits}
-use Rattle.costs.specs.Pays.{marked, makes}
+use Rattle.capacity.specs.Pays.{marked, makes}
 use Rattle.token_lengths.specs.Values.{lengthAs}
 use Rattle.part_rows.specs.Encoded.{marksByte, rowFor}
 use Rattle.part_rows.proofs.Tables.{only-none}
 use Rattle.part_registers.specs.declared.Line as declared
 use Rattle.part_registers.specs.declared.Tables.{Tables}
 use Rattle.part_registers.specs.declared.Registers.{Registers}
-use Rattle.part_held.specs.Held.{Room, Held, Holding, Grows, Does}
+use Rattle.part_invariant.specs.Held.{Room, Held, Holding, Grows, Does}
 use Rattle.part_sounds.specs.Sounds.{restRow}
 use Rattle.tokens.specs.Tokens.{restLength, tokenFor}
 use Rattle.part_chords.specs.Chords.{pitchesOr, chordIn, ChordsAs}

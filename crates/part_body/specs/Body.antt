@@ -8,15 +8,15 @@ use Rattle.reader.specs.Records.{passBits}
 use Rattle.reader.specs.Barlines.{leftOf}
 use Rattle.reader.specs.Token as token
 use Rattle.part_layout.specs.Log.{onBarline, onToken}
-use Rattle.token_marks.specs.Bars.{barlineFor}
+use Rattle.token_symbols.specs.Bars.{barlineFor}
 use Rattle.part_accidentals.specs.Resolving.{signs}
 use Rattle.tokens.specs.declared.Token.{Token}
 use Rattle.tokens.specs.declared.Token.the-variants as as-token
 use Rattle.part_registers.specs.declared.Tables.{Tables}
 use Rattle.part_registers.specs.declared.Registers.{Registers}
-use Rattle.part_held.specs.Held.{Room, Holding, Does}
+use Rattle.part_invariant.specs.Held.{Room, Holding, Does}
 use Rattle.part_sounds.specs.Sounds.{Restable, Rests, NotesAs}
-use Rattle.costs.specs.Pays.{marked}
+use Rattle.capacity.specs.Pays.{marked}
 use Rattle.part_chords.specs.Chords.{chordIn, ChordAt, ChordsAs}
 
 -- a part is held, with room for so many rows more

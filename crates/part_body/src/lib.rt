@@ -1,7 +1,7 @@
 // A music line of a part: its tokens from left to right, each done to what scratch and registers hold (000, parse_body_line).
 ghost use lib.ListN.{length};
 ghost use Rattle.part_layout.specs.Log.{onLine};
-ghost use Rattle.part_held.specs.Lines.{Waits, Rest, Takes};
+ghost use Rattle.part_invariant.specs.Lines.{Waits, Rest, Takes};
 ghost use Rattle.part_sounds.specs.Sounds.{Leaves};
 ghost use Rattle.part_body.specs.Body.{Ready, Acts};
 use part_registers::Registers;
@@ -95,7 +95,7 @@ pub fn parse_body_line(
     requires { ⌜ Rest t (r .counts) (length (now store)) (now line) × Waits t (now store) r ⌝ }
     ensures { λ x. ⌜ Takes t (now (store .entry)) r (now (store .exit)) x (now (line .entry)) (onLine unit (top, bottom) (now (line .entry))) ⌝ }
 {
-    let classes = token_marks::letter_classes();
+    let classes = token_symbols::letter_classes();
     let mut x = part_steps::begin_line(store, t, r, unit, top, bottom);
     let mut at: usize = 0;
     while at < line.len() {

@@ -7,7 +7,7 @@ use lib.ListN.{length}
 use Rattle.standard.specs.Keys.{Key}
 use Rattle.standard.specs.Pitches.{Written, Pitch}
 use Rattle.reader.specs.Pitches.{Scope, soundOf, scopeAfter, soundsOf, scopeAfterAll}
-use Rattle.costs.specs.Pays.{marked}
+use Rattle.capacity.specs.Pays.{marked}
 
 -- ONE MORE behind others
 pub sounds-more : (k : Key) (sc : Scope) (ws : List Written) (w : Written) → soundsOf k sc (ws ++ (w ∷ [])) ≡ soundsOf k sc ws ++ (soundOf k (scopeAfterAll sc ws) w ∷ [])

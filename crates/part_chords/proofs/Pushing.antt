@@ -28,12 +28,12 @@ use Rattle.part_accidentals.specs.Resolving.{signs, writtenOf}
 use Rattle.part_registers.specs.declared.Counts.{Counts}
 use Rattle.part_registers.specs.declared.Tables.{Tables}
 use Rattle.part_registers.specs.declared.Registers.{Registers}
-use Rattle.part_held.specs.Held.{Room, Held, Holding}
+use Rattle.part_invariant.specs.Held.{Room, Held, Holding}
 use Rattle.part_sounds.specs.Sounds.{soundLeft, Leaves, Pushable, Pushes, Soundable, Sounds}
 use Rattle.part_sounds.specs.declared.Left.{Left}
 use Rattle.part_sounds.proofs.Sounding.{standing-scopes}
 use Rattle.part_sounds.proofs.Leaving.{sound-leaves}
-use Rattle.costs.specs.Pays.{marks, marked}
+use Rattle.capacity.specs.Pays.{marks, marked}
 use Rattle.part_chords.specs.Chords.{chordIn, ChordAt, PushesAll, ChordsAs}
 use Rattle.part_chords.proofs.Pitches.{sounds-more, scope-more, marked-both, length-sounds}
 

@@ -15,11 +15,11 @@ use Rattle.part_layout.specs.Log.{LogState, setScopes, onSound}
 use Rattle.part_layout.proofs.Lines.{Standing}
 use Rattle.token_lengths.specs.declared.Length.{Length}
 use Rattle.token_lengths.specs.Values.{asValue}
-use Rattle.costs.specs.Pays.{marked}
+use Rattle.capacity.specs.Pays.{marked}
 use Rattle.part_rows.specs.Table.{Only}
 use Rattle.part_registers.specs.declared.Tables.{Tables}
 use Rattle.part_registers.specs.declared.Registers.{Registers}
-use Rattle.part_held.specs.Held.{Held, Grows}
+use Rattle.part_invariant.specs.Held.{Held, Grows}
 
 -- none where one is refused
 unfoldable pub pitchesOr : Option (List Written) → List Written

@@ -1,7 +1,7 @@
 // Chords: the pitches, read again from the line, are pushed one by one; the chord's row is left to be appended.
 ghost use lib.ListN.{length};
-ghost use Rattle.part_held.specs.Held.{Room, Holding};
-ghost use Rattle.costs.specs.Pays.{marked};
+ghost use Rattle.part_invariant.specs.Held.{Room, Holding};
+ghost use Rattle.capacity.specs.Pays.{marked};
 ghost use Rattle.part_sounds.specs.Sounds.{Leaves};
 ghost use Rattle.part_chords.specs.Chords.{chordIn, ChordAt, PushesAll, ChordsAs};
 use part_registers::Registers;

@@ -30,9 +30,9 @@ use Rattle.part_measures.proofs.Heads.{head-mark, head-meter}
 use Rattle.part_registers.specs.declared.Tables.{Tables}
 use Rattle.part_registers.specs.declared.Counts.{Counts}
 use Rattle.part_registers.specs.declared.Registers.{Registers}
-use Rattle.part_held.specs.Held.{Held}
-use Rattle.part_held.specs.Lines.{Rest, Waits, GrowsBy, Takes}
-use Rattle.part_held.proofs.Appending.{someHead}
+use Rattle.part_invariant.specs.Held.{Held}
+use Rattle.part_invariant.specs.Lines.{Rest, Waits, GrowsBy, Takes}
+use Rattle.part_invariant.proofs.Appending.{someHead}
 use Rattle.part_bars.proofs.Heads.{open-held, open-only, no-scopes, stored-as}
 use Rattle.part_steps.specs.Steps.{hearing}
 use Rattle.part_items.specs.Items.{begun, keyedAs}

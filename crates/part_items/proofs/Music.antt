@@ -9,12 +9,12 @@ use Rattle.laws.proofs.Bools.{by-test}
 use Rattle.laws.proofs.Lists.{map-append, cat-append}
 use Rattle.reader.specs.Scan.{Item}
 use Rattle.reader.specs.Steps.{mine}
-use Rattle.costs.specs.Music.{musicIn, musicOf}
-use Rattle.costs.proofs.Tokens.{bars-both, letters-both, rests-both, signs-both}
+use Rattle.capacity.specs.Music.{musicIn, musicOf}
+use Rattle.capacity.proofs.Tokens.{bars-both, letters-both, rests-both, signs-both}
 use Rattle.part_registers.specs.declared.Tables.{Tables}
 use Rattle.part_registers.specs.declared.Counts.{Counts}
-use Rattle.part_held.specs.Held.{Room}
-use Rattle.part_held.specs.Lines.{Rest, GrowsBy}
+use Rattle.part_invariant.specs.Held.{Room}
+use Rattle.part_invariant.specs.Lines.{Rest, GrowsBy}
 
 -- the music of two lists of items
 pub music-append : (xs ys : List Item) → musicOf (xs ++ ys) ≡ musicOf xs ++ musicOf ys

@@ -16,8 +16,8 @@ use Rattle.part_rows.specs.Table.{Only}
 use Rattle.part_rows.proofs.Tables.{table-behind, only-splice, only-then}
 use Rattle.part_registers.specs.declared.Tables.{Tables}
 use Rattle.part_registers.specs.declared.Registers.{Registers}
-use Rattle.part_held.specs.Held.{Room, Held}
-use Rattle.part_held.proofs.Stores.{scoped-behind}
+use Rattle.part_invariant.specs.Held.{Room, Held}
+use Rattle.part_invariant.proofs.Stores.{scoped-behind}
 use Rattle.part_items.specs.Items.{rowFrom, lined}
 
 -- a row with a verse and a first note

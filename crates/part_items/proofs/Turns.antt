@@ -34,10 +34,10 @@ use Rattle.part_rows.specs.Table.{Only}
 use Rattle.part_rows.proofs.Tables.{only-none, only-then, only-wider}
 use Rattle.part_registers.specs.declared.Tables.{Tables}
 use Rattle.part_registers.specs.declared.Registers.{Registers}
-use Rattle.part_held.specs.Held.{Held}
-use Rattle.part_held.proofs.Appending.{room-same}
-use Rattle.part_held.specs.Lines.{Rest, Waits, GrowsBy, Takes}
-use Rattle.costs.specs.Music.{musicIn, musicOf}
+use Rattle.part_invariant.specs.Held.{Held}
+use Rattle.part_invariant.proofs.Appending.{room-same}
+use Rattle.part_invariant.specs.Lines.{Rest, Waits, GrowsBy, Takes}
+use Rattle.capacity.specs.Music.{musicIn, musicOf}
 use Rattle.part_items.specs.Items.{begun, versed, rowFrom, lined, ownAt, Ready, Taken, after, Built}
 use Rattle.part_items.proofs.Music.{music-append, mine-append, rest-first, rest-then, rest-as, rest-room, grows-none}
 use Rattle.part_items.proofs.Each.{begun-held, addedBy, item-lines}

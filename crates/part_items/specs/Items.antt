@@ -13,7 +13,7 @@ use Rattle.reader.specs.Steps.{mine}
 use Rattle.part_layout.specs.Log.{LogState, newLog}
 use Rattle.part_layout.specs.Ends.{onItem}
 use Rattle.part_layout.proofs.Lines.{Between}
-use Rattle.costs.specs.Music.{musicOf}
+use Rattle.capacity.specs.Music.{musicOf}
 use Rattle.scan_table.specs.Rows.{itemsFrom, itemBytes, itemIn, itemsIn}
 use Rattle.lyrics.specs.Items.{itemAt, lineOf, linesIn}
 use Rattle.part_rows.specs.Table.{Only}
@@ -22,8 +22,8 @@ use Rattle.part_registers.specs.declared.Registers.{Registers}
 use Rattle.part_registers.specs.declared.Half.the-variants as half
 use Rattle.part_registers.specs.declared.Running.the-variants as running
 use Rattle.part_bars.specs.Bars.{nowhere}
-use Rattle.part_held.specs.Held.{Held}
-use Rattle.part_held.specs.Lines.{Rest, Waits, GrowsBy}
+use Rattle.part_invariant.specs.Held.{Held}
+use Rattle.part_invariant.specs.Lines.{Rest, Waits, GrowsBy}
 
 -- THE REGISTERS before the first item
 abbrev pub begun : Registers

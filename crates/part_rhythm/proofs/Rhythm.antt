@@ -35,10 +35,10 @@ use Rattle.part_registers.specs.declared.Registers.{Registers}
 use Rattle.part_registers.specs.declared.Half.the-variants as half
 use Rattle.part_registers.specs.Notes.{beams, brokenRow, runAgain}
 use Rattle.part_registers.proofs.Notes.{beams-is, run-is, broken-is}
-use Rattle.part_held.specs.Held.{Room, Stored, Held, Holding, pitchesIn, Grows, Does}
-use Rattle.part_held.proofs.Stores.{note-altered, scoped-behind}
-use Rattle.part_held.proofs.Logs.{place-at, place-pitches, broken-pitches}
-use Rattle.part_held.proofs.Appending.{someNote, stored-pitches}
+use Rattle.part_invariant.specs.Held.{Room, Stored, Held, Holding, pitchesIn, Grows, Does}
+use Rattle.part_invariant.proofs.Stores.{note-altered, scoped-behind}
+use Rattle.part_invariant.proofs.Logs.{place-at, place-pitches, broken-pitches}
+use Rattle.part_invariant.proofs.Appending.{someNote, stored-pitches}
 use Rattle.part_rhythm.specs.Rhythm.{placeOf, brokenValue, valueBytes, brokenStore, brokenIn, againBeam, againStore, againIn, againRun, halfAfter, halfWaits, runs}
 
 -- the counts as they are

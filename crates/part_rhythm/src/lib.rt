@@ -4,7 +4,7 @@ ghost use Prim.Native.Nat.{_+_, _*_, _≤_, _<_};
 ghost use lib.ListN.{length};
 ghost use Rattle.reader.specs.Token as token;
 ghost use Rattle.part_layout.specs.Log.{onToken};
-ghost use Rattle.part_held.specs.Held.{Room, Holding, Does};
+ghost use Rattle.part_invariant.specs.Held.{Room, Holding, Does};
 ghost use Rattle.part_rhythm.specs.Rhythm.{brokenStore, brokenIn, againStore, againIn, againRun, placeOf, halfAfter, halfWaits, runs};
 use part_registers::Half;
 use part_registers::Registers;

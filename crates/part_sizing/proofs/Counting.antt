@@ -17,9 +17,9 @@ use Rattle.standard.specs.Pitches.{isLetter}
 use Rattle.reader.specs.Scan.{Item, born, reset, headed, keyed, metered, sung, played, Items}
 use Rattle.reader.specs.Steps.{mine}
 use Rattle.bounds.specs.Prices.{musicBytes, lyricBytes, itemBytes}
-use Rattle.costs.specs.Sizes.{isBar, isRest, isSign, bars, letters, rests, signs}
-use Rattle.costs.specs.Music.{musicIn, musicOf}
-use Rattle.costs.proofs.Tokens.{bars-both, letters-both, rests-both, signs-both}
+use Rattle.capacity.specs.Sizes.{isBar, isRest, isSign, bars, letters, rests, signs}
+use Rattle.capacity.specs.Music.{musicIn, musicOf}
+use Rattle.capacity.proofs.Tokens.{bars-both, letters-both, rests-both, signs-both}
 use Rattle.scan_table.specs.declared.Row.{Row}
 use Rattle.scan_table.specs.Rows.{itemAs, itemIn, itemsIn, RowIs}
 use Rattle.scan_table.proofs.Rows.{items-get, length-items}

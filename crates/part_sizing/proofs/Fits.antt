@@ -16,7 +16,7 @@ use Rattle.standard.specs.Bytes.{is}
 use Rattle.standard.specs.Pitches.{isLetter}
 use Rattle.reader.specs.Steps.{mine}
 use Rattle.bounds.specs.Prices.{lyricBytes}
-use Rattle.costs.specs.Sizes.{isBar, isRest, isSign, bars, letters, rests, signs, tones}
+use Rattle.capacity.specs.Sizes.{isBar, isRest, isSign, bars, letters, rests, signs, tones}
 use Rattle.scan_table.specs.declared.Row.{Row}
 use Rattle.scan_table.specs.Rows.{decItem, itemAs, itemIn, itemsIn}
 use Rattle.lyrics.specs.declared.Sheet.{Sheet}

@@ -1,7 +1,7 @@
 -- COUNTING what music can make, and the tables for it.
 use Prim.Native.Nat.{ℕ, _+_, _*_, _^_, _<_}
 use mathlib.Core.List.{List}
-use Rattle.costs.specs.Sizes.{bars, letters, rests, signs}
+use Rattle.capacity.specs.Sizes.{bars, letters, rests, signs}
 use Rattle.part_registers.specs.declared.Tables.{Tables}
 use Rattle.part_sizing.specs.declared.Made.{Made}
 use Rattle.part_sizing.specs.declared.Block.{Block}

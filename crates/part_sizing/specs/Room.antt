@@ -6,12 +6,12 @@ use lib.ListN.{length}
 use Rattle.laws.specs.Lists.{sum}
 use Rattle.reader.specs.Steps.{mine}
 use Rattle.bounds.specs.Prices.{lyricBytes, itemBytes}
-use Rattle.costs.specs.Sizes.{tones}
-use Rattle.costs.specs.Music.{musicOf}
+use Rattle.capacity.specs.Sizes.{tones}
+use Rattle.capacity.specs.Music.{musicOf}
 use Rattle.scan_table.specs.Rows.{itemsIn}
 use Rattle.part_registers.specs.declared.Tables.{Tables}
 use Rattle.part_registers.specs.declared.Counts.{Counts}
-use Rattle.part_held.specs.Lines.{Rest}
+use Rattle.part_invariant.specs.Lines.{Rest}
 use Rattle.part_sizing.specs.Counting.{madeOf, tablesAt}
 
 -- behind the line table there are 28 bytes for a first measure and for each byte of the part's lines

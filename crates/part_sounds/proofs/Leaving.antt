@@ -10,7 +10,7 @@ use Rattle.token_pitches.specs.declared.Pitch.{Pitch}
 use Rattle.part_accidentals.specs.Resolving.{signs}
 use Rattle.part_registers.specs.declared.Tables.{Tables}
 use Rattle.part_registers.specs.declared.Registers.{Registers}
-use Rattle.part_held.specs.Held.{Room, Holding, Appendable}
+use Rattle.part_invariant.specs.Held.{Room, Holding, Appendable}
 use Rattle.part_sounds.specs.declared.Left.{Left}
 use Rattle.part_sounds.specs.Sounds.{keptOf, restLeft, soundLeft, Finishable, Leaves, Restable, Rests, Pushes, Soundable, Sounds, NotesAs}
 use Rattle.part_sounds.proofs.Sounding.{rest-able, rests-as, sound-able, sounds-as, note-room, note-able, notes-as}

@@ -38,9 +38,9 @@ use Rattle.part_registers.specs.declared.Registers.{Registers}
 use Rattle.part_registers.specs.Notes.{marksOf}
 use Rattle.part_registers.specs.States.{pendingFor}
 use Rattle.part_registers.proofs.Notes.{marks-is}
-use Rattle.part_held.specs.Held.{Room, Stored, Held, Holding, pitchesIn, Appendable, Appends}
-use Rattle.part_held.proofs.Stores.{withPitches, pitch-pushed, pitch-pushed-only, scoped-behind}
-use Rattle.part_held.proofs.Appending.{room-same, stored-pitches}
+use Rattle.part_invariant.specs.Held.{Room, Stored, Held, Holding, pitchesIn, Appendable, Appends}
+use Rattle.part_invariant.proofs.Stores.{withPitches, pitch-pushed, pitch-pushed-only, scoped-behind}
+use Rattle.part_invariant.proofs.Appending.{room-same, stored-pitches}
 use Rattle.part_sounds.specs.Sounds.{restRow, soundRow, waitsOn, Restable, Rests, Pushable, Pushes, Soundable, Sounds, NotesAs}
 
 -- A REST

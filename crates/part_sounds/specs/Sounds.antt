@@ -26,7 +26,7 @@ use Rattle.part_registers.specs.declared.Pending.{Pending}
 use Rattle.part_registers.specs.declared.Tables.{Tables}
 use Rattle.part_registers.specs.declared.Registers.{Registers}
 use Rattle.part_registers.specs.Notes.{marksOf}
-use Rattle.part_held.specs.Held.{Room, Held, Grows, Appendable, Appends}
+use Rattle.part_invariant.specs.Held.{Room, Held, Grows, Appendable, Appends}
 use Rattle.part_sounds.specs.declared.Left.{Left}
 
 -- ROWS

@@ -3,7 +3,7 @@ ghost use mathlib.Core.Path.{_≡_};
 ghost use Prim.Native.Nat.{_<_};
 ghost use lib.ListN.{length};
 ghost use Rattle.part_accidentals.specs.Resolving.{signs};
-ghost use Rattle.part_held.specs.Held.{Room, Holding};
+ghost use Rattle.part_invariant.specs.Held.{Room, Holding};
 ghost use Rattle.part_sounds.specs.Sounds.{restRow, soundRow, pendingOn, keptOf, restLeft, soundLeft, Finishable, Finishes, Leaves, Pushable, Pushes, NotesAs};
 use part_registers::Counts;
 use part_registers::Pending;

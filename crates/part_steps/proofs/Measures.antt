@@ -19,14 +19,14 @@ use Rattle.part_rows.proofs.Tables.{only-none}
 use Rattle.part_measures.specs.Heads.{newRow}
 use Rattle.part_measures.proofs.Heads.{new-row, length-new, head-mark}
 use Rattle.part_chains.specs.Chains.{Scoped}
-use Rattle.costs.specs.Sizes.{bars, letters, rests, signs}
+use Rattle.capacity.specs.Sizes.{bars, letters, rests, signs}
 use Rattle.part_registers.specs.declared.Counts.{Counts}
 use Rattle.part_registers.specs.declared.Tables.{Tables}
 use Rattle.part_registers.specs.declared.Registers.{Registers}
-use Rattle.part_held.specs.Held.{Room, Stored, Held, Holding, pitchesIn, Does}
-use Rattle.part_held.specs.Lines.{Rest, Waits, GrowsBy, Takes}
-use Rattle.part_held.proofs.Stores.{head-pushed, head-pushed-only, scoped-behind}
-use Rattle.part_held.proofs.Appending.{someHead}
+use Rattle.part_invariant.specs.Held.{Room, Stored, Held, Holding, pitchesIn, Does}
+use Rattle.part_invariant.specs.Lines.{Rest, Waits, GrowsBy, Takes}
+use Rattle.part_invariant.proofs.Stores.{head-pushed, head-pushed-only, scoped-behind}
+use Rattle.part_invariant.proofs.Appending.{someHead}
 use Rattle.part_bars.proofs.Heads.{some-head, open-held, open-only, no-scopes, stored-as}
 use Rattle.part_steps.specs.Steps.{hearing, begun}
 

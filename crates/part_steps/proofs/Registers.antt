@@ -18,7 +18,7 @@ use Rattle.part_registers.specs.declared.Running.the-variants as running
 use Rattle.part_registers.specs.declared.Tables.{Tables}
 use Rattle.part_registers.specs.declared.Registers.{Registers}
 use Rattle.part_registers.specs.States.{pendingFor, runningFor, lineFor}
-use Rattle.part_held.specs.Held.{Does}
+use Rattle.part_invariant.specs.Held.{Does}
 use Rattle.part_bars.proofs.Heads.{grows-none}
 
 abbrev lined : Registers → Line → Running → Registers

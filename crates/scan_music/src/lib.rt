@@ -10,7 +10,7 @@ ghost use Rattle.reader.specs.Tokens as tokens;
 ghost use Rattle.reader.specs.Tokens.{effects};
 ghost use Rattle.reader.specs.Steps.{on};
 ghost use Rattle.reader.specs.Scan.{played, act};
-ghost use Rattle.token_marks.specs.Classes.{classTable};
+ghost use Rattle.token_symbols.specs.Classes.{classTable};
 ghost use Rattle.text_lines.specs.declared.Class.{Class};
 ghost use Rattle.text_lines.specs.Lines.{kindAs};
 ghost use Rattle.scan_table.specs.Rows.{itemsIn};
@@ -125,7 +125,7 @@ fn walk_line(line: &[u8], start: Played, classes: &[u8; 128]) -> Played
 pub fn play_line(line: &[u8], p: Count) -> Played
     ensures { λ r. ⌜ r ≡ playedFor p (effects (now (line .entry))) ⌝ }
 {
-    let classes = token_marks::letter_classes();
+    let classes = token_symbols::letter_classes();
     walk_line(line, Played::On(p), &classes)
 }
 

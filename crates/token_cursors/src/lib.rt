@@ -4,7 +4,7 @@ ghost use mathlib.Core.Path.{_≡_};
 ghost use Prim.Native.Nat.{_<_};
 ghost use lib.ListN.{length, drop};
 ghost use Rattle.reader.specs.Tokens.{tokenOf};
-ghost use Rattle.token_marks.specs.Classes.{classTable};
+ghost use Rattle.token_symbols.specs.Classes.{classTable};
 ghost use Rattle.tokens.specs.Tokens.{effectedFor, tokenisedFor};
 ghost use Rattle.token_cursors.specs.Cursors.{movedTo};
 use tokens::Effect;

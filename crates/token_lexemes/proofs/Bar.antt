@@ -12,9 +12,9 @@ use Rattle.standard.specs.Bars.{Symbol, barSymbols, symbolAt}
 use Rattle.reader.specs.Barlines.{leftOf, barlineAs, barlineOf}
 use Rattle.reader.specs.Tokens.{bars, tokenAs}
 use Rattle.text_runs.proofs.Places.{first-on}
-use Rattle.token_marks.specs.Bars.{barlineFor, leftFor, barFor}
-use Rattle.token_marks.specs.declared.Barline.{Barline}
-use Rattle.token_marks.specs.declared.Bar.the-variants.{Read, Nothing}
+use Rattle.token_symbols.specs.Bars.{barlineFor, leftFor, barFor}
+use Rattle.token_symbols.specs.declared.Barline.{Barline}
+use Rattle.token_symbols.specs.declared.Bar.the-variants.{Read, Nothing}
 use Rattle.token_lexemes.specs.Lexemes.{lexemeFor, cutFor}
 use Rattle.token_lexemes.specs.declared.Lexeme.the-variants as lexeme
 

@@ -14,9 +14,9 @@ use Rattle.standard.specs.Tuplets as standard
 use Rattle.reader.specs.Token.{tuplet, Taken}
 use Rattle.reader.specs.Tuplets.{positive, normalFor, counted, withCount, withNormal, withActual, tupletOf, orSlur}
 use Rattle.reader.specs.Tokens.{paren, tokenAs}
-use Rattle.token_marks.specs.Tuplets.{tupletIn, tupletFor}
-use Rattle.token_marks.specs.declared.Tuplet.{Tuplet}
-use Rattle.token_marks.specs.declared.Tuplet.the-variants.{Read, Nothing}
+use Rattle.token_symbols.specs.Tuplets.{tupletIn, tupletFor}
+use Rattle.token_symbols.specs.declared.Tuplet.{Tuplet}
+use Rattle.token_symbols.specs.declared.Tuplet.the-variants.{Read, Nothing}
 use Rattle.token_lexemes.specs.Lexemes.{lexemeFor, cutFor}
 use Rattle.token_lexemes.specs.declared.Lexeme.the-variants as lexeme
 

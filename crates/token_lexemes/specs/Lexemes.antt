@@ -8,7 +8,7 @@ use Rattle.reader.specs.Token.{Token, space, overlay, quoted, broken, tuplet, s
 use Rattle.reader.specs.Barlines.{leftOf}
 use Rattle.reader.specs.Codes.{kindCode}
 use Rattle.reader.specs.Records.{passBits}
-use Rattle.token_marks.specs.Bars.{barlineFor}
+use Rattle.token_symbols.specs.Bars.{barlineFor}
 use Rattle.token_pitches.specs.Pitches.{pitchFor}
 use Rattle.token_lexemes.specs.declared.Lexeme.{Lexeme}
 use Rattle.token_lexemes.specs.declared.Lexeme.the-variants.{Space, Overlay, Quoted, Broken, Tuplet, Slur, GraceOpen, GraceClose, Decoration, Barline, Volta, Unit, Meter, Key, Field, Chord, Rest, Note, Nothing, Skipped, Refused}

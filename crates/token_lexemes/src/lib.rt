@@ -11,9 +11,9 @@ ghost use Rattle.reader.specs.Sounds.{noteAs};
 ghost use Rattle.reader.specs.Tokens.{closedBy, brokenOf, quote, paren, bars, pitched, tokenAs};
 ghost use Rattle.token_pitches.specs.Pitches.{markOf};
 ghost use Rattle.token_lexemes.specs.Lexemes.{isPlain, cutFor, restFor};
-use token_marks::Barline;
 use token_pitches::Mark;
 use token_pitches::Pitch;
+use token_symbols::Barline;
 
 // A token with its length as written, num / den of the unit. A chord's pitches are read again from `place` on (`next_chord_pitch`): no array in an enum.
 pub enum Lexeme {
@@ -146,12 +146,12 @@ pub fn tuplet_or_slur(line: &[u8], at: usize) -> Cut
     requires { ⌜ at < length (now line) ⌝ }
     ensures { λ r. ⌜ r ≡ cutFor at (tokenAs paren (drop at (now (line .entry)))) ⌝ }
 {
-    let token_marks::Tuplet::Read {
+    let token_symbols::Tuplet::Read {
         actual,
         normal,
         count,
         next,
-    } = token_marks::parse_abc_tuplet(line, at)
+    } = token_symbols::parse_abc_tuplet(line, at)
     else {
         return Cut {
             lexeme: Lexeme::Slur,
@@ -173,7 +173,8 @@ pub fn bar_line(line: &[u8], at: usize) -> Cut
     requires { ⌜ at < length (now line) ⌝ }
     ensures { λ r. ⌜ r ≡ cutFor at (tokenAs bars (drop at (now (line .entry)))) ⌝ }
 {
-    let token_marks::Bar::Read { right, left, next } = token_marks::parse_barline(line, at) else {
+    let token_symbols::Bar::Read { right, left, next } = token_symbols::parse_barline(line, at)
+    else {
         return Cut {
             lexeme: Lexeme::Skipped,
             next: at + 1,

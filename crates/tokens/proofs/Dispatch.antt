@@ -19,7 +19,7 @@ use Rattle.reader.specs.Pitches.{octaveOf}
 use Rattle.reader.specs.Sounds.{restAs, noteAs}
 use Rattle.reader.specs.Token.{Token, space, overlay, quoted, broken, tuplet, slur, graceOpen, graceClose, decoration, barline, volta, unit, meter, key, field, chord, rest, note, nothing, skipped, refused, Taken, taken}
 use Rattle.reader.specs.Tokens.{Class, white, ampersand, quote, more, less, paren, braceOpen, braceClose, bang, plus, bars, bracket, pitched, none-of-these, resting, classes, classIn, classOf, tokenAs, tokenOf, effectOf}
-use Rattle.token_marks.specs.Classes.{classCode}
+use Rattle.token_symbols.specs.Classes.{classCode}
 use Rattle.text_runs.proofs.Places.{first-at}
 use Rattle.token_lexemes.specs.Lexemes.{lexemeFor, cutFor, restFor}
 use Rattle.tokens.specs.Tokens.{restLength, tokenFor, tokenisedFor, valuedFor, tokenisedIn, effectFor, effectedFor, effectIn, effectedIn}

@@ -15,7 +15,7 @@ use Rattle.reader.specs.Records.{passBits}
 use Rattle.token_lengths.specs.declared.Length as lengths
 use Rattle.token_lengths.specs.declared.Length.the-variants.{WholeBar}
 use Rattle.token_lengths.specs.Values.{lengthAs}
-use Rattle.token_marks.specs.Bars.{barlineFor}
+use Rattle.token_symbols.specs.Bars.{barlineFor}
 use Rattle.token_pitches.specs.Pitches.{pitchFor}
 use Rattle.token_lexemes.specs.declared.Cut.{Cut}
 use Rattle.token_lexemes.specs.declared.Lexeme.{Lexeme}

@@ -5,14 +5,14 @@ ghost use Prim.Native.Nat.{_+_, _<_};
 ghost use lib.ListN.{length, drop, getD};
 ghost use Rattle.reader.specs.Sounds.{noteAs};
 ghost use Rattle.reader.specs.Tokens.{pitched, classOf, tokenAs, tokenOf};
-ghost use Rattle.token_marks.specs.Classes.{classCode, classTable};
+ghost use Rattle.token_symbols.specs.Classes.{classCode, classTable};
 ghost use Rattle.token_lexemes.specs.Lexemes.{cutFor};
 ghost use Rattle.tokens.specs.Tokens.{tokenisedFor, valuedFor, tokenisedIn, effectIn, effectedFor};
 use token_lengths::Length;
 use token_lexemes::Cut;
 use token_lexemes::Lexeme;
-use token_marks::Barline;
 use token_pitches::Pitch;
+use token_symbols::Barline;
 
 // A token with its length: a written value with dots, or the whole bar.
 pub enum Token {
@@ -99,35 +99,35 @@ fn lexeme_at(line: &[u8], at: usize, class: u8) -> Cut
     ensures { λ r. ⌜ r ≡ cutFor at (tokenOf (drop at (now (line .entry)))) ⌝ }
 {
     match class {
-        token_marks::WHITE => Cut {
+        token_symbols::WHITE => Cut {
             lexeme: Lexeme::Space,
             next: at + 1,
         },
-        token_marks::AMPERSAND => Cut {
+        token_symbols::AMPERSAND => Cut {
             lexeme: Lexeme::Overlay,
             next: at + 1,
         },
-        token_marks::QUOTE => token_lexemes::quoted_text(line, at),
-        token_marks::MORE => token_lexemes::broken(line, at, b'>', true),
-        token_marks::LESS => token_lexemes::broken(line, at, b'<', false),
-        token_marks::PAREN => token_lexemes::tuplet_or_slur(line, at),
-        token_marks::BRACE_OPEN => Cut {
+        token_symbols::QUOTE => token_lexemes::quoted_text(line, at),
+        token_symbols::MORE => token_lexemes::broken(line, at, b'>', true),
+        token_symbols::LESS => token_lexemes::broken(line, at, b'<', false),
+        token_symbols::PAREN => token_lexemes::tuplet_or_slur(line, at),
+        token_symbols::BRACE_OPEN => Cut {
             lexeme: Lexeme::GraceOpen,
             next: at + 1,
         },
-        token_marks::BRACE_CLOSE => Cut {
+        token_symbols::BRACE_CLOSE => Cut {
             lexeme: Lexeme::GraceClose,
             next: at + 1,
         },
-        token_marks::BANG => token_lexemes::decoration(line, at, b'!'),
-        token_marks::PLUS => token_lexemes::decoration(line, at, b'+'),
-        token_marks::BARS => token_lexemes::bar_line(line, at),
-        token_marks::BRACKET => token_brackets::bracket(line, at),
-        token_marks::REST => token_lexemes::rest(line, at, 1),
-        token_marks::INVISIBLE_REST => token_lexemes::rest(line, at, 2),
-        token_marks::BAR_REST => token_lexemes::rest(line, at, 3),
-        token_marks::INVISIBLE_BAR_REST => token_lexemes::rest(line, at, 4),
-        token_marks::PITCHED => token_lexemes::note(line, at),
+        token_symbols::BANG => token_lexemes::decoration(line, at, b'!'),
+        token_symbols::PLUS => token_lexemes::decoration(line, at, b'+'),
+        token_symbols::BARS => token_lexemes::bar_line(line, at),
+        token_symbols::BRACKET => token_brackets::bracket(line, at),
+        token_symbols::REST => token_lexemes::rest(line, at, 1),
+        token_symbols::INVISIBLE_REST => token_lexemes::rest(line, at, 2),
+        token_symbols::BAR_REST => token_lexemes::rest(line, at, 3),
+        token_symbols::INVISIBLE_BAR_REST => token_lexemes::rest(line, at, 4),
+        token_symbols::PITCHED => token_lexemes::note(line, at),
         _ => Cut {
             lexeme: Lexeme::Skipped,
             next: at + 1,
@@ -242,8 +242,8 @@ pub fn token_at(line: &[u8], at: usize, unit: u32, classes: &[u8; 128]) -> Token
     requires { ⌜ (at < length (now line)) × (now classes ≡ classTable) ⌝ }
     ensures { λ r. ⌜ r ≡ tokenisedFor at unit (tokenOf (drop at (now (line .entry)))) ⌝ }
 {
-    let class = token_marks::class_of(classes, line[at]);
-    if class == token_marks::PITCHED {
+    let class = token_symbols::class_of(classes, line[at]);
+    if class == token_symbols::PITCHED {
         return tokenise(token_lexemes::note(line, at), unit);
     }
     tokenise(lexeme_at(line, at, class), unit)
@@ -366,11 +366,11 @@ pub fn effect_at(line: &[u8], at: usize, classes: &[u8; 128]) -> Effected
     requires { ⌜ (at < length (now line)) × (now classes ≡ classTable) ⌝ }
     ensures { λ r. ⌜ r ≡ effectedFor at (tokenOf (drop at (now (line .entry)))) ⌝ }
 {
-    let class = token_marks::class_of(classes, line[at]);
-    if class == token_marks::PITCHED {
+    let class = token_symbols::class_of(classes, line[at]);
+    if class == token_symbols::PITCHED {
         return note_effect(line, at);
     }
-    if class == token_marks::WHITE {
+    if class == token_symbols::WHITE {
         return Effected {
             effect: Effect::Passes,
             next: at + 1,

@@ -1,5 +1,5 @@
 -- `part_append::append` meets its contract.
-use Rattle.part_held.proofs.Appending.{append-overlay, append-place, append-some, append-head}
+use Rattle.part_invariant.proofs.Appending.{append-overlay, append-place, append-some, append-head}
 use Rattle.part_append.proofs.Appending.{counts-on, appends-on}
 use borrow.Author.Needs.{needs}
 use native.Mathlib.Omega.{arith}

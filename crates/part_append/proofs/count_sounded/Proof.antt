@@ -1,6 +1,6 @@
 -- `part_append::count_sounded` meets its contract.
 use borrow.Author.Tests.{eq-eqb, ne-eqb}
-use Rattle.part_held.specs.Appended.{soundedOn}
+use Rattle.part_invariant.specs.Appended.{soundedOn}
 use borrow.Author.Needs.{needs}
 use Rattle.part_append.proofs.count_sounded.Statement.{statement}
 use Rattle.part_append.proofs.count_sounded.Tie as tie

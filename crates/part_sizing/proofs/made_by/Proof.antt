@@ -5,7 +5,7 @@ use native.Mathlib.Omega.{arith}
 use borrow.Author.Needs.{needs}
 use lib.ListN.{length, drop}
 use Rattle.reader.specs.Steps.{mine}
-use Rattle.costs.specs.Music.{musicOf}
+use Rattle.capacity.specs.Music.{musicOf}
 use Rattle.scan_table.specs.Rows.{itemsIn}
 use Rattle.part_sizing.specs.Counting.{madeOf, more}
 use Rattle.part_sizing.proofs.Counting.{items-start, items-few, items-more, items-over}

@@ -53,7 +53,7 @@ use denote.Triple.Walked.{says, needs, Stays, stay-none, stay-none-ref, stay-non
 use denote.Exit.{yes}
 use Rattle.reader.specs.Tokens as tokens
 use Rattle.reader.specs.Tokens.{effects}
-use Rattle.token_marks.specs.Classes.{classTable}
+use Rattle.token_symbols.specs.Classes.{classTable}
 use Rattle.tokens.specs.declared.Effect.{Effect}
 use Rattle.tokens.proofs.Effect as S
 use Rattle.tokens.proofs.Effect.Laws as S′
