@@ -7,21 +7,21 @@ use borrow.Author.Tests.{lt-ltb, le-ltb}
 use lib.ListN.{length}
 use Rattle.reader.specs.Answer.{Outcome, Answer, read, refused, refusedWith, written, parseAbc, answerOf}
 use Rattle.bounds.proofs.Reading.{outcome-cases}
-use Rattle.abc.specs.Packed.{mark, above, packed, unpacked, Short}
+use Rattle.abc.specs.Packed.{refusedBit, numberUnit, packed, unpacked, Short}
 
 -- a length
-pub read-back : (n : ℕ) → n < mark → unpacked n ≡ read n
+pub read-back : (n : ℕ) → n < refusedBit → unpacked n ≡ read n
 unfolding unpacked
-read-back n h = rw (lt-ltb n mark h)
+read-back n h = rw (lt-ltb n refusedBit h)
 
 -- a refusal
-pub refused-back : (n l : ℕ) → n < 256 → l < above → unpacked (mark + n * above + l) ≡ refused n l
+pub refused-back : (n l : ℕ) → n < 256 → l < numberUnit → unpacked (refusedBit + n * numberUnit + l) ≡ refused n l
 unfolding unpacked
 refused-back n l hn hl =
-    let k : ℕ = mark + n * above + l in
-    let q : (mark + n * above + l - mark) / above ≡ n = omega arith in
-    let r : (mark + n * above + l - mark) % above ≡ l = omega arith in
-    rw (le-ltb (mark + n * above + l) mark (omega arith)) (λ i. refused (q i) (r i))
+    let k : ℕ = refusedBit + n * numberUnit + l in
+    let q : (refusedBit + n * numberUnit + l - refusedBit) / numberUnit ≡ n = omega arith in
+    let r : (refusedBit + n * numberUnit + l - refusedBit) % numberUnit ≡ l = omega arith in
+    rw (le-ltb (refusedBit + n * numberUnit + l) refusedBit (omega arith)) (λ i. refused (q i) (r i))
 
 -- a reading is at most 23 times as long as its text, which is no longer than 67,108,864 bytes
 pub short-answer : (text : List ℕ) (rl sl : ℕ) → Short (answerOf (parseAbc text rl sl .verdict))

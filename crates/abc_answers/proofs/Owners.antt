@@ -8,14 +8,14 @@ use native.Mathlib.Nat.{le-refl}
 use native.Mathlib.Omega.{arith}
 use lib.Dec.{ltb, leb}
 use lib.ListN.{length, length-append}
-use Rattle.laws.specs.Lists.{All, has, indexOf}
+use Rattle.laws.specs.Lists.{All, elem, indexOf}
 use Rattle.laws.proofs.Bools.{by-test}
 use Rattle.laws.proofs.Lists.{All-append, All-map, index-lt}
 use Rattle.reader.specs.Tokens.{Effect}
 use Rattle.reader.specs.Lines.{Kind, blank, refused, lyric, voice, key, meter, unit, tune, other, music, kindOf}
-use Rattle.reader.specs.Steps.{Row, refuse, on, run}
+use Rattle.reader.specs.Steps.{TextLine, refuse, on, run}
 use Rattle.reader.specs.Scan.{Item, Items, ScanState, Out, begin, mostVoices, mostLines, firstRefusal, voicesBefore, playOn, voiceOn, unitOn, act, step, scan}
-use Rattle.bounds.proofs.ScanCosts.{Holds, holds-run, voiceCount, before-count}
+use Rattle.bounds.proofs.ScanWeights.{Holds, holds-run, voiceCount, before-count}
 
 -- the items of n parts
 abbrev pub Below : ℕ → Items → Type 0
@@ -44,7 +44,7 @@ unfolding unitOn Holds
 unit-owned s none h = same-none s _ refl refl h
 unit-owned s (some u) h = same-none s _ refl refl h
 
-voice-owned : (s : ScanState) (v : List ℕ) (vs : List (List ℕ)) (known full mid : Bool) → max 1 (length vs) ≡ voiceCount s → has v vs ≡ known → Holds (Owned s) (voiceOn s v vs known full mid)
+voice-owned : (s : ScanState) (v : List ℕ) (vs : List (List ℕ)) (known full mid : Bool) → max 1 (length vs) ≡ voiceCount s → elem v vs ≡ known → Holds (Owned s) (voiceOn s v vs known full mid)
 unfolding voiceOn Holds
 voice-owned s v vs true full true c e = tt
 voice-owned s v vs true full false c e =
@@ -62,7 +62,7 @@ act-owned s blank h p = same-none s _ refl refl p
 act-owned s (refused n) h p = tt
 act-owned s (lyric t) true p = same-none s _ refl refl p
 act-owned s (lyric t) false p = same-one s _ _ refl refl p
-act-owned s (voice v mid) h p = voice-owned s v (voicesBefore s) (has v (voicesBefore s)) (leb mostVoices (length (voicesBefore s))) mid (before-count s) refl
+act-owned s (voice v mid) h p = voice-owned s v (voicesBefore s) (elem v (voicesBefore s)) (leb mostVoices (length (voicesBefore s))) mid (before-count s) refl
 act-owned s (key k) true p = same-one s _ _ refl refl p
 act-owned s (key k) false p = same-one s _ _ refl refl p
 act-owned s (meter m) true p = same-none s _ refl refl p
@@ -75,7 +75,7 @@ act-owned s (music hi es l) true p = same-none s _ refl refl p
 act-owned s (music true es l) false p = tt
 act-owned s (music false es l) false p = play-owned s es l (firstRefusal (s .notes) es) p
 
-step-owned : (s : ScanState) (r : Row) → s .part < voiceCount s → Holds (Owned s) (step s r)
+step-owned : (s : ScanState) (r : TextLine) → s .part < voiceCount s → Holds (Owned s) (step s r)
 unfolding step Holds
 step-owned s r p = by-test (ltb (s .lines) mostLines) (λ e. rw e (act-owned s (kindOf r) (s .env .inHeader) p)) (λ e. rw e tt)
 
@@ -87,13 +87,13 @@ join s t u a b f g =
       below = All-append _ a b (All-map _ _ (λ x h. omega (arith, h, g .grows)) a (f .below)) (g .below);
     }
 
-run-owned : (rs : List Row) (s : ScanState) → s .part < voiceCount s → Holds (Owned s) (run step s rs)
+run-owned : (rs : List TextLine) (s : ScanState) → s .part < voiceCount s → Holds (Owned s) (run step s rs)
 unfolding Holds
 run-owned [] s p = same-none s s refl refl p
 run-owned (r ∷ rs) s p =
     holds-run (Owned s) (Owned s) (λ t a u b. Owned t u b) s r rs (step-owned s r p) (λ t a h. run-owned rs t (h .part-in)) (λ t a u b f g. join s t u a b f g)
 
 -- the items of a text
-pub items-owned : (rs : List Row) (t : ScanState) (a : Items) → scan rs ≡ on t a → Below (voiceCount t) a
+pub items-owned : (rs : List TextLine) (t : ScanState) (a : Items) → scan rs ≡ on t a → Below (voiceCount t) a
 unfolding scan begin Holds
 items-owned rs t a e = subst (Holds (Owned begin)) e (run-owned rs begin (omega arith)) .below

@@ -6,7 +6,7 @@ use mathlib.Core.List.{List, [], _∷_}
 use Rattle.laws.specs.Lists.{foldl, any}
 use Rattle.laws.proofs.Bools.{by-test, or-no-left, or-no-right}
 use Rattle.standard.specs.Keys.{Key}
-use Rattle.reader.specs.Scan.{Item, born, reset, headed, keyed, metered, sung, played, Env}
+use Rattle.reader.specs.Scan.{Item, voiceDeclared, reset, keyInHeader, keyChange, meterChange, lyricLine, musicLine, Env}
 use Rattle.reader.specs.State.{PartState, Measure, onOpen, newPart}
 use Rattle.reader.specs.Part.{Part, emptyPart, hears, onLyric, onKey, onItem, dropped, marked, finished, build}
 use Rattle.reader.specs.Voltas.{close, closed}
@@ -25,13 +25,13 @@ open-none f s h = rw h
 
 item-none : (header : Key) (s : PartState) (i : Item) → isMusic i ≡ false → s .measures ≡ [] → onItem header s i .measures ≡ []
 unfolding onItem onLyric isMusic
-item-none header s (born b) e h = h
+item-none header s (voiceDeclared b) e h = h
 item-none header s reset e h = h
-item-none header s headed e h = h
-item-none header s (keyed k) e h = key-none header k (s .measures) s h h
-item-none header s (metered t) e h = open-none _ s h
-item-none header s (sung b t) e h = h
-item-none header s (played u t l) e h = absurd (true≢false e)
+item-none header s keyInHeader e h = h
+item-none header s (keyChange k) e h = key-none header k (s .measures) s h h
+item-none header s (meterChange t) e h = open-none _ s h
+item-none header s (lyricLine b t) e h = h
+item-none header s (musicLine u t l) e h = absurd (true≢false e)
 
 items-none : (header : Key) (is : List Item) (s : PartState) → any isMusic is ≡ false → s .measures ≡ [] → foldl (onItem header) s is .measures ≡ []
 items-none header [] s e h = h

@@ -12,7 +12,7 @@ use Rattle.laws.proofs.Bools.{by-test}
 use Rattle.laws.proofs.Lists.{length-onFirst}
 use Rattle.standard.specs.Keys.{Key}
 use Rattle.reader.specs.Tokens.{tokens}
-use Rattle.reader.specs.Scan.{Item, born, reset, headed, keyed, metered, sung, played, Env}
+use Rattle.reader.specs.Scan.{Item, voiceDeclared, reset, keyInHeader, keyChange, meterChange, lyricLine, musicLine, Env}
 use Rattle.reader.specs.State.{PartState, Measure, isEmpty, onOpen, newPart}
 use Rattle.reader.specs.Part.{Part, hears, onLyric, onKey, onItem, onLine, lineBegins, dropped, inOrder, marked, finished, build}
 use Rattle.reader.specs.Voltas.{starts, endsAt, close, closed}
@@ -31,19 +31,19 @@ key-some header k [] s h = h
 key-some header k (m ∷ ms) s h = open-some _ _ h
 
 -- a music line opens one
-line-some : (header : Key) (s : PartState) (u : ℕ) (t : ℕ × ℕ) (l : List ℕ) → Kept s → 0 < length (onItem header s (played u t l) .measures)
+line-some : (header : Key) (s : PartState) (u : ℕ) (t : ℕ × ℕ) (l : List ℕ) → Kept s → 0 < length (onItem header s (musicLine u t l) .measures)
 unfolding onItem onLine
 line-some header s u t l k = ready-after (lineBegins u t s) (tokens 0 l) (ready-begins u t s (k .voices-kept) (k .scopes-kept)) .is-open
 
 item-some : (header : Key) (s : PartState) (i : Item) → Kept s → 0 < length (s .measures) → 0 < length (onItem header s i .measures)
 unfolding onItem onLyric
-item-some header s (born b) k h = h
+item-some header s (voiceDeclared b) k h = h
 item-some header s reset k h = h
-item-some header s headed k h = h
-item-some header s (keyed q) k h = key-some header q (s .measures) s h
-item-some header s (metered t) k h = open-some _ s h
-item-some header s (sung b t) k h = h
-item-some header s (played u t l) k h = line-some header s u t l k
+item-some header s keyInHeader k h = h
+item-some header s (keyChange q) k h = key-some header q (s .measures) s h
+item-some header s (meterChange t) k h = open-some _ s h
+item-some header s (lyricLine b t) k h = h
+item-some header s (musicLine u t l) k h = line-some header s u t l k
 
 items-some : (header : Key) (is : List Item) (s : PartState) → Kept s → 0 < length (s .measures) → 0 < length (foldl (onItem header) s is .measures)
 items-some header [] s k h = h
@@ -52,13 +52,13 @@ items-some header (i ∷ is) s k h = items-some header is (onItem header s i) (k
 -- the first music line
 music-some : (header : Key) (s : PartState) (i : Item) → Kept s → isMusic i ≡ true → 0 < length (onItem header s i .measures)
 unfolding isMusic
-music-some header s (born b) k e = absurd (false≢true e)
+music-some header s (voiceDeclared b) k e = absurd (false≢true e)
 music-some header s reset k e = absurd (false≢true e)
-music-some header s headed k e = absurd (false≢true e)
-music-some header s (keyed q) k e = absurd (false≢true e)
-music-some header s (metered t) k e = absurd (false≢true e)
-music-some header s (sung b t) k e = absurd (false≢true e)
-music-some header s (played u t l) k e = line-some header s u t l k
+music-some header s keyInHeader k e = absurd (false≢true e)
+music-some header s (keyChange q) k e = absurd (false≢true e)
+music-some header s (meterChange t) k e = absurd (false≢true e)
+music-some header s (lyricLine b t) k e = absurd (false≢true e)
+music-some header s (musicLine u t l) k e = line-some header s u t l k
 
 played-some : (header : Key) (is : List Item) (s : PartState) → Kept s → any isMusic is ≡ true → 0 < length (foldl (onItem header) s is .measures)
 played-some header [] s k e = absurd (false≢true e)

@@ -12,12 +12,12 @@ use Rattle.laws.specs.Bytes.{le32}
 use Rattle.laws.proofs.Bools.{by-test, or-left, or-right, eqb-same}
 use Rattle.laws.proofs.Lists.{any-none}
 use Rattle.standard.specs.Keys.{Key}
-use Rattle.reader.specs.Steps.{mine}
+use Rattle.reader.specs.Steps.{itemsOf}
 use Rattle.reader.specs.Scan.{Item, Items, Env}
 use Rattle.reader.specs.Part.{Part, build}
 use Rattle.reader.specs.Records.{sections}
 use Rattle.reader.specs.Answer.{isMusic, built, parts, partBytes, encode, measureCount}
-use Rattle.bounds.proofs.ScanCosts.{voiceCount}
+use Rattle.bounds.proofs.ScanWeights.{voiceCount}
 use Rattle.bounds.proofs.Length.{parts-count, silent-parts}
 use Rattle.abc_answers.specs.Parts.{partsOf, bytesOf, hasMusic}
 use Rattle.abc_answers.proofs.Silent.{built-sections}
@@ -34,27 +34,27 @@ parts-last e f (suc n) p =
     ap (λ (l : List ℕ). sections (built e (f p)) ++ l) (parts-last e f n (suc p) ∙ ap (λ (k : ℕ). partBytes (parts e f n (suc p)) ++ sections (built e (f k))) z)
     ∙ sym (append-assoc (sections (built e (f p))) (partBytes (parts e f n (suc p))) (sections (built e (f (p + suc n)))))
 
-parts-same : (e : Env) (a : Items) (n : ℕ) → partBytes (parts e (λ p. mine p a) n 0) ≡ partsOf (e .headerKey) a n
+parts-same : (e : Env) (a : Items) (n : ℕ) → partBytes (parts e (λ p. itemsOf p a) n 0) ≡ partsOf (e .headerKey) a n
 unfolding parts partBytes partsOf
 parts-same e a zero = refl
 parts-same e a (suc n) =
-    parts-last e (λ p. mine p a) n 0
-    ∙ ap (λ (k : ℕ). partBytes (parts e (λ p. mine p a) n 0) ++ sections (built e (mine k a))) (zero-add n)
-    ∙ (λ i. parts-same e a n i ++ built-sections e (mine n a) i)
+    parts-last e (λ p. itemsOf p a) n 0
+    ∙ ap (λ (k : ℕ). partBytes (parts e (λ p. itemsOf p a) n 0) ++ sections (built e (itemsOf k a))) (zero-add n)
+    ∙ (λ i. parts-same e a n i ++ built-sections e (itemsOf n a) i)
 
 -- the definition's bytes are those that are written
-pub encode-same : (e : Env) (a : Items) (n : ℕ) → encode (parts e (λ p. mine p a) n 0) ≡ bytesOf (e .headerKey) a n
+pub encode-same : (e : Env) (a : Items) (n : ℕ) → encode (parts e (λ p. itemsOf p a) n 0) ≡ bytesOf (e .headerKey) a n
 unfolding encode bytesOf
-encode-same e a n = λ i. le32 (parts-count e (λ p. mine p a) n 0 i) ++ parts-same e a n i
+encode-same e a n = λ i. le32 (parts-count e (λ p. itemsOf p a) n 0 i) ++ parts-same e a n i
 
 -- THE MEASURES
 -- a part's items have a music line
-loud : (n : ℕ) (a : Items) → Below n a → hasMusic a ≡ true → (p : ℕ) × (p < n) × (any isMusic (mine p a) ≡ true)
+loud : (n : ℕ) (a : Items) → Below n a → hasMusic a ≡ true → (p : ℕ) × (p < n) × (any isMusic (itemsOf p a) ≡ true)
 loud n [] b h = absurd (false≢true h)
 loud n (x ∷ a) b h = by-test (isMusic (x .1)) (λ m. (x .0, b .0, rw (eqb-same (x .0)) (rw m))) (λ m. behind (loud n a (b .1) (rw m at h)))
   where
-    behind : ((p : ℕ) × (p < n) × (any isMusic (mine p a) ≡ true)) → (p : ℕ) × (p < n) × (any isMusic (mine p (x ∷ a)) ≡ true)
-    behind q = (q .0, q .1, by-test (eqb (x .0) (q .0)) (λ e. rw e (or-right (isMusic (x .1)) (any isMusic (mine (q .0) a)) (q .2))) (λ e. rw e (q .2)))
+    behind : ((p : ℕ) × (p < n) × (any isMusic (itemsOf p a) ≡ true)) → (p : ℕ) × (p < n) × (any isMusic (itemsOf p (x ∷ a)) ≡ true)
+    behind q = (q .0, q .1, by-test (eqb (x .0) (q .0)) (λ e. rw e (or-right (isMusic (x .1)) (any isMusic (itemsOf (q .0) a)) (q .2))) (λ e. rw e (q .2)))
 
 -- one part's measures are among all
 one-of : (e : Env) (f : ℕ → List Item) (n q p : ℕ) → q ≤ p → p < q + n → measureCount (built e (f p)) ≤ sum measureCount (parts e f n q)
@@ -69,18 +69,18 @@ one-of e f (suc n) q p l h =
     later t = omega (arith, eqb-false q p t)
 
 -- there is a measure where there is a music line
-pub measures-told : (e : Env) (a : Items) (n : ℕ) → Below n a → leb 1 (sum measureCount (parts e (λ p. mine p a) n 0)) ≡ hasMusic a
+pub measures-told : (e : Env) (a : Items) (n : ℕ) → Below n a → leb 1 (sum measureCount (parts e (λ p. itemsOf p a) n 0)) ≡ hasMusic a
 measures-told e a n b = by-test (hasMusic a) (λ h. yes h (loud n a b h)) no
   where
     all : ℕ
-    all = sum measureCount (parts e (λ p. mine p a) n 0)
+    all = sum measureCount (parts e (λ p. itemsOf p a) n 0)
 
-    yes : hasMusic a ≡ true → ((p : ℕ) × (p < n) × (any isMusic (mine p a) ≡ true)) → leb 1 all ≡ hasMusic a
+    yes : hasMusic a ≡ true → ((p : ℕ) × (p < n) × (any isMusic (itemsOf p a) ≡ true)) → leb 1 all ≡ hasMusic a
     yes h q =
-        le-leb 1 (sum measureCount (parts e (λ p. mine p a) n 0)) (omega (arith, one-of e (λ p. mine p a) n 0 (q .0) (omega arith) (omega (arith, q .1)), built-some e (mine (q .0) a) (q .2)))
+        le-leb 1 (sum measureCount (parts e (λ p. itemsOf p a) n 0)) (omega (arith, one-of e (λ p. itemsOf p a) n 0 (q .0) (omega arith) (omega (arith, q .1)), built-some e (itemsOf (q .0) a) (q .2)))
         ∙ sym h
 
     no : hasMusic a ≡ false → leb 1 all ≡ hasMusic a
     no h =
-        lt-leb 1 (sum measureCount (parts e (λ p. mine p a) n 0)) (omega (arith, silent-parts e a n 0 (any-none (λ (x : ℕ × Item). isMusic (x .1)) a h)))
+        lt-leb 1 (sum measureCount (parts e (λ p. itemsOf p a) n 0)) (omega (arith, silent-parts e a n 0 (any-none (λ (x : ℕ × Item). isMusic (x .1)) a h)))
         ∙ sym h

@@ -5,7 +5,7 @@ use mathlib.Core.List.{List, [], _++_}
 use Rattle.laws.specs.Lists.{any}
 use Rattle.laws.specs.Bytes.{le32}
 use Rattle.standard.specs.Keys.{Key}
-use Rattle.reader.specs.Steps.{mine}
+use Rattle.reader.specs.Steps.{itemsOf}
 use Rattle.reader.specs.Scan.{Item, Items}
 use Rattle.reader.specs.Part.{build}
 use Rattle.reader.specs.Records.{sections}
@@ -14,7 +14,7 @@ use Rattle.reader.specs.Answer.{isMusic}
 -- the sections of the parts 0 up to n of the items a, with the header's key k
 unfoldable pub partsOf : Key → Items → ℕ → List ℕ
 partsOf k a zero = []
-partsOf k a (suc n) = partsOf k a n ++ sections (build k (mine n a))
+partsOf k a (suc n) = partsOf k a n ++ sections (build k (itemsOf n a))
 
 -- behind their count
 unfoldable pub bytesOf : Key → Items → ℕ → List ℕ

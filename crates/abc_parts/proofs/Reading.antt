@@ -10,7 +10,7 @@ use Rattle.standard.specs.Keys.{Key}
 use Rattle.standard.specs.Pitches.{Pitch}
 use Rattle.reader.specs.State.{Note}
 use Rattle.reader.specs.Lyrics.{Syllable, sungBy}
-use Rattle.reader.specs.Steps.{mine}
+use Rattle.reader.specs.Steps.{itemsOf}
 use Rattle.reader.specs.Records as Records
 use Rattle.reader.specs.Records.{pitchBytes}
 use Rattle.reader.specs.Part as Part
@@ -39,7 +39,7 @@ use Rattle.write_pitches.specs.Out.{pitchTotal, PitchesIn}
 use Rattle.write_pitches.proofs.Out.{pitches-total}
 use Rattle.part_registers.specs.declared.Tables.{Tables}
 use Rattle.part_registers.specs.declared.Registers.{Registers}
-use Rattle.part_invariant.specs.Held.{pitchesIn}
+use Rattle.part_invariant.specs.Invariant.{pitchesIn}
 use Rattle.capacity.specs.Sizes.{tones}
 use Rattle.part_sizing.specs.Room.{musicAt, Sized}
 use Rattle.part_sizing.proofs.Fits.{sheet-fits}
@@ -57,18 +57,18 @@ module _ (text s : List ℕ) (n p : ℕ) (header : Key) (t : Tables) (z : Sized 
   heads-inside = omega (arith, b .room .for-heads, b .room .for-notes, b .room .for-pitches, b .room .for-scopes, b .room .ends)
 
   log-small : length (state .log) < 2 ^ 32
-  log-small = omega (arith, b .held .stored .notes-are, b .room .for-notes, b .room .for-pitches, b .room .for-scopes, b .room .small)
+  log-small = omega (arith, b .represents .stored .notes-are, b .room .for-notes, b .room .for-pitches, b .room .for-scopes, b .room .small)
 
   heads-small : All Small (state .heads)
   heads-small =
-      let w = between-items header (mine p (itemsIn text s n)) in
+      let w = between-items header (itemsOf p (itemsIn text s n)) in
       fits-small (state .heads) (state .log) (sim-fits state (w .part) (w .sim)) log-small
 
   -- and the part's end is done
   module _ (short : length text ≤ 67108864) (s₂ : List ℕ) (m : ℕ) (o : Only (t .heads) (t .heads + 28 * r .counts .heads) s₁ s₂)
       (e : (heads : List Head) → Table headRow 28 s₁ (t .heads) heads → length heads ≡ r .counts .heads → All Small heads → (m ≡ length (dropped heads)) × Table headRow 28 s₂ (t .heads) (marked header (close none (dropped heads)))) (most : m ≤ r .counts .heads) where
     ended : (m ≡ length (dropped (state .heads))) × Table headRow 28 s₂ (t .heads) (marked header (close none (dropped (state .heads))))
-    ended = e (state .heads) (b .held .stored .heads-table) (sym (b .held .stored .heads-are)) heads-small
+    ended = e (state .heads) (b .represents .stored .heads-table) (sym (b .represents .stored .heads-are)) heads-small
 
     abbrev rows-left : Rows
     rows-left = record { measures = m; notes = r .counts .notes; pitches = r .counts .pitches; sounded = r .verses .sounded }
@@ -77,26 +77,26 @@ module _ (text s : List ℕ) (n p : ℕ) (header : Key) (t : Tables) (z : Sized 
     behind = omega (arith, b .room .for-heads)
 
     notes-now : Table noteRow 16 s₂ (t .notes) (state .log)
-    notes-now = table-back (b .held .stored .notes-table) o behind
+    notes-now = table-back (b .represents .stored .notes-table) o behind
 
     pitches-now : Table pitchBytes 5 s₂ (t .pitches) (pitchesIn (state .log))
-    pitches-now = subst (λ (ps : List Pitch). Table pitchBytes 5 s₂ (t .pitches) ps) (append-nil (pitchesIn (state .log))) (table-back (b .held .stored .pitches-table) o (omega (arith, behind, b .room .for-notes)))
+    pitches-now = subst (λ (ps : List Pitch). Table pitchBytes 5 s₂ (t .pitches) ps) (append-nil (pitchesIn (state .log))) (table-back (b .represents .stored .pitches-table) o (omega (arith, behind, b .room .for-notes)))
 
     pitches-count : length (pitchesIn (state .log)) ≡ r .counts .pitches
-    pitches-count = ap length (sym (append-nil (pitchesIn (state .log)))) ∙ sym (b .held .stored .pitches-are)
+    pitches-count = ap length (sym (append-nil (pitchesIn (state .log)))) ∙ sym (b .represents .stored .pitches-are)
 
     music-read : PitchesIn s₂ (t .heads) m (t .notes) (t .pitches) (r .counts .pitches) (laidOf header text s n p .heads) (laidOf header text s n p .log)
     unfolding build finished
     music-read =
         record {
-          held =
+          represents =
               record {
                 heads-held = ended .1;
                 heads-count = length-end header (state .heads) ∙ sym (ended .0);
                 notes-held = notes-now;
                 notes-count = refl;
                 small = log-small;
-                fits = build-fits header (mine p (itemsIn text s n));
+                fits = build-fits header (itemsOf p (itemsIn text s n));
               };
           pitches-held = pitches-now;
           pitches-count = pitches-count;
@@ -118,15 +118,15 @@ module _ (text s : List ℕ) (n p : ℕ) (header : Key) (t : Tables) (z : Sized 
     -- no more notes are sung to than the music can make
     sounded-most : r .verses .sounded ≤ tones (musicAt text s n p)
     sounded-most =
-        omega (arith, b .held .sounded-most, b .room .for-notes, ap (λ (x : Tables). x .notes) (z .is), ap (λ (x : Tables). x .pitches) (z .is))
+        omega (arith, b .represents .sounded-most, b .room .for-notes, ap (λ (x : Tables). x .notes) (z .is), ap (λ (x : Tables). x .pitches) (z .is))
 
     pub part-read : PartRead text s n p header t s₂ rows-left
     unfolding build finished
     part-read =
         record {
           music = music-read;
-          notes-are = sym (b .held .stored .notes-are);
-          words = λ i. sungBy (sym lines-now i) (replicate (sym (b .held .sounded-is) i) []);
+          notes-are = sym (b .represents .stored .notes-are);
+          words = λ i. sungBy (sym lines-now i) (replicate (sym (b .represents .sounded-is) i) []);
           for-heads = omega (arith, behind, most);
           for-notes = omega (arith, b .room .for-notes);
           for-pitches = omega (arith, b .room .for-pitches);
@@ -150,9 +150,9 @@ module _ (text s : List ℕ) (n p : ℕ) (header : Key) (t : Tables) (s₂ : Lis
 
   music-sung : PitchesIn s₃ (t .heads) (d .measures) (t .notes) (t .pitches) (d .pitches) (laidOf header text s n p .heads) (laidOf header text s n p .log)
   music-sung =
-      let h = q .music .held in
+      let h = q .music .represents in
       record {
-        held =
+        represents =
             record {
               heads-held = table-front (h .heads-held) sung-only (omega (arith, h .heads-count, q .for-heads, q .for-notes, q .for-pitches));
               heads-count = h .heads-count;
@@ -172,7 +172,7 @@ module _ (text s : List ℕ) (n p : ℕ) (header : Key) (t : Tables) (s₂ : Lis
   -- the sections can be written
   pub part-stands : (t .heads + 28 * d .measures ≤ length s₃) × (d .measures < 2 ^ 32) × (t .notes + 16 * total s₃ (t .heads) (d .measures) ≤ length s₃) × (d .notes < 2 ^ 32) × (t .pitches + 5 * pitchTotal s₃ (t .notes) (total s₃ (t .heads) (d .measures)) ≤ length s₃) × (d .pitches < 2 ^ 32) × (walks.Tables s₃ sheet) × (sheet .count + 1 < 18446744073709551616)
   part-stands =
-      let all = notes-total (music-sung .held) in
+      let all = notes-total (music-sung .represents) in
       let sounds = pitches-total music-sung in (
         omega (arith, inside, q .for-heads, q .for-notes, q .for-pitches),
         omega (arith, q .for-heads, q .for-notes, q .for-pitches, q .small),
@@ -187,9 +187,9 @@ module _ (text s : List ℕ) (n p : ℕ) (header : Key) (t : Tables) (s₂ : Lis
   -- and are the part's
   pub part-wrote : {to to′ : List ℕ} {r : Wrote} → ((ms : List Head) (log : List (ℕ × Note)) → PitchesIn s₃ (t .heads) (d .measures) (t .notes) (t .pitches) (d .pitches) ms log → length log ≡ d .notes
       → WroteIs to (layout.sections (record { heads = ms; log = log; words = syllablesIn text s₃ sheet })) to′ r)
-      → WroteIs to (Records.sections (Part.build header (mine p (itemsIn text s n)))) to′ r
+      → WroteIs to (Records.sections (Part.build header (itemsOf p (itemsIn text s n)))) to′ r
   part-wrote w =
       let b = laidOf header text s n p in
       let words : syllablesIn text s₃ sheet ≡ b .words = ap (syllablesIn text s₃) at ∙ u .sung ∙ sym (q .words) in
       wrote-as (w (b .heads) (b .log) music-sung (q .notes-are))
-      (ap (λ (ws : List (List Syllable)). layout.sections (record { heads = b .heads; log = b .log; words = ws })) words ∙ same-sections header (mine p (itemsIn text s n)))
+      (ap (λ (ws : List (List Syllable)). layout.sections (record { heads = b .heads; log = b .log; words = ws })) words ∙ same-sections header (itemsOf p (itemsIn text s n)))

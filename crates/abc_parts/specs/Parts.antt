@@ -5,7 +5,7 @@ use mathlib.Core.List.{List, []}
 use lib.ListN.{length, replicate}
 use Rattle.standard.specs.Keys.{Key}
 use Rattle.reader.specs.Lyrics.{sungBy}
-use Rattle.reader.specs.Steps.{mine}
+use Rattle.reader.specs.Steps.{itemsOf}
 use Rattle.part_layout.specs.Ends.{Laid, build}
 use Rattle.scan_table.specs.Rows.{itemsIn}
 use Rattle.lyrics.specs.declared.Sheet.{Sheet}
@@ -16,7 +16,7 @@ use Rattle.abc_parts.specs.declared.Rows.{Rows}
 
 -- the part, as the code lays it out
 abbrev pub laidOf : Key → List ℕ → List ℕ → ℕ → ℕ → Laid
-laidOf header text s n p = build header (mine p (itemsIn text s n))
+laidOf header text s n p = build header (itemsOf p (itemsIn text s n))
 
 -- the sheet of its lyrics, with c rows: it stands where the accidentals in force stood
 abbrev pub sheetAt : Tables → Rows → ℕ → Sheet

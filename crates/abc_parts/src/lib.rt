@@ -5,7 +5,7 @@ ghost use Prim.Native.Nat.{_≤_};
 ghost use lib.ListN.{length, replicate};
 ghost use Rattle.reader.specs.Part.{build};
 ghost use Rattle.reader.specs.Records as Records;
-ghost use Rattle.reader.specs.Steps.{mine};
+ghost use Rattle.reader.specs.Steps.{itemsOf};
 ghost use Rattle.scan_table.specs.Rows.{itemsIn};
 ghost use Rattle.lyrics.specs.Items.{Fits, AllSung};
 ghost use Rattle.store_sections.specs.Writes.{WroteIs};
@@ -82,7 +82,7 @@ pub fn write_part(
     to: &mut [u8],
 ) -> Wrote
     requires { ⌜ PartRoom (now text) (now scratch) n part ⌝ }
-    ensures { λ r. ⌜ WroteIs (now (to .entry)) (Records.sections (build (record { fifths = fifths; minor = minor }) (mine part (itemsIn (now (text .entry)) (now (scratch .entry)) n)))) (now (to .exit)) r ⌝ }
+    ensures { λ r. ⌜ WroteIs (now (to .entry)) (Records.sections (build (record { fifths = fifths; minor = minor }) (itemsOf part (itemsIn (now (text .entry)) (now (scratch .entry)) n)))) (now (to .exit)) r ⌝ }
     ensures { λ _. ⌜ (itemsIn (now (text .entry)) (now (scratch .exit)) n ≡ itemsIn (now (text .entry)) (now (scratch .entry)) n) × (length (now (scratch .exit)) ≡ length (now (scratch .entry))) ⌝ }
 {
     let t = part_sizing::size_part(text, scratch, n, part);

@@ -6,14 +6,14 @@ use mathlib.Core.Option.{Option, none, some}
 use mathlib.Core.List.{List, _++_}
 use native.Mathlib.Omega.{arith}
 use lib.ListN.{length, getElem?}
-use Rattle.laws.specs.Lists.{has, indexOf}
+use Rattle.laws.specs.Lists.{elem, indexOf}
 use Rattle.laws.specs.Bytes.{zeros}
-use Rattle.reader.specs.Steps.{Row}
+use Rattle.reader.specs.Steps.{TextLine}
 use Rattle.reader.specs.Part.{Part}
 use Rattle.reader.specs.Answer.{Verdict, refusal, reading, Outcome, Answer, read, refused, encode, refusedWith, written, parseAbc, answerOf}
 use Rattle.bounds.proofs.Reading.{outcome-cases}
 use Rattle.blocks.specs.Blocks.{blocks, rebuilt}
-use Rattle.blocks.specs.Demand.{IsReading, Accepted, Meant, Moved, voices, only, partIn, partOf}
+use Rattle.blocks.specs.Demand.{IsReading, Accepted, Hypotheses, Moved, voices, onlyVoice, partIn, partOf}
 use Rattle.blocks.proofs.Demand.{demand-3, by-name}
 use Rattle.blocks.proofs.Parts.{part-there}
 use Rattle.abc_text.specs.declared.Answer as code
@@ -78,12 +78,12 @@ held text rl sl =
 
 pub each-alone : Each-alone
 each-alone text rl sl m v hv rl′ sl′ n r d d′ s s′ c c′ =
-    let a : Accepted (parseAbc (only text v) rl′ sl′) = read-accepted (parseAbc (only text v) rl′ sl′ .verdict) n (c′ .0) in
+    let a : Accepted (parseAbc (onlyVoice text v) rl′ sl′) = read-accepted (parseAbc (onlyVoice text v) rl′ sl′ .verdict) n (c′ .0) in
     let q : (x : Part) × (partOf text rl sl v ≡ some x) = part-there text rl sl (m .accepted) v hv in (
       q .0,
       (
         subst (λ (l : List ℕ). PartIn l (indexOf v (voices text)) (q .0)) (sym (c .1 .0)) (held text rl sl (indexOf v (voices text)) (q .0) (q .1)),
-        subst (λ (l : List ℕ). PartIn l (indexOf v (voices (only text v))) (q .0)) (sym (c′ .1 .0))
-            (held (only text v) rl′ sl′ (indexOf v (voices (only text v))) (q .0) (sym (by-name text rl sl m v hv rl′ sl′ a) ∙ q .1)),
+        subst (λ (l : List ℕ). PartIn l (indexOf v (voices (onlyVoice text v))) (q .0)) (sym (c′ .1 .0))
+            (held (onlyVoice text v) rl′ sl′ (indexOf v (voices (onlyVoice text v))) (q .0) (sym (by-name text rl sl m v hv rl′ sl′ a) ∙ q .1)),
       ),
     )

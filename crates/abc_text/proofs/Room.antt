@@ -7,12 +7,12 @@ use native.Mathlib.Omega.{arith}
 use lib.ListN.{length, take, drop, length-append}
 use Rattle.laws.specs.Lists.{sum}
 use Rattle.standard.specs.Keys.{Key}
-use Rattle.reader.specs.Steps.{mine}
+use Rattle.reader.specs.Steps.{itemsOf}
 use Rattle.reader.specs.Scan.{Items}
 use Rattle.reader.specs.Part.{build}
 use Rattle.reader.specs.Records.{sections}
 use Rattle.reader.specs.Answer.{scratchNeeded}
-use Rattle.bounds.specs.Prices.{itemBytes}
+use Rattle.bounds.specs.Weights.{itemBytes}
 use Rattle.bounds.proofs.Tables.{part-room}
 use Rattle.store_sections.specs.declared.Wrote.the-variants.{To, NoRoom}
 use Rattle.store_sections.specs.Writes.{WroteIs}
@@ -30,7 +30,7 @@ pub rooms-left : (text s : List ℕ) (h : Shared) → Done text s h → length t
 unfolding scratchNeeded
 rooms-left text s h d short fits = record { room = λ q. at-part q (part-room text (d .state) (itemsIn text s (h .items)) q (d .scanned)) }
   where
-    at-part : (q : ℕ) → 256 + 16 * length (itemsIn text s (h .items)) + 28 + 28 * sum itemBytes (mine q (itemsIn text s (h .items))) ≤ scratchNeeded (length text)
+    at-part : (q : ℕ) → 256 + 16 * length (itemsIn text s (h .items)) + 28 + 28 * sum itemBytes (itemsOf q (itemsIn text s (h .items))) ≤ scratchNeeded (length text)
         → PartRoom text s (h .items) q
     at-part q p =
         let n = length-items text s (h .items) in
@@ -45,7 +45,7 @@ pub parts-none : (k : Key) (a : Items) → partsOf k a 0 ≡ []
 unfolding partsOf
 parts-none k a = refl
 
-pub parts-more : (k : Key) (a : Items) (n : ℕ) → partsOf k a (n + 1) ≡ partsOf k a n ++ sections (build k (mine n a))
+pub parts-more : (k : Key) (a : Items) (n : ℕ) → partsOf k a (n + 1) ≡ partsOf k a n ++ sections (build k (itemsOf n a))
 unfolding partsOf
 parts-more k a n = rw (add-one n)
 
@@ -54,17 +54,17 @@ pub parts-mono : (k : Key) (a : Items) (m n : ℕ) → length (partsOf k a m) �
 parts-mono k a m zero = let z : m + 0 ≡ m = omega arith in rw z (omega arith)
 parts-mono k a m (suc n) =
     let z : m + suc n ≡ (m + n) + 1 = omega arith in
-    rw z (omega (arith, parts-mono k a m n, ap length (parts-more k a (m + n)), length-append (partsOf k a (m + n)) (sections (build k (mine (m + n) a)))))
+    rw z (omega (arith, parts-mono k a m n, ap length (parts-more k a (m + n)), length-append (partsOf k a (m + n)) (sections (build k (itemsOf (m + n) a)))))
 
 -- a part more behind those that are written
 pub one-part : {d e f : List ℕ} {at m : ℕ} (k : Key) (a b : Items) (part : ℕ) → WroteIs d (partsOf k a part) e (To at) → b ≡ a
-    → WroteIs (take (length e - at) (drop at e)) (sections (build k (mine part b))) f (To m)
+    → WroteIs (take (length e - at) (drop at e)) (sections (build k (itemsOf part b))) f (To m)
     → WroteIs d (partsOf k a (part + 1)) (take at e ++ (f ++ drop (length e - at) (drop at e))) (To (at + m))
 one-part k a b part h q g = rw (parts-more k a part) (next-to h (rw q at g))
 
 -- or no room for it: none for all
 pub no-part : {d e f : List ℕ} {at : ℕ} (k : Key) (a b : Items) (part count : ℕ) → part < count → WroteIs d (partsOf k a part) e (To at) → b ≡ a
-    → WroteIs (take (length e - at) (drop at e)) (sections (build k (mine part b))) f NoRoom → {z : List ℕ} → WroteIs d (partsOf k a count) z NoRoom
+    → WroteIs (take (length e - at) (drop at e)) (sections (build k (itemsOf part b))) f NoRoom → {z : List ℕ} → WroteIs d (partsOf k a count) z NoRoom
 no-part k a b part count l h q g =
     let n : part + 1 + (count - (part + 1)) ≡ count = omega arith in
     none-more (next-none h (rw q at g) {z = []}) (partsOf k a count)

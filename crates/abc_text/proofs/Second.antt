@@ -8,8 +8,8 @@ use lib.ListN.{length}
 use Rattle.laws.specs.Lists.{sum}
 use Rattle.laws.specs.Bytes.{zeros}
 use Rattle.laws.proofs.Bools.{by-test}
-use Rattle.reader.specs.Text.{rows}
-use Rattle.reader.specs.Steps.{mine, refuse, on}
+use Rattle.reader.specs.Text.{textLines}
+use Rattle.reader.specs.Steps.{itemsOf, refuse, on}
 use Rattle.reader.specs.Scan.{Items, ScanState, Out, scan}
 use Rattle.reader.specs.Part.{Part}
 use Rattle.reader.specs.Answer.{Outcome, refusedWith, parts, encode, measureCount, written, ended, finish, scanned, answerOf}
@@ -53,9 +53,9 @@ module _ (text s : List ℕ) (h : Shared) (d : Done text s h) where
 
   -- the parts of the definition
   allParts : List Part
-  allParts = parts (d .state .env) (λ p. mine p items) (max 1 (length (d .state .env .voices))) 0
+  allParts = parts (d .state .env) (λ p. itemsOf p items) (max 1 (length (d .state .env .voices))) 0
 
-  after : (rl sl : ℕ) → scanned rl sl (scan (rows text)) ≡ ended allParts rl sl
+  after : (rl sl : ℕ) → scanned rl sl (scan (textLines text)) ≡ ended allParts rl sl
   unfolding scanned finish allParts items
   after rl sl = ap (scanned rl sl) (d .scanned)
 
@@ -63,7 +63,7 @@ module _ (text s : List ℕ) (h : Shared) (d : Done text s h) where
   measures : leb 1 (sum measureCount allParts) ≡ h .music
   unfolding allParts items
   measures =
-      measures-told (d .state .env) (itemsIn text s (h .items)) (max 1 (length (d .state .env .voices))) (items-owned (rows text) (d .state) (itemsIn text s (h .items)) (d .scanned))
+      measures-told (d .state .env) (itemsIn text s (h .items)) (max 1 (length (d .state .env .voices))) (items-owned (textLines text) (d .state) (itemsIn text s (h .items)) (d .scanned))
       ∙ sym (d .music)
 
   -- their bytes
@@ -78,12 +78,12 @@ module _ (text s : List ℕ) (h : Shared) (d : Done text s h) where
 
   -- NO MEASURE
   pub silent-parsed : (rl sl : ℕ) (r : code.Answer) (reading scratch : List ℕ) → h .music ≡ false → Parsed (refusedWith 1 0 rl sl) r reading scratch
-      → Parsed (scanned rl sl (scan (rows text))) r reading scratch
+      → Parsed (scanned rl sl (scan (textLines text))) r reading scratch
   silent-parsed rl sl r reading scratch m p = rw (after rl sl) (ended-silent allParts rl sl r reading scratch (measures ∙ m) p)
 
   -- A MEASURE: the parts are written, and the rest is cleared
   pub written-parsed : (rl sl : ℕ) (w : Wrote) (reading scratch : List ℕ) → h .music ≡ true
       → Filled (bytesOf (record { fifths = h .fifths; minor = h .minor }) (itemsIn text s (h .items)) (max 1 (h .voices))) rl w reading → scratch ≡ zeros sl
-      → Parsed (scanned rl sl (scan (rows text))) (wroteAs w) reading scratch
+      → Parsed (scanned rl sl (scan (textLines text))) (wroteAs w) reading scratch
   written-parsed rl sl w reading scratch m f z =
       rw (after rl sl) (ended-written allParts rl sl w reading scratch (measures ∙ m) (subst (λ (bs : List ℕ). Filled bs rl w reading) (sym bytes) f) z)

@@ -4,7 +4,7 @@ ghost use mathlib.Core.Path.{_≡_};
 ghost use mathlib.Core.List.{List};
 ghost use Prim.Native.Nat.{ℕ, _+_, _*_, _^_, _≤_, _<_, max};
 ghost use lib.ListN.{length};
-ghost use Rattle.reader.specs.Text.{rows};
+ghost use Rattle.reader.specs.Text.{textLines};
 ghost use Rattle.reader.specs.Scan.{scan};
 ghost use Rattle.reader.specs.Answer.{scratchNeeded, refusedWith, scanned, parseAbc, answerOf};
 ghost use Rattle.scan_table.specs.Rows.{itemsIn};
@@ -133,7 +133,7 @@ fn wrote_answer(w: Wrote) -> Answer
 fn finish(text: &[u8], reading: &mut [u8], scratch: &mut [u8], h: Shared) -> Answer
     requires { ⌜ Done (now text) (now scratch) h ⌝ }
     requires { ⌜ (length (now text) ≤ 67108864) × (scratchNeeded (length (now text)) ≤ length (now scratch)) ⌝ }
-    ensures { λ r. ⌜ Parsed (scanned (length (now (reading .entry))) (length (now (scratch .entry))) (scan (rows (now (text .entry))))) r (now (reading .exit)) (now (scratch .exit)) ⌝ }
+    ensures { λ r. ⌜ Parsed (scanned (length (now (reading .entry))) (length (now (scratch .entry))) (scan (textLines (now (text .entry))))) r (now (reading .exit)) (now (scratch .exit)) ⌝ }
 {
     if !h.music {
         return refuse(reading, scratch, 1, 0);

@@ -4,18 +4,18 @@ use mathlib.Core.Path.{_≡_, refl, sym, ap, subst, _∙_}
 use mathlib.Core.Bool.{true, cond, false≢true}
 use mathlib.Core.List.{List, [], _∷_, _++_, append-nil}
 use lib.Dec.{eqb}
-use Rattle.laws.specs.Lists.{All, keep, cat, isNil, eqText, has, indexOf}
+use Rattle.laws.specs.Lists.{All, filter, concat, isNil, eqText, elem, indexOf}
 use Rattle.laws.proofs.Bools.{by-test}
 use Rattle.laws.proofs.Lists.{isNil-true}
 use Rattle.laws.proofs.Orders.{All-perm, moved-index}
-use Rattle.reader.specs.Text.{rows}
+use Rattle.reader.specs.Text.{textLines}
 use Rattle.reader.specs.Lines.{isK}
-use Rattle.reader.specs.Steps.{Row}
+use Rattle.reader.specs.Steps.{TextLine}
 use Rattle.reader.specs.Scan.{scan}
 use Rattle.blocks.specs.Blocks.{closed, endsLF, upToK, header, opening, blocks, rebuilt}
-use Rattle.blocks.specs.Demand.{voiceOf, Moved, named, Quiet, stateOf, there, rowsAt, LyricsBehind, Meant}
+use Rattle.blocks.specs.Demand.{voiceOf, Moved, named, SetsNeither, stateOf, stateAtBlocks, linesAt, LyricsBehind, Hypotheses}
 use Rattle.blocks.proofs.Lists.{numbered-named}
-use Rattle.blocks.proofs.Rows.{Closed, cat-rows}
+use Rattle.blocks.proofs.Rows.{Closed, concat-lines}
 use Rattle.blocks.proofs.Words.{moved-is-perm, moved-own, moved-closed}
 use Rattle.blocks.proofs.Demand.{again, owned}
 
@@ -33,48 +33,48 @@ closed-ends (c ∷ r) h =
     let k : closed r ≡ true = rw e at h in
     by-test (isNil r) (λ n. absurd (false≢true (sym (ap closed (isNil-true r n)) ∙ k))) (λ n. rw n (closed-ends r k)))
 
-rows-end : (r : Row) (rs : List Row) → All Closed (r ∷ rs) → endsLF (cat (r ∷ rs)) ≡ true
+rows-end : (r : TextLine) (rs : List TextLine) → All Closed (r ∷ rs) → endsLF (concat (r ∷ rs)) ≡ true
 rows-end r [] c = subst (λ (l : List ℕ). endsLF l ≡ true) (sym (append-nil r)) (closed-ends r (c .0))
-rows-end r (q ∷ rs) c = ends-app r (cat (q ∷ rs)) (rows-end q rs (c .1))
+rows-end r (q ∷ rs) c = ends-app r (concat (q ∷ rs)) (rows-end q rs (c .1))
 
 -- the first row stays, so the moved text has one
-still-ends : (text : List ℕ) (rest : List Row) (rs : List Row) → rows text ≡ rs → endsLF text ≡ true → All Closed (upToK rs ++ rest) → endsLF (cat (upToK rs ++ rest)) ≡ true
-still-ends text rest [] e h c = absurd (false≢true (sym (ap endsLF (sym (cat-rows text) ∙ ap cat e)) ∙ h))
+still-ends : (text : List ℕ) (rest : List TextLine) (rs : List TextLine) → textLines text ≡ rs → endsLF text ≡ true → All Closed (upToK rs ++ rest) → endsLF (concat (upToK rs ++ rest)) ≡ true
+still-ends text rest [] e h c = absurd (false≢true (sym (ap endsLF (sym (concat-lines text) ∙ ap concat e)) ∙ h))
 still-ends text rest (r ∷ rs) e h c = rows-end r (cond (isK r) [] (upToK rs) ++ rest) c
 
 -- A VOICE'S ROWS BY NAME: the lyric condition goes by the numbers of the parts; the rows of the part that v has are those before the first block, if v is then being read,
 -- and those of the blocks that name v
-pub rows-named : (text : List ℕ) (rl sl : ℕ) → Meant text rl sl → (v : List ℕ) → has v (there text .env .voices) ≡ true
-    → rowsAt text (indexOf v (there text .env .voices))
-    ≡ cond (eqb (there text .part) (indexOf v (there text .env .voices))) (opening text) [] ++ cat (keep (λ b. eqText (voiceOf b) v) (blocks text))
+pub rows-named : (text : List ℕ) (rl sl : ℕ) → Hypotheses text rl sl → (v : List ℕ) → elem v (stateAtBlocks text .env .voices) ≡ true
+    → linesAt text (indexOf v (stateAtBlocks text .env .voices))
+    ≡ cond (eqb (stateAtBlocks text .part) (indexOf v (stateAtBlocks text .env .voices))) (opening text) [] ++ concat (filter (λ b. eqText (voiceOf b) v) (blocks text))
 rows-named text rl sl m v hv =
-    ap (λ (l : List (List Row)). cond (eqb (there text .part) (indexOf v (there text .env .voices))) (opening text) [] ++ cat l)
-    (numbered-named voiceOf (there text .env .voices) v hv (blocks text) (owned text rl sl m))
+    ap (λ (l : List (List TextLine)). cond (eqb (stateAtBlocks text .part) (indexOf v (stateAtBlocks text .env .voices))) (opening text) [] ++ concat l)
+    (numbered-named voiceOf (stateAtBlocks text .env .voices) v hv (blocks text) (owned text rl sl m))
 
 -- THE MOVED TEXT
-module _ (text : List ℕ) (rl sl : ℕ) (m : Meant text rl sl) (bs : List (List Row)) (mv : Moved (blocks text) bs) where
+module _ (text : List ℕ) (rl sl : ℕ) (m : Hypotheses text rl sl) (bs : List (List TextLine)) (mv : Moved (blocks text) bs) where
   own : (header (rebuilt text bs) ≡ header text) × (opening (rebuilt text bs) ≡ opening text) × (blocks (rebuilt text bs) ≡ bs)
   own = moved-own text (m .ended) bs mv
 
-  there-same : there (rebuilt text bs) ≡ there text
+  there-same : stateAtBlocks (rebuilt text bs) ≡ stateAtBlocks text
   there-same = λ i. stateOf (scan (own .0 i ++ own .1 i))
 
   -- each part's rows are the same
-  pub rows-same : (p : ℕ) → rowsAt (rebuilt text bs) p ≡ rowsAt text p
+  pub rows-same : (p : ℕ) → linesAt (rebuilt text bs) p ≡ linesAt text p
   rows-same p =
-      (λ i. cond (eqb (there-same i .part) p) (own .1 i) [] ++ cat (keep (λ b. eqb (indexOf (voiceOf b) (there-same i .env .voices)) p) (own .2 i)))
-      ∙ ap (λ (l : List (List Row)). cond (eqb (there text .part) p) (opening text) [] ++ cat l)
-      (moved-index voiceOf (there text .env .voices) (blocks text) bs (owned text rl sl m) mv p)
+      (λ i. cond (eqb (there-same i .part) p) (own .1 i) [] ++ concat (filter (λ b. eqb (indexOf (voiceOf b) (there-same i .env .voices)) p) (own .2 i)))
+      ∙ ap (λ (l : List (List TextLine)). cond (eqb (stateAtBlocks text .part) p) (opening text) [] ++ concat l)
+      (moved-index voiceOf (stateAtBlocks text .env .voices) (blocks text) bs (owned text rl sl m) mv p)
 
-  pub meant-again : Meant (rebuilt text bs) rl sl
+  pub meant-again : Hypotheses (rebuilt text bs) rl sl
   meant-again =
       record {
         accepted = again text rl sl m bs mv;
-        ended = still-ends text (opening text ++ cat bs) (rows text) refl (m .ended) (moved-closed text (m .ended) bs mv);
+        ended = still-ends text (opening text ++ concat bs) (textLines text) refl (m .ended) (moved-closed text (m .ended) bs mv);
         known =
-            subst (λ (hs : List Row). All (λ b. named (voiceOf b) hs ≡ true) (blocks (rebuilt text bs))) (sym (own .0))
+            subst (λ (hs : List TextLine). All (λ b. named (voiceOf b) hs ≡ true) (blocks (rebuilt text bs))) (sym (own .0))
             (subst (All (λ b. named (voiceOf b) (header text) ≡ true)) (sym (own .2))
             (All-perm (λ b. named (voiceOf b) (header text) ≡ true) (moved-is-perm (blocks text) bs mv) (m .known)));
-        quiet = subst (All (All Quiet)) (sym (own .2)) (All-perm (All Quiet) (moved-is-perm (blocks text) bs mv) (m .quiet));
+        sets-neither = subst (All (All SetsNeither)) (sym (own .2)) (All-perm (All SetsNeither) (moved-is-perm (blocks text) bs mv) (m .sets-neither));
         sung = λ p. subst LyricsBehind (sym (rows-same p)) (m .sung p);
       }

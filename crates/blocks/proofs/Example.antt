@@ -5,18 +5,18 @@ use mathlib.Core.Logic.{⊎-elim}
 use mathlib.Core.Bool.{true, false, false≢true}
 use mathlib.Core.Option.{Option, none, some}
 use mathlib.Core.List.{List, [], _∷_, map}
-use Rattle.laws.specs.Lists.{has}
+use Rattle.laws.specs.Lists.{elem}
 use Rattle.standard.specs.Bytes.{ascii}
-use Rattle.reader.specs.Text.{rows}
-use Rattle.reader.specs.Steps.{Row, refuse, on, mine}
-use Rattle.reader.specs.Scan.{Item, born, reset, sung, Out, scan}
+use Rattle.reader.specs.Text.{textLines}
+use Rattle.reader.specs.Steps.{TextLine, refuse, on, itemsOf}
+use Rattle.reader.specs.Scan.{Item, voiceDeclared, reset, lyricLine, Out, scan}
 use Rattle.reader.specs.Part.{Part, emptyPart}
 use Rattle.reader.specs.Tally.{Counts, countsOf}
 use Rattle.reader.specs.Answer.{parseAbc}
 use Rattle.reader.specs.All.{all}
 use Rattle.blocks.specs.Blocks.{blocks, rebuilt}
-use Rattle.blocks.specs.Frame.{Sung}
-use Rattle.blocks.specs.Demand.{Accepted, partIn, alone, only, rowsAt, voices, Moved, Meant, partOf}
+use Rattle.blocks.specs.Frame.{LyricsAfterMusic}
+use Rattle.blocks.specs.Demand.{Accepted, partIn, onlyPart, onlyVoice, linesAt, voices, Moved, Hypotheses, partOf}
 use Rattle.blocks.proofs.Instance.{reader}
 use Rattle.blocks.proofs.Moves.{Swaps, swap, later}
 use Rattle.blocks.proofs.Words.{swaps-moved}
@@ -24,12 +24,12 @@ use Rattle.blocks.proofs.Tests.{meant-test}
 use Rattle.blocks.proofs.Demand.{demand-3, by-name}
 
 -- the two halves, for a text whose blocks and whose other texts are computed
-pub exchange : (t : List ℕ) (rl sl : ℕ) → Meant t rl sl → (old new : List (List Row)) → blocks t ≡ old → Swaps reader old new → (t′ : List ℕ) → rebuilt t new ≡ t′
+pub exchange : (t : List ℕ) (rl sl : ℕ) → Hypotheses t rl sl → (old new : List (List TextLine)) → blocks t ≡ old → Swaps reader old new → (t′ : List ℕ) → rebuilt t new ≡ t′
     → parseAbc t′ rl sl ≡ parseAbc t rl sl
 exchange t rl sl m old new b s t′ e =
-    ap (λ (x : List ℕ). parseAbc x rl sl) (sym e) ∙ demand-3 t rl sl m .moved new (subst (λ (l : List (List Row)). Moved l new) (sym b) (swaps-moved s))
+    ap (λ (x : List ℕ). parseAbc x rl sl) (sym e) ∙ demand-3 t rl sl m .moved new (subst (λ (l : List (List TextLine)). Moved l new) (sym b) (swaps-moved s))
 
-pub lone : (t : List ℕ) (rl sl : ℕ) → Meant t rl sl → (p : ℕ) (t′ : List ℕ) → alone t p ≡ t′ → (rl′ sl′ : ℕ) → Accepted (parseAbc t′ rl′ sl′)
+pub lone : (t : List ℕ) (rl sl : ℕ) → Hypotheses t rl sl → (p : ℕ) (t′ : List ℕ) → onlyPart t p ≡ t′ → (rl′ sl′ : ℕ) → Accepted (parseAbc t′ rl′ sl′)
     → partIn (parseAbc t rl sl .verdict) p ≡ partIn (parseAbc t′ rl′ sl′ .verdict) p
 lone t rl sl m p t′ e rl′ sl′ =
     subst (λ (x : List ℕ). Accepted (parseAbc x rl′ sl′) → partIn (parseAbc t rl sl .verdict) p ≡ partIn (parseAbc x rl′ sl′ .verdict) p) e (demand-3 t rl sl m .apart p rl′ sl′)
@@ -43,13 +43,13 @@ counted (some x) = some (countsOf x)
 abbrev tune : List ℕ
 tune = ascii "V:1\nV:2\nL:1/8\nM:3/4\nK:G\nz2|\nV:1\nFA|c2|\nw: one two three\nV:2 % low\nGB d>c|[GB]4|]\nw: oh_ oh\nV:1\nA2 B|]\nw: four five\n"
 
-abbrev one : List Row
+abbrev one : List TextLine
 one = ascii "V:1\n" ∷ ascii "FA|c2|\n" ∷ ascii "w: one two three\n" ∷ []
 
-abbrev two : List Row
+abbrev two : List TextLine
 two = ascii "V:2 % low\n" ∷ ascii "GB d>c|[GB]4|]\n" ∷ ascii "w: oh_ oh\n" ∷ []
 
-abbrev three : List Row
+abbrev three : List TextLine
 three = ascii "V:1\n" ∷ ascii "A2 B|]\n" ∷ ascii "w: four five\n" ∷ []
 
 tune-blocks : blocks tune ≡ one ∷ two ∷ three ∷ []
@@ -57,7 +57,7 @@ unfolding all
 tune-blocks = refl
 
 -- with a reading store of 600 bytes and a scratch store of 12,000
-tune-meant : Meant tune 600 12000
+tune-meant : Hypotheses tune 600 12000
 unfolding all
 tune-meant = meant-test 2 tune 600 12000 tt refl refl refl refl refl
 
@@ -89,7 +89,7 @@ pub two-last-same :
 two-last-same = exchange tune 600 12000 tune-meant (one ∷ two ∷ three ∷ []) (one ∷ three ∷ two ∷ []) tune-blocks two-last _ two-last-text
 
 -- SECOND HALF: each voice's part as it is read without the other's blocks, with stores of other lengths
-one-text : alone tune 0 ≡ ascii "V:1\nV:2\nL:1/8\nM:3/4\nK:G\nz2|\nV:1\nFA|c2|\nw: one two three\nV:1\nA2 B|]\nw: four five\n"
+one-text : onlyPart tune 0 ≡ ascii "V:1\nV:2\nL:1/8\nM:3/4\nK:G\nz2|\nV:1\nFA|c2|\nw: one two three\nV:1\nA2 B|]\nw: four five\n"
 unfolding all
 one-text = refl
 
@@ -102,7 +102,7 @@ pub one-alone :
     ≡ partIn (parseAbc (ascii "V:1\nV:2\nL:1/8\nM:3/4\nK:G\nz2|\nV:1\nFA|c2|\nw: one two three\nV:1\nA2 B|]\nw: four five\n") 500 11000 .verdict) 0
 one-alone = lone tune 600 12000 tune-meant 0 _ one-text 500 11000 one-read
 
-two-text : alone tune 1 ≡ ascii "V:1\nV:2\nL:1/8\nM:3/4\nK:G\nz2|\nV:2 % low\nGB d>c|[GB]4|]\nw: oh_ oh\n"
+two-text : onlyPart tune 1 ≡ ascii "V:1\nV:2\nL:1/8\nM:3/4\nK:G\nz2|\nV:2 % low\nGB d>c|[GB]4|]\nw: oh_ oh\n"
 unfolding all
 two-text = refl
 
@@ -116,15 +116,15 @@ pub two-alone :
 two-alone = lone tune 600 12000 tune-meant 1 _ two-text 500 11000 two-read
 
 -- by name
-two-known : has (ascii "2") (voices tune) ≡ true
+two-known : elem (ascii "2") (voices tune) ≡ true
 unfolding all
 two-known = refl
 
-two-only : Accepted (parseAbc (only tune (ascii "2")) 500 11000)
+two-only : Accepted (parseAbc (onlyVoice tune (ascii "2")) 500 11000)
 unfolding all
 two-only = tt
 
-pub two-by-name : partOf tune 600 12000 (ascii "2") ≡ partOf (only tune (ascii "2")) 500 11000 (ascii "2")
+pub two-by-name : partOf tune 600 12000 (ascii "2") ≡ partOf (onlyVoice tune (ascii "2")) 500 11000 (ascii "2")
 two-by-name = by-name tune 600 12000 tune-meant (ascii "2") two-known 500 11000 two-only
 
 -- and what the parts are
@@ -137,10 +137,10 @@ tune-parts = refl
 abbrev pub hymn : List ℕ
 hymn = ascii "V:1\nV:2\nK:\nV:1\nw:\nV:2\nA\n"
 
-abbrev words : List Row
+abbrev words : List TextLine
 words = ascii "V:1\n" ∷ ascii "w:\n" ∷ []
 
-abbrev sound : List Row
+abbrev sound : List TextLine
 sound = ascii "V:2\n" ∷ ascii "A\n" ∷ []
 
 abbrev pub hymn′ : List ℕ
@@ -150,7 +150,7 @@ hymn-blocks : blocks hymn ≡ words ∷ sound ∷ []
 unfolding all
 hymn-blocks = refl
 
-pub hymn-meant : Meant hymn 100 10000
+pub hymn-meant : Hypotheses hymn 100 10000
 unfolding all
 hymn-meant = meant-test 2 hymn 100 10000 tt refl refl refl refl refl
 
@@ -165,7 +165,7 @@ hymn-text = refl
 pub hymn-same : parseAbc hymn′ 100 10000 ≡ parseAbc hymn 100 10000
 hymn-same = exchange hymn 100 10000 hymn-meant (words ∷ sound ∷ []) (sound ∷ words ∷ []) hymn-blocks sound-first hymn′ hymn-text
 
-sound-text : alone hymn 1 ≡ ascii "V:1\nV:2\nK:\nV:2\nA\n"
+sound-text : onlyPart hymn 1 ≡ ascii "V:1\nV:2\nK:\nV:2\nA\n"
 unfolding all
 sound-text = refl
 
@@ -177,20 +177,20 @@ pub sound-alone : partIn (parseAbc hymn 100 10000 .verdict) 1 ≡ partIn (parseA
 sound-alone = lone hymn 100 10000 hymn-meant 1 _ sound-text 90 9900 sound-read
 
 -- although voice 1's lyric line has no music line before it, so that a condition that asks for one leaves this text out,
-pub hymn-not-sung : Sung reader ⊥ (rowsAt hymn 0) → ⊥
+pub hymn-not-sung : LyricsAfterMusic reader ⊥ (linesAt hymn 0) → ⊥
 unfolding all
 hymn-not-sung h = ⊎-elim (λ x. x) (λ x. false≢true x) (h .1 .0 refl)
 
 -- and although its items differ in the flag that says whether the part has a place for verses
 abbrev itemsOf : Out → ℕ → List Item
 itemsOf (refuse n l) p = []
-itemsOf (on s a) p = mine p a
+itemsOf (on s a) p = itemsOf p a
 
-pub hymn-items : itemsOf (scan (rows hymn)) 0 ≡ born true ∷ reset ∷ reset ∷ sung false [] ∷ []
+pub hymn-items : itemsOf (scan (textLines hymn)) 0 ≡ voiceDeclared true ∷ reset ∷ reset ∷ lyricLine false [] ∷ []
 unfolding all
 hymn-items = refl
 
-pub hymn-items-moved : itemsOf (scan (rows hymn′)) 0 ≡ born true ∷ reset ∷ reset ∷ sung true [] ∷ []
+pub hymn-items-moved : itemsOf (scan (textLines hymn′)) 0 ≡ voiceDeclared true ∷ reset ∷ reset ∷ lyricLine true [] ∷ []
 unfolding all
 hymn-items-moved = refl
 

@@ -7,12 +7,12 @@ use mathlib.Core.List.{List, [], _∷_}
 use mathlib.Core.Option.{Option}
 use lib.Dec.{ltb}
 use Rattle.standard.specs.Fields.{Meter}
-use Rattle.reader.specs.Tokens.{Effect, counts, refuses, setsUnit, setsMeter, passes}
+use Rattle.reader.specs.Tokens.{Effect, counts, refuses, setsUnit, setsMeter, noEffect}
 use Rattle.reader.specs.Lines.{Kind, blank, refused, lyric, voice, key, meter, unit, tune, other, music, kindOf}
-use Rattle.reader.specs.Scan.{Item, reset, keyed, metered, sung, played, Env, ScanState, begin, mostNotes, mostLines, noteCount, lastUnit, lastMeter, firstRefusal, withUnnamed, voicesBefore, playOn, voiceOn, unitOn, act, step}
+use Rattle.reader.specs.Scan.{Item, reset, keyChange, meterChange, lyricLine, musicLine, Env, ScanState, begin, mostNotes, mostLines, noteCount, lastUnit, lastMeter, firstRefusal, withUnnamed, voicesBefore, playOn, voiceOn, unitOn, act, step}
 use Rattle.reader.specs.Part.{Part}
 use Rattle.reader.specs.Answer.{Outcome, mostBytes, scratchNeeded, refusedWith, early, isMusic, finish}
-use Rattle.blocks.specs.Kinds.{isPlayed, unitAfter, meterAfter}
+use Rattle.blocks.specs.Kinds.{isMusicLine, unitAfter, meterAfter}
 use Rattle.blocks.specs.Frame.{Reader}
 use Rattle.blocks.specs.Demand.{Accepted, identifier, partIn}
 use Rattle.blocks.proofs.Machine.{Blank, IsUtf8}
@@ -29,7 +29,7 @@ Clear (counts ∷ es) = Clear es
 Clear (refuses k ∷ es) = ⊥
 Clear (setsUnit v ∷ es) = Clear es
 Clear (setsMeter m ∷ es) = Clear es
-Clear (passes ∷ es) = Clear es
+Clear (noEffect ∷ es) = Clear es
 
 -- the notes of a line
 abbrev pub kindCost : Kind → ℕ
@@ -61,14 +61,14 @@ kindFine (music hi es l) = (hi ≡ false) × Clear es
 abbrev pub kindItems : ℕ → Meter → Bool → Kind → List Item
 kindItems u m b blank = []
 kindItems u m b (refused n) = []
-kindItems u m b (lyric t) = sung b t ∷ []
+kindItems u m b (lyric t) = lyricLine b t ∷ []
 kindItems u m b (voice v mid) = reset ∷ []
-kindItems u m b (key k) = keyed k ∷ []
-kindItems u m b (meter n) = metered n ∷ []
+kindItems u m b (key k) = keyChange k ∷ []
+kindItems u m b (meter n) = meterChange n ∷ []
 kindItems u m b (unit x) = []
 kindItems u m b tune = []
 kindItems u m b other = []
-kindItems u m b (music hi es l) = played u m l ∷ []
+kindItems u m b (music hi es l) = musicLine u m l ∷ []
 
 -- neither refusal 2 nor 15
 abbrev pub Fits : ℕ → ℕ → Type 0
@@ -95,13 +95,13 @@ reader =
       Body = λ e. e .inHeader ≡ false;
       ids = λ e. e .voices;
       ident = identifier;
-      isMusic = λ r. isPlayed (kindOf r);
-      cost = λ r. kindCost (kindOf r);
+      isMusic = λ r. isMusicLine (kindOf r);
+      noteCount = λ r. kindCost (kindOf r);
       Fine = λ r. kindFine (kindOf r);
       afterL = λ r. unitAfter (kindOf r);
       afterM = λ r. meterAfter (kindOf r);
       emit = λ e u m b r. kindItems u m b (kindOf r);
-      loud = isMusic;
+      isMusicItem = isMusic;
       maxNotes = mostNotes;
       maxLines = mostLines;
       early = early;

@@ -7,17 +7,17 @@ use mathlib.Core.List.{List, [], _∷_}
 use native.Mathlib.Omega.{arith}
 use lib.Dec.{eqb}
 use lib.ListN.{length, getElem?}
-use Rattle.laws.specs.Lists.{All, keep, eqText, has, indexOf}
+use Rattle.laws.specs.Lists.{All, filter, eqText, elem, indexOf}
 use Rattle.laws.proofs.Bools.{eqb-same}
-use Rattle.laws.proofs.Lists.{All-map, keep-agree}
+use Rattle.laws.proofs.Lists.{All-map, filter-agree}
 use Rattle.laws.proofs.Orders.{number-name}
 
 -- of elements whose owners all have a number: those with v's number are those that v owns
-pub numbered-named : {A : Type 0} (o : A → List ℕ) (ids : List (List ℕ)) (v : List ℕ) → has v ids ≡ true → (xs : List A) → All (λ x. has (o x) ids ≡ true) xs
-    → keep (λ x. eqb (indexOf (o x) ids) (indexOf v ids)) xs ≡ keep (λ x. eqText (o x) v) xs
+pub numbered-named : {A : Type 0} (o : A → List ℕ) (ids : List (List ℕ)) (v : List ℕ) → elem v ids ≡ true → (xs : List A) → All (λ x. elem (o x) ids ≡ true) xs
+    → filter (λ x. eqb (indexOf (o x) ids) (indexOf v ids)) xs ≡ filter (λ x. eqText (o x) v) xs
 numbered-named o ids v hv xs h =
-    keep-agree (λ x. eqb (indexOf (o x) ids) (indexOf v ids)) (λ x. eqText (o x) v) xs
-    (All-map (λ x. has (o x) ids ≡ true) (λ x. eqb (indexOf (o x) ids) (indexOf v ids) ≡ eqText (o x) v)
+    filter-agree (λ x. eqb (indexOf (o x) ids) (indexOf v ids)) (λ x. eqText (o x) v) xs
+    (All-map (λ x. elem (o x) ids ≡ true) (λ x. eqb (indexOf (o x) ids) (indexOf v ids) ≡ eqText (o x) v)
     (λ x k. number-name (λ (w : List ℕ). w) ids (indexOf v ids) v (o x) hv (eqb-same (indexOf v ids)) k)
     xs h)
 

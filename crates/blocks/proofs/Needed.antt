@@ -8,18 +8,18 @@ use mathlib.Core.List.{List, [], _∷_}
 use native.Mathlib.Omega.{arith}
 use lib.Dec.{eqb}
 use Rattle.laws.specs.Lists.{All, eqText, indexOf}
-use Rattle.laws.specs.Orders.{Perm, nothing, more, here, there as further}
+use Rattle.laws.specs.Orders.{Perm, nothing, more, here, stateAtBlocks as further}
 use Rattle.laws.proofs.Bools.{both-true}
-use Rattle.laws.proofs.Lists.{All-keep, eqText-same}
+use Rattle.laws.proofs.Lists.{All-filter, eqText-same}
 use Rattle.standard.specs.Bytes.{ascii}
 use Rattle.reader.specs.Lines.{kindOf}
-use Rattle.reader.specs.Steps.{Row}
+use Rattle.reader.specs.Steps.{TextLine}
 use Rattle.reader.specs.Part.{Part}
 use Rattle.reader.specs.Answer.{Verdict, refusal, reading, parseAbc}
 use Rattle.reader.specs.All.{all}
 use Rattle.blocks.specs.Blocks.{blocks, rebuilt, endsLF}
 use Rattle.blocks.specs.Kinds.{unitAfter}
-use Rattle.blocks.specs.Demand.{Accepted, Moved, voiceOf, there, blocksAt, LyricsBehind, partIn, alone, Meant}
+use Rattle.blocks.specs.Demand.{Accepted, Moved, voiceOf, stateAtBlocks, blocksAt, LyricsBehind, partIn, onlyPart, Hypotheses}
 use Rattle.blocks.proofs.Instance.{reader}
 use Rattle.blocks.proofs.Moves.{Swaps, swap, later, twice}
 use Rattle.blocks.proofs.Words.{swaps-moved, test-lyrics}
@@ -36,17 +36,17 @@ differ s t h e =
     (ap (λ (x : List ℕ). eqText x (parseAbc t 200 10000 .reading)) e ∙ eqText-same (parseAbc t 200 10000 .reading)) h
 
 -- an order of a text's blocks
-moved-to : (t : List ℕ) (old new : List (List Row)) → blocks t ≡ old → Swaps reader old new → Moved (blocks t) new
-moved-to t old new b s = subst (λ (l : List (List Row)). Moved l new) (sym b) (swaps-moved s)
+moved-to : (t : List ℕ) (old new : List (List TextLine)) → blocks t ≡ old → Swaps reader old new → Moved (blocks t) new
+moved-to t old new b s = subst (λ (l : List (List TextLine)). Moved l new) (sym b) (swaps-moved s)
 
 -- A LYRIC LINE BEFORE ITS VOICE'S FIRST MUSIC LINE: after voice 2's music line verses 1 and 2, before it verse 1 twice
 abbrev pub lyric-first : List ℕ
 lyric-first = ascii "V:1\nV:2\nK:\nV:2\n|\nV:1\nw:a\nw:b\nD\n"
 
-abbrev lyric-first-blocks : List (List Row)
+abbrev lyric-first-blocks : List (List TextLine)
 lyric-first-blocks = (ascii "V:2\n" ∷ ascii "|\n" ∷ []) ∷ (ascii "V:1\n" ∷ ascii "w:a\n" ∷ ascii "w:b\n" ∷ ascii "D\n" ∷ []) ∷ []
 
-abbrev pub lyric-first-moved : List (List Row)
+abbrev pub lyric-first-moved : List (List TextLine)
 lyric-first-moved = (ascii "V:1\n" ∷ ascii "w:a\n" ∷ ascii "w:b\n" ∷ ascii "D\n" ∷ []) ∷ (ascii "V:2\n" ∷ ascii "|\n" ∷ []) ∷ []
 
 lyric-first-are : blocks lyric-first ≡ lyric-first-blocks
@@ -69,10 +69,10 @@ lyrics-needed = differ lyric-first (rebuilt lyric-first lyric-first-moved) refl
 abbrev pub by-block : List ℕ
 by-block = ascii "V:1\nV:2\nK:\nV:1\nw:a\nw:b\nV:1\nA\nV:2\nB\n"
 
-abbrev by-block-blocks : List (List Row)
+abbrev by-block-blocks : List (List TextLine)
 by-block-blocks = (ascii "V:1\n" ∷ ascii "w:a\n" ∷ ascii "w:b\n" ∷ []) ∷ (ascii "V:1\n" ∷ ascii "A\n" ∷ []) ∷ (ascii "V:2\n" ∷ ascii "B\n" ∷ []) ∷ []
 
-abbrev pub by-block-moved : List (List Row)
+abbrev pub by-block-moved : List (List TextLine)
 by-block-moved = (ascii "V:2\n" ∷ ascii "B\n" ∷ []) ∷ (ascii "V:1\n" ∷ ascii "w:a\n" ∷ ascii "w:b\n" ∷ []) ∷ (ascii "V:1\n" ∷ ascii "A\n" ∷ []) ∷ []
 
 by-block-are : blocks by-block ≡ by-block-blocks
@@ -86,7 +86,7 @@ by-block-swaps = twice (later (swap refl)) (swap refl)
 by-block-each : (p : ℕ) → All LyricsBehind (blocksAt by-block p)
 unfolding all
 by-block-each p =
-    All-keep (λ b. eqb (indexOf (voiceOf b) (there by-block .env .voices)) p) LyricsBehind by-block-blocks
+    All-filter (λ b. eqb (indexOf (voiceOf b) (stateAtBlocks by-block .env .voices)) p) LyricsBehind by-block-blocks
     (test-lyrics _ refl, (test-lyrics _ refl, (test-lyrics _ refl, tt)))
 
 pub by-block-else : Accepted (parseAbc by-block 200 10000) × (endsLF by-block ≡ true) × Known by-block × QuietL by-block × QuietM by-block × ((p : ℕ) → All LyricsBehind (blocksAt by-block p)) × Moved (blocks by-block) by-block-moved
@@ -101,10 +101,10 @@ by-block-not-enough = differ by-block (rebuilt by-block by-block-moved) refl
 abbrev pub sets-L : List ℕ
 sets-L = ascii "V:1\nV:2\nK:D\nV:1\nF\nV:2\nL:/4\n"
 
-abbrev sets-L-blocks : List (List Row)
+abbrev sets-L-blocks : List (List TextLine)
 sets-L-blocks = (ascii "V:1\n" ∷ ascii "F\n" ∷ []) ∷ (ascii "V:2\n" ∷ ascii "L:/4\n" ∷ []) ∷ []
 
-abbrev pub sets-L-moved : List (List Row)
+abbrev pub sets-L-moved : List (List TextLine)
 sets-L-moved = (ascii "V:2\n" ∷ ascii "L:/4\n" ∷ []) ∷ (ascii "V:1\n" ∷ ascii "F\n" ∷ []) ∷ []
 
 sets-L-are : blocks sets-L ≡ sets-L-blocks
@@ -127,10 +127,10 @@ L-needed = differ sets-L (rebuilt sets-L sets-L-moved) refl
 abbrev pub sets-inline : List ℕ
 sets-inline = ascii "V:1\nV:2\nK:D\nV:1\nF\nV:2\n[L:1/4]\n"
 
-abbrev sets-inline-blocks : List (List Row)
+abbrev sets-inline-blocks : List (List TextLine)
 sets-inline-blocks = (ascii "V:1\n" ∷ ascii "F\n" ∷ []) ∷ (ascii "V:2\n" ∷ ascii "[L:1/4]\n" ∷ []) ∷ []
 
-abbrev pub sets-inline-moved : List (List Row)
+abbrev pub sets-inline-moved : List (List TextLine)
 sets-inline-moved = (ascii "V:2\n" ∷ ascii "[L:1/4]\n" ∷ []) ∷ (ascii "V:1\n" ∷ ascii "F\n" ∷ []) ∷ []
 
 sets-inline-are : blocks sets-inline ≡ sets-inline-blocks
@@ -153,10 +153,10 @@ inline-needed = differ sets-inline (rebuilt sets-inline sets-inline-moved) refl
 abbrev pub at-eight : List ℕ
 at-eight = ascii "V:1\nV:2\nL:1/4\nK:D\nV:1\nF\nV:2\nL:1/8\n"
 
-abbrev at-eight-blocks : List (List Row)
+abbrev at-eight-blocks : List (List TextLine)
 at-eight-blocks = (ascii "V:1\n" ∷ ascii "F\n" ∷ []) ∷ (ascii "V:2\n" ∷ ascii "L:1/8\n" ∷ []) ∷ []
 
-abbrev pub at-eight-moved : List (List Row)
+abbrev pub at-eight-moved : List (List TextLine)
 at-eight-moved = (ascii "V:2\n" ∷ ascii "L:1/8\n" ∷ []) ∷ (ascii "V:1\n" ∷ ascii "F\n" ∷ []) ∷ []
 
 at-eight-are : blocks at-eight ≡ at-eight-blocks
@@ -179,10 +179,10 @@ whatever-needed = differ at-eight (rebuilt at-eight at-eight-moved) refl
 abbrev pub sets-M : List ℕ
 sets-M = ascii "V:1\nV:2\nK:D\nV:1\nF\nV:2\nM:3/4\n"
 
-abbrev sets-M-blocks : List (List Row)
+abbrev sets-M-blocks : List (List TextLine)
 sets-M-blocks = (ascii "V:1\n" ∷ ascii "F\n" ∷ []) ∷ (ascii "V:2\n" ∷ ascii "M:3/4\n" ∷ []) ∷ []
 
-abbrev pub sets-M-moved : List (List Row)
+abbrev pub sets-M-moved : List (List TextLine)
 sets-M-moved = (ascii "V:2\n" ∷ ascii "M:3/4\n" ∷ []) ∷ (ascii "V:1\n" ∷ ascii "F\n" ∷ []) ∷ []
 
 sets-M-are : blocks sets-M ≡ sets-M-blocks
@@ -206,10 +206,10 @@ M-needed = differ sets-M (rebuilt sets-M sets-M-moved) refl
 abbrev pub unnamed : List ℕ
 unnamed = ascii "K:D\nV:1\nV:2\nF\n"
 
-abbrev unnamed-blocks : List (List Row)
+abbrev unnamed-blocks : List (List TextLine)
 unnamed-blocks = (ascii "V:1\n" ∷ []) ∷ (ascii "V:2\n" ∷ ascii "F\n" ∷ []) ∷ []
 
-abbrev pub unnamed-moved : List (List Row)
+abbrev pub unnamed-moved : List (List TextLine)
 unnamed-moved = (ascii "V:2\n" ∷ ascii "F\n" ∷ []) ∷ (ascii "V:1\n" ∷ []) ∷ []
 
 unnamed-are : blocks unnamed ≡ unnamed-blocks
@@ -232,10 +232,10 @@ known-needed = differ unnamed (rebuilt unnamed unnamed-moved) refl
 abbrev pub open-end : List ℕ
 open-end = ascii "V:1\nV:2\nK:\nV:1\nA\nV:2\nB"
 
-abbrev open-end-blocks : List (List Row)
+abbrev open-end-blocks : List (List TextLine)
 open-end-blocks = (ascii "V:1\n" ∷ ascii "A\n" ∷ []) ∷ (ascii "V:2\n" ∷ ascii "B" ∷ []) ∷ []
 
-abbrev pub open-end-moved : List (List Row)
+abbrev pub open-end-moved : List (List TextLine)
 open-end-moved = (ascii "V:2\n" ∷ ascii "B" ∷ []) ∷ (ascii "V:1\n" ∷ ascii "A\n" ∷ []) ∷ []
 
 open-end-are : blocks open-end ≡ open-end-blocks
@@ -258,10 +258,10 @@ ended-needed = differ open-end (rebuilt open-end open-end-moved) refl
 abbrev pub refused : List ℕ
 refused = ascii "V:1\nV:2\nK:\nV:1\n[0\nV:2\nX:1\n"
 
-abbrev refused-blocks : List (List Row)
+abbrev refused-blocks : List (List TextLine)
 refused-blocks = (ascii "V:1\n" ∷ ascii "[0\n" ∷ []) ∷ (ascii "V:2\n" ∷ ascii "X:1\n" ∷ []) ∷ []
 
-abbrev pub refused-moved : List (List Row)
+abbrev pub refused-moved : List (List TextLine)
 refused-moved = (ascii "V:2\n" ∷ ascii "X:1\n" ∷ []) ∷ (ascii "V:1\n" ∷ ascii "[0\n" ∷ []) ∷ []
 
 refused-are : blocks refused ≡ refused-blocks
@@ -288,10 +288,10 @@ accepted-needed h = let z : _≡_ {A = ℕ} 14 7 = ap number h in omega (arith, 
 abbrev pub own-order : List ℕ
 own-order = ascii "V:1\nK:\nV:1\nA\nV:1\nB\n"
 
-abbrev pub own-order-moved : List (List Row)
+abbrev pub own-order-moved : List (List TextLine)
 own-order-moved = (ascii "V:1\n" ∷ ascii "B\n" ∷ []) ∷ (ascii "V:1\n" ∷ ascii "A\n" ∷ []) ∷ []
 
-pub own-order-meant : Meant own-order 200 10000
+pub own-order-meant : Hypotheses own-order 200 10000
 unfolding all
 own-order-meant = meant-test 1 own-order 200 10000 tt refl refl refl refl refl
 
@@ -309,7 +309,7 @@ unfolding all
 lengths-needed h = let z : _≡_ {A = ℕ} 16 0 = ap number h in omega (arith, z)
 
 -- "IF THAT TEXT IS ACCEPTED": of a text that is meant, the text of a voice without music has no measure, so no part (refusal 1)
-pub alone-refused : parseAbc (alone hymn 0) 100 10000 .verdict ≡ refusal 1 0
+pub alone-refused : parseAbc (onlyPart hymn 0) 100 10000 .verdict ≡ refusal 1 0
 unfolding all
 alone-refused = refl
 
@@ -317,6 +317,6 @@ abbrev isSome : Option Part → ℕ
 isSome none = 0
 isSome (some x) = 1
 
-pub alone-needed : partIn (parseAbc hymn 100 10000 .verdict) 0 ≡ partIn (parseAbc (alone hymn 0) 100 10000 .verdict) 0 → ⊥
+pub alone-needed : partIn (parseAbc hymn 100 10000 .verdict) 0 ≡ partIn (parseAbc (onlyPart hymn 0) 100 10000 .verdict) 0 → ⊥
 unfolding all
 alone-needed h = let z : _≡_ {A = ℕ} 1 0 = ap isSome h in omega (arith, z)

@@ -6,15 +6,15 @@ use mathlib.Core.Option.{Option, none, some}
 use mathlib.Core.List.{List}
 use native.Mathlib.Omega.{arith}
 use lib.ListN.{length, getElem?}
-use Rattle.laws.specs.Lists.{has, indexOf}
+use Rattle.laws.specs.Lists.{elem, indexOf}
 use Rattle.laws.proofs.Lists.{index-lt}
-use Rattle.reader.specs.Text.{rows}
-use Rattle.reader.specs.Steps.{refuse, on, mine}
+use Rattle.reader.specs.Text.{textLines}
+use Rattle.reader.specs.Steps.{refuse, on, itemsOf}
 use Rattle.reader.specs.Scan.{Item, Env, Out, scan}
 use Rattle.reader.specs.Part.{Part}
 use Rattle.reader.specs.Records.{sections}
 use Rattle.reader.specs.Answer.{Verdict, reading, Outcome, early, refusedWith, parts, finish, scanned, unless, parseAbc}
-use Rattle.blocks.specs.Demand.{Accepted, stateOf, voices, only, partIn, partOf, Meant}
+use Rattle.blocks.specs.Demand.{Accepted, stateOf, voices, onlyVoice, partIn, partOf, Hypotheses}
 use Rattle.blocks.proofs.Lists.{getElem?-some}
 use Rattle.blocks.proofs.Demand.{by-name}
 use Rattle.blocks.proofs.End.{Not, early-not, ended-reading}
@@ -31,13 +31,13 @@ after-scan : (rl sl : ℕ) (y : Out) → Accepted (scanned rl sl y) → Counted 
 unfolding scanned finish refusedWith
 after-scan rl sl (refuse n l) h = absurd h
 after-scan rl sl (on s a) h =
-    let ps : List Part = parts (s .env) (λ p. mine p a) (max 1 (length (s .env .voices))) 0 in
-    (ps, ended-reading ps rl sl h, parts-length (s .env) (λ p. mine p a) (max 1 (length (s .env .voices))) 0)
+    let ps : List Part = parts (s .env) (λ p. itemsOf p a) (max 1 (length (s .env .voices))) 0 in
+    (ps, ended-reading ps rl sl h, parts-length (s .env) (λ p. itemsOf p a) (max 1 (length (s .env .voices))) 0)
 
 counted : (text : List ℕ) (rl sl : ℕ) (x : Option Outcome) → Not x → Accepted (unless text rl sl x) → Counted (unless text rl sl x .verdict) (voices text)
 unfolding unless
 counted text rl sl (some w) n h = absurd (n h)
-counted text rl sl none n h = after-scan rl sl (scan (rows text)) h
+counted text rl sl none n h = after-scan rl sl (scan (textLines text)) h
 
 -- as many parts as voices, and one if none is named
 pub parts-count : (text : List ℕ) (rl sl : ℕ) → Accepted (parseAbc text rl sl)
@@ -46,7 +46,7 @@ unfolding parseAbc
 parts-count text rl sl h = counted text rl sl (early text rl sl) (early-not text rl sl) h
 
 -- the part of each voice is there
-pub part-there : (text : List ℕ) (rl sl : ℕ) → Accepted (parseAbc text rl sl) → (v : List ℕ) → has v (voices text) ≡ true → (x : Part) × (partOf text rl sl v ≡ some x)
+pub part-there : (text : List ℕ) (rl sl : ℕ) → Accepted (parseAbc text rl sl) → (v : List ℕ) → elem v (voices text) ≡ true → (x : Part) × (partOf text rl sl v ≡ some x)
 part-there text rl sl h v hv = go (parts-count text rl sl h)
   where
     p : ℕ
@@ -58,8 +58,8 @@ part-there text rl sl h v hv = go (parts-count text rl sl h)
         (r .0, ap (λ (w : Verdict). partIn w p) (q .1) ∙ r .1)
 
 -- "every voice's part equals, in all five sections, the one read with all other voices' blocks removed": both are there, and their counts and sections are the same bytes
-pub same-sections : (text : List ℕ) (rl sl : ℕ) → Meant text rl sl → (v : List ℕ) → has v (voices text) ≡ true → (rl′ sl′ : ℕ) → Accepted (parseAbc (only text v) rl′ sl′)
-    → (x : Part) × (y : Part) × (partOf text rl sl v ≡ some x) × (partOf (only text v) rl′ sl′ v ≡ some y) × (sections x ≡ sections y)
+pub same-sections : (text : List ℕ) (rl sl : ℕ) → Hypotheses text rl sl → (v : List ℕ) → elem v (voices text) ≡ true → (rl′ sl′ : ℕ) → Accepted (parseAbc (onlyVoice text v) rl′ sl′)
+    → (x : Part) × (y : Part) × (partOf text rl sl v ≡ some x) × (partOf (onlyVoice text v) rl′ sl′ v ≡ some y) × (sections x ≡ sections y)
 same-sections text rl sl m v hv rl′ sl′ a =
     let q : (x : Part) × (partOf text rl sl v ≡ some x) = part-there text rl sl (m .accepted) v hv in
     (q .0, q .0, q .1, sym (by-name text rl sl m v hv rl′ sl′ a) ∙ q .1, refl)

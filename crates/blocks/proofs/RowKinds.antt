@@ -15,7 +15,7 @@ use Rattle.reader.specs.Fields as fields
 use Rattle.reader.specs.Fields.{unitOf, meterOf, middleWord}
 use Rattle.reader.specs.Keys.{keyOf}
 use Rattle.reader.specs.Lines.{begins, isV, isK, isL, isM, isX, isLyric, isField, Kind, blank, refused, lyric, voice, key, meter, unit, tune, other, music, voiceKind, keyKind, fieldKind, lineKind, kindOf}
-use Rattle.blocks.specs.Kinds.{isPlayed}
+use Rattle.blocks.specs.Kinds.{isMusicLine}
 use Rattle.blocks.specs.Demand.{identifier}
 use Rattle.blocks.proofs.Machine.{other-stays}
 
@@ -169,39 +169,39 @@ key-row r h =
     let e : clean r ≡ 75 ∷ (58 ∷ trim (cut (q .0))) = ap clean (q .1) ∙ clean-two 75 58 (q .0) refl refl refl refl in
     subst (λ (l : List ℕ). Keyish (lineKind l)) (sym e) (key-line (trim (cut (q .0))))
 
-pub lyric-row : (r : List ℕ) → isLyric r ≡ true → isPlayed (kindOf r) ≡ false
+pub lyric-row : (r : List ℕ) → isLyric r ≡ true → isMusicLine (kindOf r) ≡ false
 unfolding kindOf lineKind fieldKind voiceKind keyKind hasHigh whiteStep
 lyric-row r h =
     let q : (x : List ℕ) × (r ≡ 119 ∷ (58 ∷ x)) = begins-shape 119 58 r h in
     let e : clean r ≡ 119 ∷ (58 ∷ trim (cut (q .0))) = ap clean (q .1) ∙ clean-two 119 58 (q .0) refl refl refl refl in
-    subst (λ (l : List ℕ). isPlayed (lineKind l) ≡ false) (sym e) (line (trim (cut (q .0))))
+    subst (λ (l : List ℕ). isMusicLine (lineKind l) ≡ false) (sym e) (line (trim (cut (q .0))))
   where
-    line : (x : List ℕ) → isPlayed (lineKind (119 ∷ (58 ∷ x))) ≡ false
-    line x = cond-both (λ k. isPlayed k ≡ false) (ltb 1048576 (length (119 ∷ (58 ∷ x)))) (refused 5) (lyric x) refl refl
+    line : (x : List ℕ) → isMusicLine (lineKind (119 ∷ (58 ∷ x))) ≡ false
+    line x = cond-both (λ k. isMusicLine k ≡ false) (ltb 1048576 (length (119 ∷ (58 ∷ x)))) (refused 5) (lyric x) refl refl
 
-pub unit-row : (r : List ℕ) → isL r ≡ true → isPlayed (kindOf r) ≡ false
+pub unit-row : (r : List ℕ) → isL r ≡ true → isMusicLine (kindOf r) ≡ false
 unfolding kindOf lineKind fieldKind voiceKind keyKind hasHigh whiteStep
 unit-row r h =
     let q : (x : List ℕ) × (r ≡ 76 ∷ (58 ∷ x)) = begins-shape 76 58 r h in
     let e : clean r ≡ 76 ∷ (58 ∷ trim (cut (q .0))) = ap clean (q .1) ∙ clean-two 76 58 (q .0) refl refl refl refl in
-    subst (λ (l : List ℕ). isPlayed (lineKind l) ≡ false) (sym e) (line (trim (cut (q .0))))
+    subst (λ (l : List ℕ). isMusicLine (lineKind l) ≡ false) (sym e) (line (trim (cut (q .0))))
   where
-    line : (x : List ℕ) → isPlayed (lineKind (76 ∷ (58 ∷ x))) ≡ false
+    line : (x : List ℕ) → isMusicLine (lineKind (76 ∷ (58 ∷ x))) ≡ false
     line x =
-        cond-both (λ k. isPlayed k ≡ false) (ltb 1048576 (length (76 ∷ (58 ∷ x)))) (refused 5) (cond (hasHigh (76 ∷ (58 ∷ x))) (refused 6) (unit (unitOf x))) refl
-        (cond-both (λ k. isPlayed k ≡ false) (hasHigh (76 ∷ (58 ∷ x))) (refused 6) (unit (unitOf x)) refl refl)
+        cond-both (λ k. isMusicLine k ≡ false) (ltb 1048576 (length (76 ∷ (58 ∷ x)))) (refused 5) (cond (hasHigh (76 ∷ (58 ∷ x))) (refused 6) (unit (unitOf x))) refl
+        (cond-both (λ k. isMusicLine k ≡ false) (hasHigh (76 ∷ (58 ∷ x))) (refused 6) (unit (unitOf x)) refl refl)
 
-pub meter-row : (r : List ℕ) → isM r ≡ true → isPlayed (kindOf r) ≡ false
+pub meter-row : (r : List ℕ) → isM r ≡ true → isMusicLine (kindOf r) ≡ false
 unfolding kindOf lineKind fieldKind voiceKind keyKind hasHigh whiteStep
 meter-row r h =
     let q : (x : List ℕ) × (r ≡ 77 ∷ (58 ∷ x)) = begins-shape 77 58 r h in
     let e : clean r ≡ 77 ∷ (58 ∷ trim (cut (q .0))) = ap clean (q .1) ∙ clean-two 77 58 (q .0) refl refl refl refl in
-    subst (λ (l : List ℕ). isPlayed (lineKind l) ≡ false) (sym e) (line (trim (cut (q .0))))
+    subst (λ (l : List ℕ). isMusicLine (lineKind l) ≡ false) (sym e) (line (trim (cut (q .0))))
   where
-    line : (x : List ℕ) → isPlayed (lineKind (77 ∷ (58 ∷ x))) ≡ false
+    line : (x : List ℕ) → isMusicLine (lineKind (77 ∷ (58 ∷ x))) ≡ false
     line x =
-        cond-both (λ k. isPlayed k ≡ false) (ltb 1048576 (length (77 ∷ (58 ∷ x)))) (refused 5) (cond (hasHigh (77 ∷ (58 ∷ x))) (refused 6) (meter (meterOf x))) refl
-        (cond-both (λ k. isPlayed k ≡ false) (hasHigh (77 ∷ (58 ∷ x))) (refused 6) (meter (meterOf x)) refl refl)
+        cond-both (λ k. isMusicLine k ≡ false) (ltb 1048576 (length (77 ∷ (58 ∷ x)))) (refused 5) (cond (hasHigh (77 ∷ (58 ∷ x))) (refused 6) (meter (meterOf x))) refl
+        (cond-both (λ k. isMusicLine k ≡ false) (hasHigh (77 ∷ (58 ∷ x))) (refused 6) (meter (meterOf x)) refl refl)
 
 -- only a V: row is a voice, only a w: row is sung
 voice-field : (l : List ℕ) → isVoice (fieldKind l) ≡ true → isV l ≡ true

@@ -4,89 +4,89 @@ use mathlib.Core.Path.{_≡_, refl, sym, ap, _∙_}
 use mathlib.Core.Bool.{true, false, false≢true}
 use mathlib.Core.List.{List, [], _∷_, _++_, nil≢cons}
 use lib.Dec.{eqb}
-use Rattle.laws.specs.Lists.{All, cat}
+use Rattle.laws.specs.Lists.{All, concat}
 use Rattle.laws.proofs.Bools.{by-test}
 use Rattle.laws.proofs.Lists.{isNil-true}
-use Rattle.reader.specs.Text.{push, rows}
+use Rattle.reader.specs.Text.{push, textLines}
 use Rattle.reader.specs.Lines.{isV, isK}
-use Rattle.reader.specs.Steps.{Row}
+use Rattle.reader.specs.Steps.{TextLine}
 use Rattle.blocks.specs.Blocks.{closed, endsLF, upToK, afterK, untilV, blocksOf, header, opening, blocks, rebuilt}
 
 -- A TEXT is its rows, one after the other
-push-cat : (c : ℕ) (rs : List Row) → cat (push c rs) ≡ c ∷ cat rs
-push-cat c [] = refl
-push-cat c (r ∷ rs) = refl
+push-concat : (c : ℕ) (rs : List TextLine) → concat (push c rs) ≡ c ∷ concat rs
+push-concat c [] = refl
+push-concat c (r ∷ rs) = refl
 
-pub cat-rows : (t : List ℕ) → cat (rows t) ≡ t
-unfolding rows
-cat-rows [] = refl
-cat-rows (c ∷ cs) =
-    by-test (eqb c 10) (λ e. rw (e, rows) (ap {B = List ℕ} (λ l. c ∷ l) (cat-rows cs)))
-    (λ e. rw (e, rows) (push-cat c (rows cs) ∙ ap {B = List ℕ} (λ l. c ∷ l) (cat-rows cs)))
+pub concat-lines : (t : List ℕ) → concat (textLines t) ≡ t
+unfolding textLines
+concat-lines [] = refl
+concat-lines (c ∷ cs) =
+    by-test (eqb c 10) (λ e. rw (e, textLines) (ap {B = List ℕ} (λ l. c ∷ l) (concat-lines cs)))
+    (λ e. rw (e, textLines) (push-concat c (textLines cs) ∙ ap {B = List ℕ} (λ l. c ∷ l) (concat-lines cs)))
 
 -- a closed row: what comes of its first byte
 closed-lf : (c : ℕ) (cs : List ℕ) → eqb c 10 ≡ true → closed (c ∷ cs) ≡ true → cs ≡ []
 closed-lf c cs e h = isNil-true cs (rw e at h)
 
 -- a row with its line feed is cut off as it is, whatever follows
-pub rows-row : (r t : List ℕ) → closed r ≡ true → rows (r ++ t) ≡ r ∷ rows t
-unfolding rows
+pub rows-row : (r t : List ℕ) → closed r ≡ true → textLines (r ++ t) ≡ r ∷ textLines t
+unfolding textLines
 rows-row [] t h = absurd (false≢true h)
 rows-row (c ∷ cs) t h =
     by-test (eqb c 10)
-    (λ e. let z : cs ≡ [] = closed-lf c cs e h in rw (e, rows) (λ i. (c ∷ sym z i) ∷ rows (z i ++ t)))
-    (λ e. rw (e, rows) (ap (push c) (rows-row cs t (rw e at h))))
+    (λ e. let z : cs ≡ [] = closed-lf c cs e h in rw (e, textLines) (λ i. (c ∷ sym z i) ∷ textLines (z i ++ t)))
+    (λ e. rw (e, textLines) (ap (push c) (rows-row cs t (rw e at h))))
 
-abbrev pub Closed : Row → Type 0
+abbrev pub Closed : TextLine → Type 0
 Closed r = closed r ≡ true
 
-pub rows-cat : (rs : List Row) → All Closed rs → rows (cat rs) ≡ rs
-unfolding rows
-rows-cat [] p = refl
-rows-cat (r ∷ rs) p = rows-row r (cat rs) (p .0) ∙ ap {B = List Row} (λ l. r ∷ l) (rows-cat rs (p .1))
+pub lines-concat : (rs : List TextLine) → All Closed rs → textLines (concat rs) ≡ rs
+unfolding textLines
+lines-concat [] p = refl
+lines-concat (r ∷ rs) p = rows-row r (concat rs) (p .0) ∙ ap {B = List TextLine} (λ l. r ∷ l) (lines-concat rs (p .1))
 
 -- of a text that ends in a line feed each row does
-push-closed : (c d : ℕ) (t : List ℕ) (rs : List Row) → eqb c 10 ≡ false → cat rs ≡ d ∷ t → All Closed rs → All Closed (push c rs)
+push-closed : (c d : ℕ) (t : List ℕ) (rs : List TextLine) → eqb c 10 ≡ false → concat rs ≡ d ∷ t → All Closed rs → All Closed (push c rs)
 push-closed c d t [] e h p = absurd (nil≢cons h)
 push-closed c d t (r ∷ rs) e h p = (rw e (p .0), p .1)
 
-pub rows-closed : (t : List ℕ) → endsLF t ≡ true → All Closed (rows t)
-unfolding rows
+pub rows-closed : (t : List ℕ) → endsLF t ≡ true → All Closed (textLines t)
+unfolding textLines
 rows-closed [] h = tt
-rows-closed (c ∷ []) h = let e : eqb c 10 ≡ true = h in rw (e, rows) (rw e refl, tt)
+rows-closed (c ∷ []) h = let e : eqb c 10 ≡ true = h in rw (e, textLines) (rw e refl, tt)
 rows-closed (c ∷ (d ∷ t)) h =
-    by-test (eqb c 10) (λ e. rw (e, rows) (rw e refl, rows-closed (d ∷ t) h))
-    (λ e. rw (e, rows) (push-closed c d t (rows (d ∷ t)) e (cat-rows (d ∷ t)) (rows-closed (d ∷ t) h)))
+    by-test (eqb c 10) (λ e. rw (e, textLines) (rw e refl, rows-closed (d ∷ t) h))
+    (λ e. rw (e, textLines) (push-closed c d t (textLines (d ∷ t)) e (concat-lines (d ∷ t)) (rows-closed (d ∷ t) h)))
 
 -- THE ROWS are those up to the first K: row, those before the first block, and the blocks'
-pub rows-K : (rs : List Row) → upToK rs ++ afterK rs ≡ rs
+pub rows-K : (rs : List TextLine) → upToK rs ++ afterK rs ≡ rs
 rows-K [] = refl
-rows-K (r ∷ rs) = by-test (isK r) (λ e. rw e) (λ e. rw e (ap {B = List Row} (λ l. r ∷ l) (rows-K rs)))
+rows-K (r ∷ rs) = by-test (isK r) (λ e. rw e) (λ e. rw e (ap {B = List TextLine} (λ l. r ∷ l) (rows-K rs)))
 
-pub rows-V : (rs : List Row) → untilV rs ++ cat (blocksOf rs) ≡ rs
+pub rows-V : (rs : List TextLine) → untilV rs ++ concat (blocksOf rs) ≡ rs
 rows-V [] = refl
 rows-V (r ∷ rs) =
-    by-test (isV r) (λ e. rw e (ap {B = List Row} (λ l. r ∷ l) (rows-V rs))) (λ e. rw e (ap {B = List Row} (λ l. r ∷ l) (rows-V rs)))
+    by-test (isV r) (λ e. rw e (ap {B = List TextLine} (λ l. r ∷ l) (rows-V rs))) (λ e. rw e (ap {B = List TextLine} (λ l. r ∷ l) (rows-V rs)))
 
-pub rows-all : (text : List ℕ) → header text ++ (opening text ++ cat (blocks text)) ≡ rows text
-rows-all text = ap (λ (l : List Row). header text ++ l) (rows-V (afterK (rows text))) ∙ rows-K (rows text)
+pub rows-all : (text : List ℕ) → header text ++ (opening text ++ concat (blocks text)) ≡ textLines text
+rows-all text = ap (λ (l : List TextLine). header text ++ l) (rows-V (afterK (textLines text))) ∙ rows-K (textLines text)
 
 -- with its own blocks in their own order the text is itself
 pub rebuilt-self : (text : List ℕ) → rebuilt text (blocks text) ≡ text
-rebuilt-self text = ap cat (rows-all text) ∙ cat-rows text
+rebuilt-self text = ap concat (rows-all text) ∙ concat-lines text
 
 -- A BLOCK is a V: row and then rows that are none
-abbrev pub Plain : Row → Type 0
+abbrev pub Plain : TextLine → Type 0
 Plain r = isV r ≡ false
 
-abbrev pub Shape : List Row → Type 0
+abbrev pub Shape : List TextLine → Type 0
 Shape [] = ⊥
 Shape (r ∷ rs) = (isV r ≡ true) × All Plain rs
 
-pub until-plain : (rs : List Row) → All Plain (untilV rs)
+pub until-plain : (rs : List TextLine) → All Plain (untilV rs)
 until-plain [] = tt
 until-plain (r ∷ rs) = by-test (isV r) (λ e. rw e tt) (λ e. rw e (e, until-plain rs))
 
-pub blocks-shape : (rs : List Row) → All Shape (blocksOf rs)
+pub blocks-shape : (rs : List TextLine) → All Shape (blocksOf rs)
 blocks-shape [] = tt
 blocks-shape (r ∷ rs) = by-test (isV r) (λ e. rw e ((e, until-plain rs), blocks-shape rs)) (λ e. rw e (blocks-shape rs))

@@ -7,38 +7,38 @@ use mathlib.Core.List.{List, [], _∷_, _++_, append-assoc}
 use native.Mathlib.Omega.{arith}
 use lib.Dec.{eqb}
 use lib.ListN.{length}
-use Rattle.laws.specs.Lists.{All, sum, eqText, has}
+use Rattle.laws.specs.Lists.{All, sum, eqText, elem}
 use Rattle.laws.proofs.Bools.{by-test, and-left, and-right, or-either}
 use Rattle.laws.proofs.Lists.{All-append, eqText-true}
 use Rattle.reader.specs.Lines.{isV}
-use Rattle.reader.specs.Steps.{Row, Step, refuse, on, first, run, mine, tag}
-use Rattle.blocks.specs.Frame.{Reader, named, Music, Sung, Hush, Low, Laws}
+use Rattle.reader.specs.Steps.{TextLine, Step, refuse, on, first, run, itemsOf, tag}
+use Rattle.blocks.specs.Frame.{Reader, named, Music, LyricsAfterMusic, NoMusic, Low, Laws}
 use Rattle.blocks.proofs.Rows.{Plain}
 
 -- items of a part
 module _ {I : Type 0} where
-  pub mine-append : (p : ℕ) (xs ys : List (ℕ × I)) → mine p (xs ++ ys) ≡ mine p xs ++ mine p ys
+  pub mine-append : (p : ℕ) (xs ys : List (ℕ × I)) → itemsOf p (xs ++ ys) ≡ itemsOf p xs ++ itemsOf p ys
   mine-append p [] ys = refl
   mine-append p (x ∷ xs) ys =
-      let rest : mine p (xs ++ ys) ≡ mine p xs ++ mine p ys = mine-append p xs ys in
+      let rest : itemsOf p (xs ++ ys) ≡ itemsOf p xs ++ itemsOf p ys = mine-append p xs ys in
       by-test
       (eqb (x .0) p)
       (λ e.
-      ap (λ (b : Bool). cond b (x .1 ∷ mine p (xs ++ ys)) (mine p (xs ++ ys))) e
+      ap (λ (b : Bool). cond b (x .1 ∷ itemsOf p (xs ++ ys)) (itemsOf p (xs ++ ys))) e
       ∙ ap {B = List I} (λ l. x .1 ∷ l) rest
-      ∙ sym (ap (λ (b : Bool). cond b (x .1 ∷ mine p xs) (mine p xs) ++ mine p ys) e))
+      ∙ sym (ap (λ (b : Bool). cond b (x .1 ∷ itemsOf p xs) (itemsOf p xs) ++ itemsOf p ys) e))
       (λ e.
-      ap (λ (b : Bool). cond b (x .1 ∷ mine p (xs ++ ys)) (mine p (xs ++ ys))) e
+      ap (λ (b : Bool). cond b (x .1 ∷ itemsOf p (xs ++ ys)) (itemsOf p (xs ++ ys))) e
       ∙ rest
-      ∙ sym (ap (λ (b : Bool). cond b (x .1 ∷ mine p xs) (mine p xs) ++ mine p ys) e))
+      ∙ sym (ap (λ (b : Bool). cond b (x .1 ∷ itemsOf p xs) (itemsOf p xs) ++ itemsOf p ys) e))
 
-  pub mine-own : (q p : ℕ) (xs : List I) → eqb q p ≡ true → mine p (tag q xs) ≡ xs
+  pub mine-own : (q p : ℕ) (xs : List I) → eqb q p ≡ true → itemsOf p (tag q xs) ≡ xs
   mine-own q p [] e = refl
-  mine-own q p (x ∷ xs) e = ap (λ (b : Bool). cond b (x ∷ mine p (tag q xs)) (mine p (tag q xs))) e ∙ ap {B = List I} (λ l. x ∷ l) (mine-own q p xs e)
+  mine-own q p (x ∷ xs) e = ap (λ (b : Bool). cond b (x ∷ itemsOf p (tag q xs)) (itemsOf p (tag q xs))) e ∙ ap {B = List I} (λ l. x ∷ l) (mine-own q p xs e)
 
-  pub mine-other : (q p : ℕ) (xs : List I) → eqb q p ≡ false → mine p (tag q xs) ≡ []
+  pub mine-other : (q p : ℕ) (xs : List I) → eqb q p ≡ false → itemsOf p (tag q xs) ≡ []
   mine-other q p [] e = refl
-  mine-other q p (x ∷ xs) e = ap (λ (b : Bool). cond b (x ∷ mine p (tag q xs)) (mine p (tag q xs))) e ∙ mine-other q p xs e
+  mine-other q p (x ∷ xs) e = ap (λ (b : Bool). cond b (x ∷ itemsOf p (tag q xs)) (itemsOf p (tag q xs))) e ∙ mine-other q p xs e
 
   pub tag-append : (p : ℕ) (xs ys : List I) → tag p (xs ++ ys) ≡ tag p xs ++ tag p ys
   tag-append p [] ys = refl
@@ -46,11 +46,11 @@ module _ {I : Type 0} where
 
 module _ (R : Reader) where
   -- the rows rs take s to t and give the items a
-  pub data Run : R .State → List Row → R .State → List (ℕ × R .Item) → Type 0 where
+  pub data Run : R .State → List TextLine → R .State → List (ℕ × R .Item) → Type 0 where
     stop : {s : R .State} → Run s [] s []
-    then : {s t u : R .State} {r : Row} {rs : List Row} {a b : List (ℕ × R .Item)} → R .step s r ≡ on t a → Run t rs u b → Run s (r ∷ rs) u (a ++ b)
+    then : {s t u : R .State} {r : TextLine} {rs : List TextLine} {a b : List (ℕ × R .Item)} → R .step s r ≡ on t a → Run t rs u b → Run s (r ∷ rs) u (a ++ b)
 
-  pub run-run : {s t : R .State} {rs : List Row} {a : List (ℕ × R .Item)} → Run s rs t a → run (R .step) s rs ≡ on t a
+  pub run-run : {s t : R .State} {rs : List TextLine} {a : List (ℕ × R .Item)} → Run s rs t a → run (R .step) s rs ≡ on t a
   run-run stop = refl
   run-run (then {t = t} {rs = rs} {a = a} e d) =
       ap (λ (x : Step (R .State) (R .Item)). elim x as (λ y. Step (R .State) (R .Item)) [ refuse n l ↦ refuse n l | on u c ↦ first c (run (R .step) u rs) ]) e
@@ -62,7 +62,7 @@ module _ (R : Reader) where
   abbrev pub Out : Type 0
   Out = Step (R .State) (R .Item)
 
-  abbrev go-on : List Row → Out → Out
+  abbrev go-on : List TextLine → Out → Out
   go-on rs (refuse n l) = refuse n l
   go-on rs (on u c) = first c (run (R .step) u rs)
 
@@ -78,14 +78,14 @@ module _ (R : Reader) where
       let k : a ++ b ≡ c = cc in
       (b, ap (λ (v : R .State). on v b) e, k)
 
-  run-step : (r : Row) (rs : List Row) (s : R .State) → run (R .step) s (r ∷ rs) ≡ go-on rs (R .step s r)
+  run-step : (r : TextLine) (rs : List TextLine) (s : R .State) → run (R .step) s (r ∷ rs) ≡ go-on rs (R .step s r)
   run-step r rs s = go (R .step s r)
     where
       go : (x : Out) → (elim x as (λ y. Out) [ refuse n l ↦ refuse n l | on u c ↦ first c (run (R .step) u rs) ]) ≡ go-on rs x
       go (refuse n l) = refl
       go (on u c) = refl
 
-  pub run-of : (rs : List Row) (s t : R .State) (a : List (ℕ × R .Item)) → run (R .step) s rs ≡ on t a → Run s rs t a
+  pub run-of : (rs : List TextLine) (s t : R .State) (a : List (ℕ × R .Item)) → run (R .step) s rs ≡ on t a → Run s rs t a
   run-of [] s t a h =
       let e : s ≡ t = cc in
       let k : [] ≡ a = cc in
@@ -100,75 +100,75 @@ module _ (R : Reader) where
           subst (λ (d : List (ℕ × R .Item)). Run s (r ∷ rs) t d) (q .2) (then e (rec u t (q .0) (q .1)))
 
   -- a run is cut in two, and put together
-  pub run-cut : (xs : List Row) {ys : List Row} {s u : R .State} {c : List (ℕ × R .Item)} → Run s (xs ++ ys) u c →
+  pub run-cut : (xs : List TextLine) {ys : List TextLine} {s u : R .State} {c : List (ℕ × R .Item)} → Run s (xs ++ ys) u c →
       (t : R .State) × (a : List (ℕ × R .Item)) × (b : List (ℕ × R .Item)) × Run s xs t a × Run t ys u b × (c ≡ a ++ b)
   run-cut [] {s = s} {c = c} d = (s, [], c, stop, d, refl)
   run-cut (x ∷ xs) {ys} {s} {u} (then {t = t} {a = a} {b = b} e d) =
       let q : (t′ : R .State) × (a′ : List (ℕ × R .Item)) × (b′ : List (ℕ × R .Item)) × Run t xs t′ a′ × Run t′ ys u b′ × (b ≡ a′ ++ b′) = run-cut xs d in
       (q .0, a ++ q .1, q .2, then e (q .3), q .4, ap (λ (l : List (ℕ × R .Item)). a ++ l) (q .5) ∙ sym (append-assoc a (q .1) (q .2)))
 
-  pub run-join : {xs ys : List Row} {s t u : R .State} {a b : List (ℕ × R .Item)} → Run s xs t a → Run t ys u b → Run s (xs ++ ys) u (a ++ b)
+  pub run-join : {xs ys : List TextLine} {s t u : R .State} {a b : List (ℕ × R .Item)} → Run s xs t a → Run t ys u b → Run s (xs ++ ys) u (a ++ b)
   run-join stop f = f
   run-join {ys = ys} {s = s} {u = u} {b = b} (then {r = r} {rs = rs} {a = c} {b = d} e k) f =
       subst (λ (l : List (ℕ × R .Item)). Run s (r ∷ (rs ++ ys)) u l) (sym (append-assoc c d b)) (then e (run-join k f))
 
   -- two runs of the same rows from one state end alike
-  pub run-one : {s t t′ : R .State} {rs : List Row} {a a′ : List (ℕ × R .Item)} → Run s rs t a → Run s rs t′ a′ → (t ≡ t′) × (a ≡ a′)
+  pub run-one : {s t t′ : R .State} {rs : List TextLine} {a a′ : List (ℕ × R .Item)} → Run s rs t a → Run s rs t′ a′ → (t ≡ t′) × (a ≡ a′)
   run-one {t = t} {t′ = t′} {a = a} {a′ = a′} d f =
       let k : _≡_ {A = Out} (on t a) (on t′ a′) = sym (run-run d) ∙ run-run f in
       (cc, cc)
 
   -- L and M after rows
-  abbrev pub endL : List Row → ℕ → ℕ
+  abbrev pub endL : List TextLine → ℕ → ℕ
   endL [] u = u
   endL (r ∷ rs) u = endL rs (R .afterL r u)
 
-  abbrev pub endM : List Row → R .Meter → R .Meter
+  abbrev pub endM : List TextLine → R .Meter → R .Meter
   endM [] m = m
   endM (r ∷ rs) m = endM rs (R .afterM r m)
 
   -- the items of rows that all find a place for verses, with L and M in force before them; and of blocks that each find the same L and M
-  abbrev pub emits : R .Env → ℕ → R .Meter → List Row → List (R .Item)
+  abbrev pub emits : R .Env → ℕ → R .Meter → List TextLine → List (R .Item)
   emits e u m [] = []
   emits e u m (r ∷ rs) = R .emit e u m true r ++ emits e (R .afterL r u) (R .afterM r m) rs
 
-  abbrev pub gathers : R .Env → ℕ → R .Meter → List (List Row) → List (R .Item)
+  abbrev pub gathers : R .Env → ℕ → R .Meter → List (List TextLine) → List (R .Item)
   gathers e u m [] = []
   gathers e u m (b ∷ bs) = emits e u m b ++ gathers e u m bs
 
   -- a row that is no music
-  abbrev pub Mute : Row → Type 0
+  abbrev pub Mute : TextLine → Type 0
   Mute r = R .isMusic r ≡ false
 
-  pub music-or : (rs : List Row) → Music R rs ⊎ All Mute rs
+  pub music-or : (rs : List TextLine) → Music R rs ⊎ All Mute rs
   music-or [] = inr tt
   music-or (r ∷ rs) =
       let rest : Music R rs ⊎ All Mute rs = music-or rs in
       by-test (R .isMusic r) (λ e. inl (inl e)) (λ e. ⊎-elim (λ x. inl (inr x)) (λ x. inr (e, x)) rest)
 
-  pub music-left : (xs ys : List Row) → Music R xs → Music R (xs ++ ys)
+  pub music-left : (xs ys : List TextLine) → Music R xs → Music R (xs ++ ys)
   music-left [] ys m = absurd m
   music-left (x ∷ xs) ys m = ⊎-elim (λ e. inl e) (λ k. inr (music-left xs ys k)) m
 
-  pub music-right : (xs ys : List Row) → Music R ys → Music R (xs ++ ys)
+  pub music-right : (xs ys : List TextLine) → Music R ys → Music R (xs ++ ys)
   music-right [] ys m = m
   music-right (x ∷ xs) ys m = inr (music-right xs ys m)
 
   -- where P holds nothing is asked
-  pub sung-yes : (P : Type 0) → P → (rs : List Row) → Sung R P rs
+  pub sung-yes : (P : Type 0) → P → (rs : List TextLine) → LyricsAfterMusic R P rs
   sung-yes P p [] = tt
   sung-yes P p (r ∷ rs) = (λ e. p, sung-yes (P ⊎ (R .isMusic r ≡ true)) (inl p) rs)
 
-  pub sung-map : (P Q : Type 0) → (P → Q) → (rs : List Row) → Sung R P rs → Sung R Q rs
+  pub sung-map : (P Q : Type 0) → (P → Q) → (rs : List TextLine) → LyricsAfterMusic R P rs → LyricsAfterMusic R Q rs
   sung-map P Q f [] h = tt
   sung-map P Q f (r ∷ rs) h =
       (λ e. f (h .0 e), sung-map (P ⊎ (R .isMusic r ≡ true)) (Q ⊎ (R .isMusic r ≡ true)) (⊎-elim (λ p. inl (f p)) (λ m. inr m)) rs (h .1))
 
-  pub sung-left : (P : Type 0) (xs ys : List Row) → Sung R P (xs ++ ys) → Sung R P xs
+  pub sung-left : (P : Type 0) (xs ys : List TextLine) → LyricsAfterMusic R P (xs ++ ys) → LyricsAfterMusic R P xs
   sung-left P [] ys h = tt
   sung-left P (x ∷ xs) ys h = (h .0, sung-left (P ⊎ (R .isMusic x ≡ true)) xs ys (h .1))
 
-  pub sung-right : (P : Type 0) (xs ys : List Row) → Sung R P (xs ++ ys) → Sung R (P ⊎ Music R xs) ys
+  pub sung-right : (P : Type 0) (xs ys : List TextLine) → LyricsAfterMusic R P (xs ++ ys) → LyricsAfterMusic R (P ⊎ Music R xs) ys
   sung-right P [] ys h = sung-map P (P ⊎ ⊥) (λ p. inl p) ys h
   sung-right P (x ∷ xs) ys h =
       sung-map
@@ -180,49 +180,49 @@ module _ (R : Reader) where
 
 module _ (R : Reader) (L : Laws R) where
   -- what a run keeps
-  pub run-low : {s t : R .State} {rs : List Row} {a : List (ℕ × R .Item)} → Run R s rs t a → Low R s → Low R t
+  pub run-low : {s t : R .State} {rs : List TextLine} {a : List (ℕ × R .Item)} → Run R s rs t a → Low R s → Low R t
   run-low stop h = h
   run-low (then e d) h = run-low d (L .low _ _ _ _ h e)
 
-  pub run-lines : {s t : R .State} {rs : List Row} {a : List (ℕ × R .Item)} → Run R s rs t a → R .lines t ≡ R .lines s + length rs
+  pub run-lines : {s t : R .State} {rs : List TextLine} {a : List (ℕ × R .Item)} → Run R s rs t a → R .lines t ≡ R .lines s + length rs
   run-lines stop = omega arith
   run-lines (then e d) = omega (arith, run-lines d, L .line _ _ _ _ e)
 
-  pub run-body : {s t : R .State} {rs : List Row} {a : List (ℕ × R .Item)} → Run R s rs t a → R .Body (R .env s) → R .Body (R .env t)
+  pub run-body : {s t : R .State} {rs : List TextLine} {a : List (ℕ × R .Item)} → Run R s rs t a → R .Body (R .env s) → R .Body (R .env t)
   run-body stop h = h
   run-body (then e d) h = run-body d (L .body _ _ _ _ e h)
 
-  pub run-notes : {s t : R .State} {rs : List Row} {a : List (ℕ × R .Item)} → Run R s rs t a → R .Body (R .env s) → R .notes t ≡ R .notes s + sum (R .cost) rs
+  pub run-notes : {s t : R .State} {rs : List TextLine} {a : List (ℕ × R .Item)} → Run R s rs t a → R .Body (R .env s) → R .notes t ≡ R .notes s + sum (R .noteCount) rs
   run-notes stop h = omega arith
   run-notes (then e d) h = omega (arith, run-notes d (L .body _ _ _ _ e h), L .note _ _ _ _ h e)
 
-  pub run-fine : {s t : R .State} {rs : List Row} {a : List (ℕ × R .Item)} → Run R s rs t a → R .Body (R .env s) → All (R .Fine) rs
+  pub run-fine : {s t : R .State} {rs : List TextLine} {a : List (ℕ × R .Item)} → Run R s rs t a → R .Body (R .env s) → All (R .Fine) rs
   run-fine stop h = tt
   run-fine (then e d) h = (L .fine _ _ _ _ h e, run-fine d (L .body _ _ _ _ e h))
 
-  pub run-keeps : {s t : R .State} {rs : List Row} {a : List (ℕ × R .Item)} → Run R s rs t a → (v : List ℕ) → has v (R .ids (R .env s)) ≡ true → has v (R .ids (R .env t)) ≡ true
+  pub run-keeps : {s t : R .State} {rs : List TextLine} {a : List (ℕ × R .Item)} → Run R s rs t a → (v : List ℕ) → elem v (R .ids (R .env s)) ≡ true → elem v (R .ids (R .env t)) ≡ true
   run-keeps stop v h = h
   run-keeps (then e d) v h = run-keeps d v (L .keeps _ _ _ _ e v h)
 
-  pub run-slots : {s t : R .State} {rs : List Row} {a : List (ℕ × R .Item)} → Run R s rs t a → (p : ℕ) → R .slot s p ≡ true → R .slot t p ≡ true
+  pub run-slots : {s t : R .State} {rs : List TextLine} {a : List (ℕ × R .Item)} → Run R s rs t a → (p : ℕ) → R .slot s p ≡ true → R .slot t p ≡ true
   run-slots stop p h = h
   run-slots (then e d) p h = run-slots d p (L .slots _ _ _ _ e p h)
 
   -- a part that has no place for verses afterwards got no item of a music row
-  pub run-hush : {s t : R .State} {rs : List Row} {a : List (ℕ × R .Item)} → Run R s rs t a → (p : ℕ) → R .slot t p ≡ false → Hush R (mine p a)
+  pub run-hush : {s t : R .State} {rs : List TextLine} {a : List (ℕ × R .Item)} → Run R s rs t a → (p : ℕ) → R .slot t p ≡ false → NoMusic R (itemsOf p a)
   run-hush stop p h = tt
   run-hush {t = t} (then {t = m} {a = a} {b = b} e d) p h =
-      subst (Hush R) (sym (mine-append p a b))
-      (All-append (λ i. R .loud i ≡ false) (mine p a) (mine p b)
+      subst (NoMusic R) (sym (mine-append p a b))
+      (All-append (λ i. R .isMusicItem i ≡ false) (itemsOf p a) (itemsOf p b)
       (by-test (R .slot m p) (λ x. absurd (true≢false (sym (run-slots d p x) ∙ h))) (λ x. L .placed _ _ _ _ e p x))
       (run-hush d p h))
 
   -- in rows that are no V: rows the part stays, and music makes its place for verses
-  pub run-stays : {s t : R .State} {rs : List Row} {a : List (ℕ × R .Item)} → Run R s rs t a → R .Body (R .env s) → All Plain rs → R .cur t ≡ R .cur s
+  pub run-stays : {s t : R .State} {rs : List TextLine} {a : List (ℕ × R .Item)} → Run R s rs t a → R .Body (R .env s) → All Plain rs → R .cur t ≡ R .cur s
   run-stays stop h v = refl
   run-stays (then e d) h v = run-stays d (L .body _ _ _ _ e h) (v .1) ∙ L .stays _ _ _ _ h (v .0) e
 
-  pub run-music : {s t : R .State} {rs : List Row} {a : List (ℕ × R .Item)} → Run R s rs t a → R .Body (R .env s) → All Plain rs → Music R rs → R .slot t (R .cur s) ≡ true
+  pub run-music : {s t : R .State} {rs : List TextLine} {a : List (ℕ × R .Item)} → Run R s rs t a → R .Body (R .env s) → All Plain rs → Music R rs → R .slot t (R .cur s) ≡ true
   run-music stop h v m = absurd m
   run-music {t = t} (then e d) h v m =
       ⊎-elim
@@ -231,12 +231,12 @@ module _ (R : Reader) (L : Laws R) where
       m
 
   -- each identifier of a V: row is known afterwards
-  pub run-named : {s t : R .State} {rs : List Row} {a : List (ℕ × R .Item)} → Run R s rs t a → (v : List ℕ) → named R v rs ≡ true → has v (R .ids (R .env t)) ≡ true
+  pub run-named : {s t : R .State} {rs : List TextLine} {a : List (ℕ × R .Item)} → Run R s rs t a → (v : List ℕ) → named R v rs ≡ true → elem v (R .ids (R .env t)) ≡ true
   run-named stop v h = absurd (false≢true h)
   run-named {t = t} (then {t = m} {r = r} {rs = rs} e d) v h =
       ⊎-elim
       (λ x.
       let y : (isV r ≡ true) × (eqText (R .ident r) v ≡ true) = (and-left (isV r) (eqText (R .ident r) v) x, and-right (isV r) (eqText (R .ident r) v) x) in
-      run-keeps d v (subst (λ (w : List ℕ). has w (R .ids (R .env m)) ≡ true) (eqText-true (R .ident r) v (y .1)) (L .names _ _ _ _ e (y .0))))
+      run-keeps d v (subst (λ (w : List ℕ). elem w (R .ids (R .env m)) ≡ true) (eqText-true (R .ident r) v (y .1)) (L .names _ _ _ _ e (y .0))))
       (λ x. run-named d v x)
       (or-either (isV r && eqText (R .ident r) v) (named R v rs) h)

@@ -8,16 +8,16 @@ use native.Mathlib.Omega.{arith}
 use lib.Dec.{eqb, leb, ltb}
 use lib.ListN.{length}
 use borrow.Author.Tests.{eqb-true, ltb-true, lt-ltb}
-use Rattle.laws.specs.Lists.{All, has, indexOf}
+use Rattle.laws.specs.Lists.{All, elem, indexOf}
 use Rattle.laws.proofs.Bools.{by-test}
-use Rattle.laws.proofs.Lists.{has-left, has-last}
+use Rattle.laws.proofs.Lists.{elem-left, has-last}
 use Rattle.standard.specs.Fields.{Meter}
-use Rattle.reader.specs.Tokens.{Effect, counts, refuses, setsUnit, setsMeter, passes}
+use Rattle.reader.specs.Tokens.{Effect, counts, refuses, setsUnit, setsMeter, noEffect}
 use Rattle.reader.specs.Lines.{isV, isLyric, Kind, blank, refused, lyric, voice, key, meter, unit, tune, other, music, kindOf}
-use Rattle.reader.specs.Steps.{Row, refuse, on, tag, mine}
-use Rattle.reader.specs.Scan.{Item, born, reset, headed, keyed, metered, sung, played, ScanState, mostNotes, mostLines, mostVoices, noteCount, lastUnit, lastMeter, firstRefusal, further, at, nextLine, withUnnamed, voicesBefore, withVoices, Items, Out, playOn, voiceOn, act, step}
+use Rattle.reader.specs.Steps.{TextLine, refuse, on, tag, itemsOf}
+use Rattle.reader.specs.Scan.{Item, voiceDeclared, reset, keyInHeader, keyChange, meterChange, lyricLine, musicLine, ScanState, mostNotes, mostLines, mostVoices, noteCount, lastUnit, lastMeter, firstRefusal, further, at, nextLine, withUnnamed, voicesBefore, withVoices, Items, Out, playOn, voiceOn, act, step}
 use Rattle.reader.specs.Answer.{isMusic}
-use Rattle.blocks.specs.Kinds.{isPlayed, unitAfter, meterAfter}
+use Rattle.blocks.specs.Kinds.{isMusicLine, unitAfter, meterAfter}
 use Rattle.blocks.specs.Frame.{Goes}
 use Rattle.blocks.proofs.RowKinds.{isVoice, isSung, Keyish, Names, lyric-row, voice-only}
 use Rattle.blocks.proofs.Instance.{scanning, Clear, kindCost, kindFine, kindItems, reader}
@@ -41,7 +41,7 @@ none-within n (counts ∷ es) h l =
 none-within n (refuses k ∷ es) h l = absurd (some≢none k h)
 none-within n (setsUnit v ∷ es) h l = none-within n es h l
 none-within n (setsMeter m ∷ es) h l = none-within n es h l
-none-within n (passes ∷ es) h l = none-within n es h l
+none-within n (noEffect ∷ es) h l = none-within n es h l
 
 clear-none : (n : ℕ) (es : List Effect) → Clear es → n + noteCount es ≤ mostNotes → firstRefusal n es ≡ none
 unfolding scanning
@@ -51,7 +51,7 @@ clear-none n (counts ∷ es) c l =
 clear-none n (refuses k ∷ es) c l = absurd c
 clear-none n (setsUnit v ∷ es) c l = clear-none n es c l
 clear-none n (setsMeter m ∷ es) c l = clear-none n es c l
-clear-none n (passes ∷ es) c l = clear-none n es c l
+clear-none n (noEffect ∷ es) c l = clear-none n es c l
 
 none-clear : (n : ℕ) (es : List Effect) → firstRefusal n es ≡ none → Clear es
 unfolding scanning
@@ -65,16 +65,16 @@ none-clear n (counts ∷ es) h =
 none-clear n (refuses k ∷ es) h = absurd (some≢none k h)
 none-clear n (setsUnit v ∷ es) h = none-clear n es h
 none-clear n (setsMeter m ∷ es) h = none-clear n es h
-none-clear n (passes ∷ es) h = none-clear n es h
+none-clear n (noEffect ∷ es) h = none-clear n es h
 
 -- NAMES
 
-known-has : (o : Bool) (v : List ℕ) (is : List (List ℕ)) → has v is ≡ true → has v (withUnnamed o is) ≡ true
+known-elem : (o : Bool) (v : List ℕ) (is : List (List ℕ)) → elem v is ≡ true → elem v (withUnnamed o is) ≡ true
 unfolding scanning
-known-has o v [] h = absurd (false≢true h)
-known-has o v (i ∷ is) h = h
+known-elem o v [] h = absurd (false≢true h)
+known-elem o v (i ∷ is) h = h
 
-known-same : (o : Bool) (v : List ℕ) (is : List (List ℕ)) → has v is ≡ true → withUnnamed o is ≡ is
+known-same : (o : Bool) (v : List ℕ) (is : List (List ℕ)) → elem v is ≡ true → withUnnamed o is ≡ is
 unfolding scanning
 known-same o v [] h = absurd (false≢true h)
 known-same o v (i ∷ is) h = refl
@@ -87,17 +87,17 @@ pub record Facts (s : ScanState) (k : Kind) (h : Bool) (t : ScanState) : Type 0 
   pub low : s .notes ≤ mostNotes → t .notes ≤ mostNotes
   pub body-K : Keyish k → t .env .inHeader ≡ false
   pub body : s .env .inHeader ≡ false → t .env .inHeader ≡ false
-  pub names : (v : List ℕ) → Names v k → has v (t .env .voices) ≡ true
-  pub keeps : (v : List ℕ) → has v (s .env .voices) ≡ true → has v (t .env .voices) ≡ true
+  pub names : (v : List ℕ) → Names v k → elem v (t .env .voices) ≡ true
+  pub keeps : (v : List ℕ) → elem v (s .env .voices) ≡ true → elem v (t .env .voices) ≡ true
   pub stays : h ≡ false → isVoice k ≡ false → t .part ≡ s .part
   pub slots : s .places ≤ t .places
-  pub slot : h ≡ false → isPlayed k ≡ true → s .part < t .places
+  pub slot : h ≡ false → isMusicLine k ≡ true → s .part < t .places
   pub fine : h ≡ false → kindFine k
   pub units : h ≡ false → t .unit ≡ unitAfter k (s .unit)
   pub meters : h ≡ false → t .meter ≡ meterAfter k (s .meter)
 
 -- a line that changes nothing but L and M
-calm : (s : ScanState) (k : Kind) (h : Bool) (u : ℕ) (m : Meter) → kindCost k ≡ 0 → isPlayed k ≡ false → (Keyish k → s .env .inHeader ≡ false) → ((v : List ℕ) → Names v k → ⊥)
+calm : (s : ScanState) (k : Kind) (h : Bool) (u : ℕ) (m : Meter) → kindCost k ≡ 0 → isMusicLine k ≡ false → (Keyish k → s .env .inHeader ≡ false) → ((v : List ℕ) → Names v k → ⊥)
     → (h ≡ false → kindFine k) → u ≡ unitAfter k (s .unit) → m ≡ meterAfter k (s .meter) → Facts s k h (further s (s .env) u m (s .part))
 calm s k h u m c p hk nm f hu hm =
     record {
@@ -122,7 +122,7 @@ on-state t u a b h = cc
 refuse-on : (n l : ℕ) (t : ScanState) (a : Items) → _≡_ {A = Out} (refuse n l) (on t a) → ⊥
 refuse-on n l t a h = let z : _≡_ {A = ℕ} 0 1 = cc in omega arith
 
-voice-facts : (s : ScanState) (v : List ℕ) (h : Bool) (mid full known : Bool) → has v (voicesBefore s) ≡ known → (t : ScanState) (a : Items) →
+voice-facts : (s : ScanState) (v : List ℕ) (h : Bool) (mid full known : Bool) → elem v (voicesBefore s) ≡ known → (t : ScanState) (a : Items) →
     voiceOn s v (voicesBefore s) known full mid ≡ on t a → Facts s (voice v mid) h t
 unfolding scanning
 voice-facts s v h true full true hk t a e = absurd (refuse-on 10 (suc (s .lines)) t a e)
@@ -134,8 +134,8 @@ voice-facts s v h false full true hk t a e =
       low = λ x. x;
       body-K = λ x. absurd x;
       body = λ x. x;
-      names = λ w x. subst (λ (y : List ℕ). has y (voicesBefore s) ≡ true) x hk;
-      keeps = λ w x. known-has (s .opened) w (s .env .voices) x;
+      names = λ w x. subst (λ (y : List ℕ). elem y (voicesBefore s) ≡ true) x hk;
+      keeps = λ w x. known-elem (s .opened) w (s .env .voices) x;
       stays = λ x y. absurd (true≢false y);
       slots = omega arith;
       slot = λ x y. absurd (false≢true y);
@@ -153,8 +153,8 @@ voice-facts s v h false false false hk t a e =
       low = λ x. x;
       body-K = λ x. absurd x;
       body = λ x. x;
-      names = λ w x. subst (λ (y : List ℕ). has y (voicesBefore s ++ (v ∷ [])) ≡ true) x (has-last v (voicesBefore s));
-      keeps = λ w x. has-left w (voicesBefore s) (v ∷ []) (known-has (s .opened) w (s .env .voices) x);
+      names = λ w x. subst (λ (y : List ℕ). elem y (voicesBefore s ++ (v ∷ [])) ≡ true) x (has-last v (voicesBefore s));
+      keeps = λ w x. elem-left w (voicesBefore s) (v ∷ []) (known-elem (s .opened) w (s .env .voices) x);
       stays = λ x y. absurd (true≢false y);
       slots = omega arith;
       slot = λ x y. absurd (false≢true y);
@@ -191,7 +191,7 @@ act-facts s blank h eh t a e = subst (Facts s blank h) (on-state _ t _ a e) (cal
 act-facts s (refused n) h eh t a e = absurd (refuse-on n (suc (s .lines)) t a e)
 act-facts s (lyric w) true eh t a e = subst (Facts s (lyric w) true) (on-state _ t _ a e) (calm s (lyric w) true (s .unit) (s .meter) refl refl (λ x. absurd x) (λ v x. x) (λ x. tt) refl refl)
 act-facts s (lyric w) false eh t a e = subst (Facts s (lyric w) false) (on-state _ t _ a e) (calm s (lyric w) false (s .unit) (s .meter) refl refl (λ x. absurd x) (λ v x. x) (λ x. tt) refl refl)
-act-facts s (voice v mid) h eh t a e = voice-facts s v h mid (leb mostVoices (length (voicesBefore s))) (has v (voicesBefore s)) refl t a e
+act-facts s (voice v mid) h eh t a e = voice-facts s v h mid (leb mostVoices (length (voicesBefore s))) (elem v (voicesBefore s)) refl t a e
 act-facts s (key w) true eh t a e =
     subst (Facts s (key w) true) (on-state _ t _ a e)
     (record {
@@ -283,19 +283,19 @@ through s (music false es l) v f n = (
 )
 
 -- a V: line of a voice that is named
-named-on : (s : ScanState) (v : List ℕ) (is : List (List ℕ)) (full : Bool) → voicesBefore s ≡ is → s .env .voices ≡ is → has v is ≡ true →
-    (t : ScanState) × (voiceOn s v (voicesBefore s) (has v (voicesBefore s)) full false ≡ on t (tag (indexOf v is) (reset ∷ []))) × (t .env ≡ s .env) × (t .part ≡ indexOf v is) × (t .unit ≡ s .unit) × (t .meter ≡ s .meter)
+named-on : (s : ScanState) (v : List ℕ) (is : List (List ℕ)) (full : Bool) → voicesBefore s ≡ is → s .env .voices ≡ is → elem v is ≡ true →
+    (t : ScanState) × (voiceOn s v (voicesBefore s) (elem v (voicesBefore s)) full false ≡ on t (tag (indexOf v is) (reset ∷ []))) × (t .env ≡ s .env) × (t .part ≡ indexOf v is) × (t .unit ≡ s .unit) × (t .meter ≡ s .meter)
 unfolding scanning
 named-on s v is full eh ei hv = (
   at s (withVoices (s .env) is) (indexOf v is),
-  (λ i. voiceOn s v (eh i) (has v (eh i)) full false) ∙ ap (λ (b : Bool). voiceOn s v is b full false) hv,
+  (λ i. voiceOn s v (eh i) (elem v (eh i)) full false) ∙ ap (λ (b : Bool). voiceOn s v is b full false) hv,
   (λ i. withVoices (s .env) (sym ei i)),
   refl,
   refl,
   refl,
 )
 
-pub through-V : (s : ScanState) (k : Kind) (w : List ℕ) → Names w k → has w (s .env .voices) ≡ true → kindFine k → Through s k (indexOf w (s .env .voices))
+pub through-V : (s : ScanState) (k : Kind) (w : List ℕ) → Names w k → elem w (s .env .voices) ≡ true → kindFine k → Through s k (indexOf w (s .env .voices))
 unfolding scanning
 through-V s blank w nm hw f = absurd nm
 through-V s (refused n) w nm hw f = absurd f
@@ -307,8 +307,8 @@ through-V s (voice v false) w nm hw f =
     nm
     (named-on s v (s .env .voices) (leb mostVoices (length (voicesBefore s))) (known-same (s .opened) v (s .env .voices) hv) refl hv)
   where
-    hv : has v (s .env .voices) ≡ true
-    hv = subst (λ (x : List ℕ). has x (s .env .voices) ≡ true) (sym nm) hw
+    hv : elem v (s .env .voices) ≡ true
+    hv = subst (λ (x : List ℕ). elem x (s .env .voices) ≡ true) (sym nm) hw
 through-V s (key x) w nm hw f = absurd nm
 through-V s (meter m) w nm hw f = absurd nm
 through-V s (unit u) w nm hw f = absurd nm
@@ -317,7 +317,7 @@ through-V s other w nm hw f = absurd nm
 through-V s (music hi es l) w nm hw f = absurd nm
 
 -- a V: row is no music
-pub names-played : (w : List ℕ) (k : Kind) → Names w k → isPlayed k ≡ true → ⊥
+pub names-played : (w : List ℕ) (k : Kind) → Names w k → isMusicLine k ≡ true → ⊥
 names-played w blank nm h = nm
 names-played w (refused n) nm h = false≢true h
 names-played w (lyric t) nm h = nm
@@ -345,7 +345,7 @@ told-kind u n b other h = refl
 told-kind u n b (music hi es l) h = refl
 
 -- only a music line tells L and M
-pub blind-kind : (u w : ℕ) (m n : Meter) (b : Bool) (k : Kind) → isPlayed k ≡ false → kindItems u m b k ≡ kindItems w n b k
+pub blind-kind : (u w : ℕ) (m n : Meter) (b : Bool) (k : Kind) → isMusicLine k ≡ false → kindItems u m b k ≡ kindItems w n b k
 blind-kind u w m n b blank h = refl
 blind-kind u w m n b (refused k) h = refl
 blind-kind u w m n b (lyric t) h = refl
@@ -358,7 +358,7 @@ blind-kind u w m n b other h = refl
 blind-kind u w m n b (music hi es l) h = absurd (true≢false h)
 
 -- only a music line gives a music line's item
-pub hush-kind : (u : ℕ) (n : Meter) (b : Bool) (k : Kind) → isPlayed k ≡ false → All (λ i. isMusic i ≡ false) (kindItems u n b k)
+pub hush-kind : (u : ℕ) (n : Meter) (b : Bool) (k : Kind) → isMusicLine k ≡ false → All (λ i. isMusic i ≡ false) (kindItems u n b k)
 unfolding isMusic
 hush-kind u n b blank h = tt
 hush-kind u n b (refused k) h = tt
@@ -374,12 +374,12 @@ hush-kind u n b (music hi es l) h = absurd (true≢false h)
 -- a line that leaves part p without a place for verses gives it no music line's item
 abbrev pub HushOut : ℕ → Out → Type 0
 HushOut p (refuse n l) = Unit {0}
-HushOut p (on t a) = ltb p (t .places) ≡ false → All (λ i. isMusic i ≡ false) (mine p a)
+HushOut p (on t a) = ltb p (t .places) ≡ false → All (λ i. isMusic i ≡ false) (itemsOf p a)
 
-hush-item : (c p : ℕ) (x : Item) (xs : Items) → isMusic x ≡ false → All (λ i. isMusic i ≡ false) (mine p xs) → All (λ i. isMusic i ≡ false) (mine p ((c, x) ∷ xs))
+hush-item : (c p : ℕ) (x : Item) (xs : Items) → isMusic x ≡ false → All (λ i. isMusic i ≡ false) (itemsOf p xs) → All (λ i. isMusic i ≡ false) (itemsOf p ((c, x) ∷ xs))
 hush-item c p x xs h r = go (eqb c p)
   where
-    go : (b : Bool) → All (λ i. isMusic i ≡ false) (cond b (x ∷ mine p xs) (mine p xs))
+    go : (b : Bool) → All (λ i. isMusic i ≡ false) (cond b (x ∷ itemsOf p xs) (itemsOf p xs))
     go true = (h, r)
     go false = r
 
@@ -389,7 +389,7 @@ voice-hush s v is true full true p = tt
 voice-hush s v is true full false p = λ h. hush-item (indexOf v is) p reset [] refl tt
 voice-hush s v is false true mid p = tt
 voice-hush s v is false false true p = tt
-voice-hush s v is false false false p = λ h. hush-item (length is) p (born (s .env .inHeader)) ((length is, reset) ∷ []) refl (hush-item (length is) p reset [] refl tt)
+voice-hush s v is false false false p = λ h. hush-item (length is) p (voiceDeclared (s .env .inHeader)) ((length is, reset) ∷ []) refl (hush-item (length is) p reset [] refl tt)
 
 play-hush : (s : ScanState) (es : List Effect) (l : List ℕ) (o : Option ℕ) (p : ℕ) → HushOut p (playOn s es l o)
 unfolding scanning isMusic
@@ -399,19 +399,19 @@ play-hush s es l none p =
     by-test
     (eqb (s .part) p)
     (λ e. absurd (true≢false (sym (lt-ltb p (max (s .places) (suc (s .part))) (omega (arith, eqb-true (s .part) p e))) ∙ h)))
-    (λ e. subst (All (λ i. isMusic i ≡ false)) (sym (ap (λ (b : Bool). cond b (played (s .unit) (s .meter) l ∷ []) []) e)) tt)
+    (λ e. subst (All (λ i. isMusic i ≡ false)) (sym (ap (λ (b : Bool). cond b (musicLine (s .unit) (s .meter) l ∷ []) []) e)) tt)
 
 pub act-hush : (s : ScanState) (k : Kind) (h : Bool) (p : ℕ) → HushOut p (act s k h)
 unfolding scanning isMusic
 act-hush s blank h p = λ x. tt
 act-hush s (refused n) h p = tt
 act-hush s (lyric t) true p = λ x. tt
-act-hush s (lyric t) false p = λ x. hush-item (s .part) p (sung (ltb (s .part) (s .places)) t) [] refl tt
-act-hush s (voice v mid) h p = voice-hush s v (voicesBefore s) (has v (voicesBefore s)) (leb mostVoices (length (voicesBefore s))) mid p
-act-hush s (key k) true p = λ x. hush-item (s .part) p headed [] refl tt
-act-hush s (key k) false p = λ x. hush-item (s .part) p (keyed k) [] refl tt
+act-hush s (lyric t) false p = λ x. hush-item (s .part) p (lyricLine (ltb (s .part) (s .places)) t) [] refl tt
+act-hush s (voice v mid) h p = voice-hush s v (voicesBefore s) (elem v (voicesBefore s)) (leb mostVoices (length (voicesBefore s))) mid p
+act-hush s (key k) true p = λ x. hush-item (s .part) p keyInHeader [] refl tt
+act-hush s (key k) false p = λ x. hush-item (s .part) p (keyChange k) [] refl tt
 act-hush s (meter m) true p = λ x. tt
-act-hush s (meter m) false p = λ x. hush-item (s .part) p (metered m) [] refl tt
+act-hush s (meter m) false p = λ x. hush-item (s .part) p (meterChange m) [] refl tt
 act-hush s (unit none) h p = λ x. tt
 act-hush s (unit (some u)) h p = λ x. tt
 act-hush s tune true p = λ x. tt
@@ -426,7 +426,7 @@ not-true true f = absurd (f refl)
 not-true false f = refl
 
 -- no line is both music and a lyric line
-pub music-lyric : (r : Row) → isPlayed (kindOf r) ≡ true → isLyric r ≡ false
+pub music-lyric : (r : TextLine) → isMusicLine (kindOf r) ≡ true → isLyric r ≡ false
 music-lyric r h = not-true (isLyric r) (λ x. true≢false (sym h ∙ lyric-row r x))
 
 -- A ROW
@@ -457,20 +457,20 @@ step-through s r p hb hl q = (
 )
 
 -- WHAT THE WORDS OF specs/Kinds SAY OF THE SCAN: a row after the first K: row that goes through leaves L and M as `unitAfter` and `meterAfter` say
-pub unit-after : (s t : ScanState) (r : Row) (a : Items) → s .env .inHeader ≡ false → step s r ≡ on t a → t .unit ≡ unitAfter (kindOf r) (s .unit)
+pub unit-after : (s t : ScanState) (r : TextLine) (a : Items) → s .env .inHeader ≡ false → step s r ≡ on t a → t .unit ≡ unitAfter (kindOf r) (s .unit)
 unit-after s t r a b e = facts s t r a e .units b
 
-pub meter-after : (s t : ScanState) (r : Row) (a : Items) → s .env .inHeader ≡ false → step s r ≡ on t a → t .meter ≡ meterAfter (kindOf r) (s .meter)
+pub meter-after : (s t : ScanState) (r : TextLine) (a : Items) → s .env .inHeader ≡ false → step s r ≡ on t a → t .meter ≡ meterAfter (kindOf r) (s .meter)
 meter-after s t r a b e = facts s t r a e .meters b
 
 -- and its part has a place for verses if it is music
-pub place-made : (s t : ScanState) (r : Row) (a : Items) → s .env .inHeader ≡ false → isPlayed (kindOf r) ≡ true → step s r ≡ on t a → s .part < t .places
+pub place-made : (s t : ScanState) (r : TextLine) (a : Items) → s .env .inHeader ≡ false → isMusicLine (kindOf r) ≡ true → step s r ≡ on t a → s .part < t .places
 place-made s t r a b h e = facts s t r a e .slot b h
 
 -- no V: line, no voice
-pub no-voice : (r : Row) → isV r ≡ false → isVoice (kindOf r) ≡ false
+pub no-voice : (r : TextLine) → isV r ≡ false → isVoice (kindOf r) ≡ false
 no-voice r h = not-true (isVoice (kindOf r)) (λ x. true≢false (sym (voice-only r x) ∙ h))
 
 -- "or, other than by its V: line, the voice, inline included": after the first K: line nothing but a V: line changes the voice that is read
-pub only-V : (s t : ScanState) (r : Row) (a : Items) → s .env .inHeader ≡ false → isV r ≡ false → step s r ≡ on t a → t .part ≡ s .part
+pub only-V : (s t : ScanState) (r : TextLine) (a : Items) → s .env .inHeader ≡ false → isV r ≡ false → step s r ≡ on t a → t .part ≡ s .part
 only-V s t r a b h e = facts s t r a e .stays b (no-voice r h)

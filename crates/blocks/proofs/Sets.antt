@@ -11,13 +11,13 @@ use Rattle.laws.proofs.Bools.{not-true, and-left, and-right, and-both, both-tru
 use Rattle.laws.proofs.Lists.{all-All, All-map}
 use Rattle.standard.specs.Bytes.{ascii}
 use Rattle.standard.specs.Fields.{Meter}
-use Rattle.reader.specs.Tokens.{Effect, counts, refuses, setsUnit, setsMeter, passes}
+use Rattle.reader.specs.Tokens.{Effect, counts, refuses, setsUnit, setsMeter, noEffect}
 use Rattle.reader.specs.Lines.{Kind, blank, refused, lyric, voice, key, meter, unit, tune, other, music, kindOf}
-use Rattle.reader.specs.Steps.{Row}
+use Rattle.reader.specs.Steps.{TextLine}
 use Rattle.reader.specs.Scan.{lastUnit, lastMeter}
 use Rattle.reader.specs.All as reader
 use Rattle.blocks.specs.Kinds.{unitAfter, meterAfter}
-use Rattle.blocks.specs.Demand.{Quiet}
+use Rattle.blocks.specs.Demand.{SetsNeither}
 
 -- L AND M: an effect that sets L, or M; a line that does not, by its kind
 abbrev pub setsL : Effect → Bool
@@ -25,14 +25,14 @@ setsL counts = false
 setsL (refuses k) = false
 setsL (setsUnit u) = true
 setsL (setsMeter m) = false
-setsL passes = false
+setsL noEffect = false
 
 abbrev pub setsM : Effect → Bool
 setsM counts = false
 setsM (refuses k) = false
 setsM (setsUnit u) = false
 setsM (setsMeter m) = true
-setsM passes = false
+setsM noEffect = false
 
 abbrev isNone : Option ℕ → Bool
 isNone none = true
@@ -69,7 +69,7 @@ effects-L (counts ∷ es) h u = effects-L es h u
 effects-L (refuses k ∷ es) h u = effects-L es h u
 effects-L (setsUnit v ∷ es) h u = absurd (false≢true h)
 effects-L (setsMeter v ∷ es) h u = effects-L es h u
-effects-L (passes ∷ es) h u = effects-L es h u
+effects-L (noEffect ∷ es) h u = effects-L es h u
 
 effects-M : (es : List Effect) → not (any setsM es) ≡ true → (m : Meter) → lastMeter es m ≡ m
 unfolding lastMeter
@@ -78,7 +78,7 @@ effects-M (counts ∷ es) h m = effects-M es h m
 effects-M (refuses k ∷ es) h m = effects-M es h m
 effects-M (setsUnit v ∷ es) h m = effects-M es h m
 effects-M (setsMeter v ∷ es) h m = absurd (false≢true h)
-effects-M (passes ∷ es) h m = effects-M es h m
+effects-M (noEffect ∷ es) h m = effects-M es h m
 
 pub leaves-L : (k : Kind) → leavesL k ≡ true → (u : ℕ) → unitAfter k u ≡ u
 leaves-L blank h u = refl
@@ -122,7 +122,7 @@ L-effects (counts ∷ es) h = L-effects es h
 L-effects (refuses k ∷ es) h = L-effects es h
 L-effects (setsUnit v ∷ es) h = absurd (sets-no (λ u. lastUnit es v) (λ u w. refl) h)
 L-effects (setsMeter v ∷ es) h = L-effects es h
-L-effects (passes ∷ es) h = L-effects es h
+L-effects (noEffect ∷ es) h = L-effects es h
 
 M-effects : (es : List Effect) → ((m : Meter) → lastMeter es m ≡ m) → not (any setsM es) ≡ true
 unfolding lastMeter
@@ -131,7 +131,7 @@ M-effects (counts ∷ es) h = M-effects es h
 M-effects (refuses k ∷ es) h = M-effects es h
 M-effects (setsUnit v ∷ es) h = M-effects es h
 M-effects (setsMeter v ∷ es) h = absurd (sets-noM (λ m. lastMeter es v) (λ u w. refl) h)
-M-effects (passes ∷ es) h = M-effects es h
+M-effects (noEffect ∷ es) h = M-effects es h
 
 pub L-leaves : (k : Kind) → ((u : ℕ) → unitAfter k u ≡ u) → leavesL k ≡ true
 L-leaves blank h = refl
@@ -159,19 +159,19 @@ M-leaves other h = refl
 M-leaves (music hi es l) h = M-effects es h
 
 -- no field of the row, on its own line or inline, sets L or M
-abbrev pub noField : Row → Bool
+abbrev pub noField : TextLine → Bool
 noField r = leavesL (kindOf r) && leavesM (kindOf r)
 
-pub quiet-field : (r : Row) → Quiet r → noField r ≡ true
+pub quiet-field : (r : TextLine) → SetsNeither r → noField r ≡ true
 quiet-field r q = and-both (leavesL (kindOf r)) (leavesM (kindOf r)) (L-leaves (kindOf r) (q .0)) (M-leaves (kindOf r) (q .1))
 
-pub field-quiet : (r : Row) → noField r ≡ true → Quiet r
+pub field-quiet : (r : TextLine) → noField r ≡ true → SetsNeither r
 field-quiet r h =
     (leaves-L (kindOf r) (and-left (leavesL (kindOf r)) (leavesM (kindOf r)) h), leaves-M (kindOf r) (and-right (leavesL (kindOf r)) (leavesM (kindOf r)) h))
 
 -- DOCUMENT 01'S CASES
 -- a field that writes the present value sets it (000 begins with L 1/8 and M 4/4), and one that 000 cannot read but takes for 8 or 4/4 sets it too
-abbrev setting : List Row
+abbrev setting : List TextLine
 setting =
     ascii "L:1/8\n"
     ∷ ascii "[L:1/8]\n"
@@ -192,7 +192,7 @@ setting =
     ∷ []
 
 -- without a slash nothing is set; inline, what is no number sets nothing; and what is no field of 000 is none
-abbrev leaving : List Row
+abbrev leaving : List TextLine
 leaving =
     ascii "L:1\n"
     ∷ ascii "L:\n"
@@ -227,11 +227,11 @@ all-leave : all noField leaving ≡ true
 unfolding reader.all
 all-leave = refl
 
-sets-what : (r : Row) → not (noField r) ≡ true → Quiet r → ⊥
+sets-what : (r : TextLine) → not (noField r) ≡ true → SetsNeither r → ⊥
 sets-what r h q = both-true (noField r) (quiet-field r q) (not-true (noField r) h)
 
-pub setting-sets : All (λ r. Quiet r → ⊥) setting
-setting-sets = All-map (λ r. not (noField r) ≡ true) (λ r. Quiet r → ⊥) sets-what setting (all-All (λ r. not (noField r)) setting all-set)
+pub setting-sets : All (λ r. SetsNeither r → ⊥) setting
+setting-sets = All-map (λ r. not (noField r) ≡ true) (λ r. SetsNeither r → ⊥) sets-what setting (all-All (λ r. not (noField r)) setting all-set)
 
-pub leaving-leaves : All Quiet leaving
-leaving-leaves = All-map (λ r. noField r ≡ true) Quiet field-quiet leaving (all-All noField leaving all-leave)
+pub leaving-leaves : All SetsNeither leaving
+leaving-leaves = All-map (λ r. noField r ≡ true) SetsNeither field-quiet leaving (all-All noField leaving all-leave)

@@ -6,17 +6,17 @@ use mathlib.Core.List.{List, [], _∷_, _++_}
 use native.Mathlib.Omega.{arith}
 use lib.Dec.{eqb, ltb}
 use borrow.Author.Tests.{ltb-true, ltb-false, ne-eqb}
-use Rattle.laws.specs.Lists.{All, all, cat, indexOf, allBelow}
+use Rattle.laws.specs.Lists.{All, all, concat, indexOf, allBelow}
 use Rattle.laws.proofs.Bools.{by-test, and-left, and-right}
-use Rattle.laws.proofs.Lists.{all-All, All-map, keep-none}
+use Rattle.laws.proofs.Lists.{all-All, All-map, filter-none}
 use Rattle.laws.proofs.Finite.{below}
 use Rattle.standard.specs.Fields.{Meter}
 use Rattle.reader.specs.Lines.{kindOf}
-use Rattle.reader.specs.Steps.{Row}
+use Rattle.reader.specs.Steps.{TextLine}
 use Rattle.reader.specs.Answer.{parseAbc}
 use Rattle.blocks.specs.Blocks.{endsLF, header, opening, blocks}
 use Rattle.blocks.specs.Kinds.{unitAfter, meterAfter}
-use Rattle.blocks.specs.Demand.{Accepted, voiceOf, named, Quiet, there, blocksAt, rowsAt, LyricsBehind, Meant}
+use Rattle.blocks.specs.Demand.{Accepted, voiceOf, named, SetsNeither, stateAtBlocks, blocksAt, linesAt, LyricsBehind, Hypotheses}
 use Rattle.blocks.proofs.Instance.{reader}
 use Rattle.blocks.proofs.Lyrics.{behind?}
 use Rattle.blocks.proofs.Sets.{leavesL, leavesM, leaves-L, leaves-M}
@@ -33,7 +33,7 @@ abbrev pub QuietM : List ℕ → Type 0
 QuietM t = All (All (λ r. (m : Meter) → meterAfter (kindOf r) m ≡ m)) (blocks t)
 
 abbrev pub Behind : List ℕ → Type 0
-Behind t = (p : ℕ) → LyricsBehind (rowsAt t p)
+Behind t = (p : ℕ) → LyricsBehind (linesAt t p)
 
 -- and their tests
 abbrev pub known? : List ℕ → Bool
@@ -47,7 +47,7 @@ quietM? t = all (λ b. all (λ r. leavesM (kindOf r)) b) (blocks t)
 
 -- the lyric condition of the parts below n; no block and no line before the blocks belongs to another
 abbrev pub behindBelow? : ℕ → List ℕ → Bool
-behindBelow? n t = ltb (there t .part) n && all (λ b. ltb (indexOf (voiceOf b) (there t .env .voices)) n) (blocks t) && allBelow n (λ p. behind? reader (rowsAt t p))
+behindBelow? n t = ltb (stateAtBlocks t .part) n && all (λ b. ltb (indexOf (voiceOf b) (stateAtBlocks t .env .voices)) n) (blocks t) && allBelow n (λ p. behind? reader (linesAt t p))
 
 pub known-test : (t : List ℕ) → known? t ≡ true → Known t
 known-test t h = all-All (λ b. named (voiceOf b) (header t)) (blocks t) h
@@ -75,37 +75,37 @@ above-no k n p h q = ne-eqb k p (λ e. no (ltb-true k n h) (ltb-false p n q) e)
 
 pub behind-test : (n : ℕ) (t : List ℕ) → behindBelow? n t ≡ true → Behind t
 behind-test n t h p =
-    by-test (ltb p n) (λ e. test-lyrics (rowsAt t p) (below n (λ q. behind? reader (rowsAt t q)) parts p (ltb-true p n e)))
-    (λ e. test-lyrics (rowsAt t p) (ap (behind? reader) (none-above e)))
+    by-test (ltb p n) (λ e. test-lyrics (linesAt t p) (below n (λ q. behind? reader (linesAt t q)) parts p (ltb-true p n e)))
+    (λ e. test-lyrics (linesAt t p) (ap (behind? reader) (none-above e)))
   where
-    place : ltb (there t .part) n ≡ true
-    place = and-left (ltb (there t .part) n) _ (and-left _ (allBelow n (λ q. behind? reader (rowsAt t q))) h)
+    place : ltb (stateAtBlocks t .part) n ≡ true
+    place = and-left (ltb (stateAtBlocks t .part) n) _ (and-left _ (allBelow n (λ q. behind? reader (linesAt t q))) h)
 
-    owners : all (λ b. ltb (indexOf (voiceOf b) (there t .env .voices)) n) (blocks t) ≡ true
-    owners = and-right (ltb (there t .part) n) _ (and-left _ (allBelow n (λ q. behind? reader (rowsAt t q))) h)
+    owners : all (λ b. ltb (indexOf (voiceOf b) (stateAtBlocks t .env .voices)) n) (blocks t) ≡ true
+    owners = and-right (ltb (stateAtBlocks t .part) n) _ (and-left _ (allBelow n (λ q. behind? reader (linesAt t q))) h)
 
-    parts : allBelow n (λ q. behind? reader (rowsAt t q)) ≡ true
+    parts : allBelow n (λ q. behind? reader (linesAt t q)) ≡ true
     parts =
-        and-right (ltb (there t .part) n && all (λ b. ltb (indexOf (voiceOf b) (there t .env .voices)) n) (blocks t)) _ h
+        and-right (ltb (stateAtBlocks t .part) n && all (λ b. ltb (indexOf (voiceOf b) (stateAtBlocks t .env .voices)) n) (blocks t)) _ h
 
-    none-above : ltb p n ≡ false → rowsAt t p ≡ []
+    none-above : ltb p n ≡ false → linesAt t p ≡ []
     none-above e =
-        (λ i. cond (above-no (there t .part) n p place e i) (opening t) [] ++ cat (blocksAt t p))
-        ∙ ap cat
-        (keep-none (λ b. eqb (indexOf (voiceOf b) (there t .env .voices)) p) (blocks t)
-        (each (λ b. ltb (indexOf (voiceOf b) (there t .env .voices)) n) (λ b. eqb (indexOf (voiceOf b) (there t .env .voices)) p ≡ false)
-        (λ b k. above-no (indexOf (voiceOf b) (there t .env .voices)) n p k e)
+        (λ i. cond (above-no (stateAtBlocks t .part) n p place e i) (opening t) [] ++ concat (blocksAt t p))
+        ∙ ap concat
+        (filter-none (λ b. eqb (indexOf (voiceOf b) (stateAtBlocks t .env .voices)) p) (blocks t)
+        (each (λ b. ltb (indexOf (voiceOf b) (stateAtBlocks t .env .voices)) n) (λ b. eqb (indexOf (voiceOf b) (stateAtBlocks t .env .voices)) p ≡ false)
+        (λ b k. above-no (indexOf (voiceOf b) (stateAtBlocks t .env .voices)) n p k e)
         (blocks t) owners))
 
 -- all of them: what is left to the reader is that the text is accepted
-both-quiet : (bs : List (List Row)) → All (All (λ r. (u : ℕ) → unitAfter (kindOf r) u ≡ u)) bs → All (All (λ r. (m : Meter) → meterAfter (kindOf r) m ≡ m)) bs → All (All Quiet) bs
+both-quiet : (bs : List (List TextLine)) → All (All (λ r. (u : ℕ) → unitAfter (kindOf r) u ≡ u)) bs → All (All (λ r. (m : Meter) → meterAfter (kindOf r) m ≡ m)) bs → All (All SetsNeither) bs
 both-quiet [] l m = tt
 both-quiet (b ∷ bs) l m = (rows-quiet b (l .0) (m .0), both-quiet bs (l .1) (m .1))
   where
-    rows-quiet : (rs : List Row) → All (λ r. (u : ℕ) → unitAfter (kindOf r) u ≡ u) rs → All (λ r. (m : Meter) → meterAfter (kindOf r) m ≡ m) rs → All Quiet rs
+    rows-quiet : (rs : List TextLine) → All (λ r. (u : ℕ) → unitAfter (kindOf r) u ≡ u) rs → All (λ r. (m : Meter) → meterAfter (kindOf r) m ≡ m) rs → All SetsNeither rs
     rows-quiet [] l m = tt
     rows-quiet (r ∷ rs) l m = ((l .0, m .0), rows-quiet rs (l .1) (m .1))
 
-pub meant-test : (n : ℕ) (t : List ℕ) (rl sl : ℕ) → Accepted (parseAbc t rl sl) → endsLF t ≡ true → known? t ≡ true → quietL? t ≡ true → quietM? t ≡ true → behindBelow? n t ≡ true → Meant t rl sl
+pub meant-test : (n : ℕ) (t : List ℕ) (rl sl : ℕ) → Accepted (parseAbc t rl sl) → endsLF t ≡ true → known? t ≡ true → quietL? t ≡ true → quietM? t ≡ true → behindBelow? n t ≡ true → Hypotheses t rl sl
 meant-test n t rl sl a e k l m b =
-    record { accepted = a; ended = e; known = known-test t k; quiet = both-quiet (blocks t) (quietL-test t l) (quietM-test t m); sung = behind-test n t b }
+    record { accepted = a; ended = e; known = known-test t k; sets-neither = both-quiet (blocks t) (quietL-test t l) (quietM-test t m); sung = behind-test n t b }

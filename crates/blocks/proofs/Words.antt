@@ -6,22 +6,22 @@ use mathlib.Core.Logic.{_⊎_, inl, inr, ⊎-elim}
 use mathlib.Core.Bool.{Bool, true, false, cond, false≢true}
 use mathlib.Core.List.{List, [], _∷_, _++_, append-assoc, append-nil}
 use lib.Dec.{eqb}
-use Rattle.laws.specs.Lists.{All, any, cat, foldl}
+use Rattle.laws.specs.Lists.{All, any, concat, foldl}
 use Rattle.laws.specs.Orders.{Perm}
 use Rattle.laws.proofs.Bools.{by-test, both-true}
-use Rattle.laws.proofs.Lists.{All-append, All-left, All-right, All-cat, All-uncat}
+use Rattle.laws.proofs.Lists.{All-append, All-left, All-right, All-concat, All-uncat}
 use Rattle.laws.proofs.Orders.{All-perm, perm-nil}
 use Rattle.reader.specs.Text as text
-use Rattle.reader.specs.Text.{White, white, inC2, inE1, inE19A, inE2, inE280, inE281, inE3, inE380, whiteStep, isAllWhite, isBlank, rows, cut, trim, clean}
+use Rattle.reader.specs.Text.{White, white, inC2, inE1, inE19A, inE2, inE280, inE281, inE3, inE380, whiteStep, isAllWhite, isBlank, textLines, cut, trim, clean}
 use Rattle.reader.specs.Lines.{isK}
-use Rattle.reader.specs.Steps.{Row}
+use Rattle.reader.specs.Steps.{TextLine}
 use Rattle.blocks.specs.Blocks.{endsLF, upToK, afterK, untilV, blocksOf, header, opening, blocks, rebuilt}
 use Rattle.blocks.specs.Demand.{Moved, LyricsBehind}
 use Rattle.blocks.proofs.Instance.{reader}
 use Rattle.blocks.proofs.Moves as moves
 use Rattle.blocks.proofs.Lyrics.{Between, Stepwise, behind?, literal-stepwise, stepwise-between, between-literal, literal-test, test-literal}
 use Rattle.blocks.proofs.Scan.{music-lyric}
-use Rattle.blocks.proofs.Rows.{rows-cat, rows-closed, rows-all, rebuilt-self, Closed, Plain, Shape, until-plain, blocks-shape}
+use Rattle.blocks.proofs.Rows.{lines-concat, rows-closed, rows-all, rebuilt-self, Closed, Plain, Shape, until-plain, blocks-shape}
 
 -- LINES: a row's line feed, and a carriage return before it, do not count: cut and trimmed a row is as its line without them
 white-lf : (q : White) → isAllWhite (whiteStep q 10) ≡ isAllWhite q
@@ -86,89 +86,89 @@ pub clean-crlf : (l : List ℕ) → clean (l ++ (13 ∷ (10 ∷ []))) ≡ clean 
 clean-crlf l = ap clean (sym (append-assoc l (13 ∷ []) (10 ∷ []))) ∙ clean-lf (l ++ (13 ∷ [])) ∙ clean-end 13 white-cr refl l
 
 -- THE ORDER: what is moved is all there, as often, and nothing else; and it is just what exchanges of neighbours of different voices lead to
-pub moved-is-perm : (old new : List (List Row)) → Moved old new → Perm old new
+pub moved-is-perm : (old new : List (List TextLine)) → Moved old new → Perm old new
 moved-is-perm = moves.moved-is-perm reader
 
-pub moved-swaps : (old new : List (List Row)) → Moved old new → moves.Swaps reader old new
+pub moved-swaps : (old new : List (List TextLine)) → Moved old new → moves.Swaps reader old new
 moved-swaps = moves.moved-swaps reader
 
-pub swaps-moved : {old new : List (List Row)} → moves.Swaps reader old new → Moved old new
+pub swaps-moved : {old new : List (List TextLine)} → moves.Swaps reader old new → Moved old new
 swaps-moved = moves.swaps-moved reader
 
 -- THE LYRIC CONDITION: as the words have it; or, a lyric row with music after it has music before it; or, if some row is music, each lyric row has a music row before it;
 -- or a test. All four are one
-pub lyrics-step : (rs : List Row) → LyricsBehind rs → Stepwise reader rs
+pub lyrics-step : (rs : List TextLine) → LyricsBehind rs → Stepwise reader rs
 lyrics-step = literal-stepwise reader music-lyric
 
-pub lyrics-between : (rs : List Row) → LyricsBehind rs → Between reader rs
+pub lyrics-between : (rs : List TextLine) → LyricsBehind rs → Between reader rs
 lyrics-between rs h = stepwise-between reader rs (lyrics-step rs h)
 
-pub step-lyrics : (rs : List Row) → Stepwise reader rs → LyricsBehind rs
+pub step-lyrics : (rs : List TextLine) → Stepwise reader rs → LyricsBehind rs
 step-lyrics rs h = between-literal reader rs (stepwise-between reader rs h)
 
-pub between-lyrics : (rs : List Row) → Between reader rs → LyricsBehind rs
+pub between-lyrics : (rs : List TextLine) → Between reader rs → LyricsBehind rs
 between-lyrics = between-literal reader
 
-pub lyrics-test : (rs : List Row) → LyricsBehind rs → behind? reader rs ≡ true
+pub lyrics-test : (rs : List TextLine) → LyricsBehind rs → behind? reader rs ≡ true
 lyrics-test = literal-test reader
 
-pub test-lyrics : (rs : List Row) → behind? reader rs ≡ true → LyricsBehind rs
+pub test-lyrics : (rs : List TextLine) → behind? reader rs ≡ true → LyricsBehind rs
 test-lyrics = test-literal reader
 
 -- BLOCKS: the moved text has the same rows before its first block, and its blocks are the moved ones
-up-to-again : (rs x : List Row) → any isK rs ≡ true → upToK (upToK rs ++ x) ≡ upToK rs
+up-to-again : (rs x : List TextLine) → any isK rs ≡ true → upToK (upToK rs ++ x) ≡ upToK rs
 up-to-again [] x h = absurd (false≢true h)
-up-to-again (r ∷ rs) x h = by-test (isK r) (λ e. rw e) (λ e. rw e (ap {B = List Row} (λ l. r ∷ l) (up-to-again rs x (rw e at h))))
+up-to-again (r ∷ rs) x h = by-test (isK r) (λ e. rw e) (λ e. rw e (ap {B = List TextLine} (λ l. r ∷ l) (up-to-again rs x (rw e at h))))
 
-after-again : (rs x : List Row) → any isK rs ≡ true → afterK (upToK rs ++ x) ≡ x
+after-again : (rs x : List TextLine) → any isK rs ≡ true → afterK (upToK rs ++ x) ≡ x
 after-again [] x h = absurd (false≢true h)
 after-again (r ∷ rs) x h = by-test (isK r) (λ e. rw e) (λ e. rw e (after-again rs x (rw e at h)))
 
-until-app : (m y : List Row) → All Plain m → untilV (m ++ y) ≡ m ++ untilV y
+until-app : (m y : List TextLine) → All Plain m → untilV (m ++ y) ≡ m ++ untilV y
 until-app [] y p = refl
-until-app (r ∷ m) y p = rw (p .0) (ap {B = List Row} (λ l. r ∷ l) (until-app m y (p .1)))
+until-app (r ∷ m) y p = rw (p .0) (ap {B = List TextLine} (λ l. r ∷ l) (until-app m y (p .1)))
 
-blocks-app : (m y : List Row) → All Plain m → blocksOf (m ++ y) ≡ blocksOf y
+blocks-app : (m y : List TextLine) → All Plain m → blocksOf (m ++ y) ≡ blocksOf y
 blocks-app [] y p = refl
 blocks-app (r ∷ m) y p = rw (p .0) (blocks-app m y (p .1))
 
-until-cat : (cs : List (List Row)) → All Shape cs → untilV (cat cs) ≡ []
-until-cat [] p = refl
-until-cat ([] ∷ cs) p = absurd (p .0)
-until-cat ((r ∷ rs) ∷ cs) p = rw (p .0 .0)
+until-concat : (cs : List (List TextLine)) → All Shape cs → untilV (concat cs) ≡ []
+until-concat [] p = refl
+until-concat ([] ∷ cs) p = absurd (p .0)
+until-concat ((r ∷ rs) ∷ cs) p = rw (p .0 .0)
 
-blocks-cat : (cs : List (List Row)) → All Shape cs → blocksOf (cat cs) ≡ cs
-blocks-cat [] p = refl
-blocks-cat ([] ∷ cs) p = absurd (p .0)
-blocks-cat ((r ∷ rs) ∷ cs) p =
-    ap (λ (b : Bool). cond b ((r ∷ untilV (rs ++ cat cs)) ∷ blocksOf (rs ++ cat cs)) (blocksOf (rs ++ cat cs))) (p .0 .0)
+blocks-concat : (cs : List (List TextLine)) → All Shape cs → blocksOf (concat cs) ≡ cs
+blocks-concat [] p = refl
+blocks-concat ([] ∷ cs) p = absurd (p .0)
+blocks-concat ((r ∷ rs) ∷ cs) p =
+    ap (λ (b : Bool). cond b ((r ∷ untilV (rs ++ concat cs)) ∷ blocksOf (rs ++ concat cs)) (blocksOf (rs ++ concat cs))) (p .0 .0)
     ∙ (λ i.
-    (r ∷ (until-app rs (cat cs) (p .0 .1) ∙ ap (λ (l : List Row). rs ++ l) (until-cat cs (p .1)) ∙ append-nil rs) i)
-    ∷ (blocks-app rs (cat cs) (p .0 .1) ∙ blocks-cat cs (p .1)) i)
+    (r ∷ (until-app rs (concat cs) (p .0 .1) ∙ ap (λ (l : List TextLine). rs ++ l) (until-concat cs (p .1)) ∙ append-nil rs) i)
+    ∷ (blocks-app rs (concat cs) (p .0 .1) ∙ blocks-concat cs (p .1)) i)
 
 -- of any text with a K: row whose rows all end in line feeds, and any blocks in that shape
-module _ (text : List ℕ) (hk : any isK (rows text) ≡ true) (cs : List (List Row)) (sh : All Shape cs) (cl : All Closed (header text ++ (opening text ++ cat cs))) where
-  rows-rebuilt : rows (rebuilt text cs) ≡ header text ++ (opening text ++ cat cs)
-  rows-rebuilt = rows-cat (header text ++ (opening text ++ cat cs)) cl
+module _ (text : List ℕ) (hk : any isK (textLines text) ≡ true) (cs : List (List TextLine)) (sh : All Shape cs) (cl : All Closed (header text ++ (opening text ++ concat cs))) where
+  rows-rebuilt : textLines (rebuilt text cs) ≡ header text ++ (opening text ++ concat cs)
+  rows-rebuilt = lines-concat (header text ++ (opening text ++ concat cs)) cl
 
-  after-rebuilt : afterK (rows (rebuilt text cs)) ≡ opening text ++ cat cs
-  after-rebuilt = ap afterK rows-rebuilt ∙ after-again (rows text) (opening text ++ cat cs) hk
+  after-rebuilt : afterK (textLines (rebuilt text cs)) ≡ opening text ++ concat cs
+  after-rebuilt = ap afterK rows-rebuilt ∙ after-again (textLines text) (opening text ++ concat cs) hk
 
   pub header-rebuilt : header (rebuilt text cs) ≡ header text
-  header-rebuilt = ap upToK rows-rebuilt ∙ up-to-again (rows text) (opening text ++ cat cs) hk
+  header-rebuilt = ap upToK rows-rebuilt ∙ up-to-again (textLines text) (opening text ++ concat cs) hk
 
   pub opening-rebuilt : opening (rebuilt text cs) ≡ opening text
   opening-rebuilt =
       ap untilV after-rebuilt
-      ∙ until-app (opening text) (cat cs) (until-plain (afterK (rows text)))
-      ∙ ap (λ (l : List Row). opening text ++ l) (until-cat cs sh)
+      ∙ until-app (opening text) (concat cs) (until-plain (afterK (textLines text)))
+      ∙ ap (λ (l : List TextLine). opening text ++ l) (until-concat cs sh)
       ∙ append-nil (opening text)
 
   pub blocks-rebuilt : blocks (rebuilt text cs) ≡ cs
-  blocks-rebuilt = ap blocksOf after-rebuilt ∙ blocks-app (opening text) (cat cs) (until-plain (afterK (rows text))) ∙ blocks-cat cs sh
+  blocks-rebuilt = ap blocksOf after-rebuilt ∙ blocks-app (opening text) (concat cs) (until-plain (afterK (textLines text))) ∙ blocks-concat cs sh
 
 -- a text without a K: row has no block
-no-K : (rs : List Row) → any isK rs ≡ false → afterK rs ≡ []
+no-K : (rs : List TextLine) → any isK rs ≡ false → afterK rs ≡ []
 no-K [] h = refl
 no-K (r ∷ rs) h = by-test (isK r) (λ e. absurd (both-true (isK r) e (first e))) (λ e. rw e (no-K rs (rw e at h)))
   where
@@ -176,39 +176,39 @@ no-K (r ∷ rs) h = by-test (isK r) (λ e. absurd (both-true (isK r) e (first e)
     first e = absurd (both-true (any isK (r ∷ rs)) (rw e) h)
 
 -- the rows of the moved text all end in line feeds
-pub moved-closed : (text : List ℕ) → endsLF text ≡ true → (bs : List (List Row)) → Moved (blocks text) bs → All Closed (header text ++ (opening text ++ cat bs))
+pub moved-closed : (text : List ℕ) → endsLF text ≡ true → (bs : List (List TextLine)) → Moved (blocks text) bs → All Closed (header text ++ (opening text ++ concat bs))
 moved-closed text lf bs mv =
-    All-append Closed (header text) (opening text ++ cat bs) (All-left Closed (header text) (opening text ++ cat (blocks text)) whole)
-    (All-append Closed (opening text) (cat bs) (All-left Closed (opening text) (cat (blocks text)) tail)
-    (All-cat Closed bs
-    (All-perm (All Closed) (moved-is-perm (blocks text) bs mv) (All-uncat Closed (blocks text) (All-right Closed (opening text) (cat (blocks text)) tail)))))
+    All-append Closed (header text) (opening text ++ concat bs) (All-left Closed (header text) (opening text ++ concat (blocks text)) whole)
+    (All-append Closed (opening text) (concat bs) (All-left Closed (opening text) (concat (blocks text)) tail)
+    (All-concat Closed bs
+    (All-perm (All Closed) (moved-is-perm (blocks text) bs mv) (All-uncat Closed (blocks text) (All-right Closed (opening text) (concat (blocks text)) tail)))))
   where
-    whole : All Closed (header text ++ (opening text ++ cat (blocks text)))
+    whole : All Closed (header text ++ (opening text ++ concat (blocks text)))
     whole = subst (All Closed) (sym (rows-all text)) (rows-closed text lf)
 
-    tail : All Closed (opening text ++ cat (blocks text))
-    tail = All-right Closed (header text) (opening text ++ cat (blocks text)) whole
+    tail : All Closed (opening text ++ concat (blocks text))
+    tail = All-right Closed (header text) (opening text ++ concat (blocks text)) whole
 
 -- so it is of every text that ends in a line feed and every order of its blocks: the moved blocks are the moved text's own, and what stands before them is as it was
-pub moved-own : (text : List ℕ) → endsLF text ≡ true → (bs : List (List Row)) → Moved (blocks text) bs
+pub moved-own : (text : List ℕ) → endsLF text ≡ true → (bs : List (List TextLine)) → Moved (blocks text) bs
     → (header (rebuilt text bs) ≡ header text) × (opening (rebuilt text bs) ≡ opening text) × (blocks (rebuilt text bs) ≡ bs)
-moved-own text lf bs mv = by-test (any isK (rows text)) with-K without-K
+moved-own text lf bs mv = by-test (any isK (textLines text)) with-K without-K
   where
     pm : Perm (blocks text) bs
     pm = moved-is-perm (blocks text) bs mv
 
-    shut : All Closed (header text ++ (opening text ++ cat bs))
+    shut : All Closed (header text ++ (opening text ++ concat bs))
     shut = moved-closed text lf bs mv
 
     shape : All Shape bs
-    shape = All-perm Shape pm (blocks-shape (afterK (rows text)))
+    shape = All-perm Shape pm (blocks-shape (afterK (textLines text)))
 
-    with-K : any isK (rows text) ≡ true → (header (rebuilt text bs) ≡ header text) × (opening (rebuilt text bs) ≡ opening text) × (blocks (rebuilt text bs) ≡ bs)
+    with-K : any isK (textLines text) ≡ true → (header (rebuilt text bs) ≡ header text) × (opening (rebuilt text bs) ≡ opening text) × (blocks (rebuilt text bs) ≡ bs)
     with-K k = (header-rebuilt text k bs shape shut, opening-rebuilt text k bs shape shut, blocks-rebuilt text k bs shape shut)
 
-    without-K : any isK (rows text) ≡ false → (header (rebuilt text bs) ≡ header text) × (opening (rebuilt text bs) ≡ opening text) × (blocks (rebuilt text bs) ≡ bs)
+    without-K : any isK (textLines text) ≡ false → (header (rebuilt text bs) ≡ header text) × (opening (rebuilt text bs) ≡ opening text) × (blocks (rebuilt text bs) ≡ bs)
     without-K k =
-        let z : blocks text ≡ [] = ap blocksOf (no-K (rows text) k) in
-        let y : bs ≡ [] = perm-nil (subst (λ (l : List (List Row)). Perm l bs) z pm) in
+        let z : blocks text ≡ [] = ap blocksOf (no-K (textLines text) k) in
+        let y : bs ≡ [] = perm-nil (subst (λ (l : List (List TextLine)). Perm l bs) z pm) in
         let t : rebuilt text bs ≡ text = ap (rebuilt text) (y ∙ sym z) ∙ rebuilt-self text in
         (ap header t, ap opening t, ap blocks t ∙ z ∙ sym y)

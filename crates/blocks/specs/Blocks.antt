@@ -4,13 +4,13 @@ use Prim.Native.Nat.{ℕ}
 use mathlib.Core.Bool.{Bool, false, cond}
 use mathlib.Core.List.{List, [], _∷_, _++_}
 use lib.Dec.{eqb}
-use Rattle.laws.specs.Lists.{isNil, cat}
-use Rattle.reader.specs.Text.{rows}
+use Rattle.laws.specs.Lists.{isNil, concat}
+use Rattle.reader.specs.Text.{textLines}
 use Rattle.reader.specs.Lines.{isV, isK}
-use Rattle.reader.specs.Steps.{Row}
+use Rattle.reader.specs.Steps.{TextLine}
 
 -- a row that ends in a line feed: it has one, at its end
-abbrev pub closed : Row → Bool
+abbrev pub closed : TextLine → Bool
 closed [] = false
 closed (c ∷ cs) = cond (eqb c 10) (isNil cs) (closed cs)
 
@@ -20,33 +20,33 @@ endsLF [] = false
 endsLF (c ∷ cs) = cond (isNil cs) (eqb c 10) (endsLF cs)
 
 -- the rows up to "the first K: line", with it; and the rows after it
-abbrev pub upToK : List Row → List Row
+abbrev pub upToK : List TextLine → List TextLine
 upToK [] = []
 upToK (r ∷ rs) = r ∷ cond (isK r) [] (upToK rs)
 
-abbrev pub afterK : List Row → List Row
+abbrev pub afterK : List TextLine → List TextLine
 afterK [] = []
 afterK (r ∷ rs) = cond (isK r) rs (afterK rs)
 
 -- the rows before the first V: row; and the blocks, each "from a V: line .. to just before the next V: line or the text's end"
-abbrev pub untilV : List Row → List Row
+abbrev pub untilV : List TextLine → List TextLine
 untilV [] = []
 untilV (r ∷ rs) = cond (isV r) [] (r ∷ untilV rs)
 
-abbrev pub blocksOf : List Row → List (List Row)
+abbrev pub blocksOf : List TextLine → List (List TextLine)
 blocksOf [] = []
 blocksOf (r ∷ rs) = cond (isV r) ((r ∷ untilV rs) ∷ blocksOf rs) (blocksOf rs)
 
 -- OF A TEXT: its rows up to the first K: row; those "between the first K: line and the first block"; and its blocks
-abbrev pub header : List ℕ → List Row
-header text = upToK (rows text)
+abbrev pub header : List ℕ → List TextLine
+header text = upToK (textLines text)
 
-abbrev pub opening : List ℕ → List Row
-opening text = untilV (afterK (rows text))
+abbrev pub opening : List ℕ → List TextLine
+opening text = untilV (afterK (textLines text))
 
-abbrev pub blocks : List ℕ → List (List Row)
-blocks text = blocksOf (afterK (rows text))
+abbrev pub blocks : List ℕ → List (List TextLine)
+blocks text = blocksOf (afterK (textLines text))
 
 -- the text with bs in the place of its blocks: "what stands before the first block stays"
-abbrev pub rebuilt : List ℕ → List (List Row) → List ℕ
-rebuilt text bs = cat (header text ++ (opening text ++ cat bs))
+abbrev pub rebuilt : List ℕ → List (List TextLine) → List ℕ
+rebuilt text bs = concat (header text ++ (opening text ++ concat bs))

@@ -8,17 +8,17 @@ use mathlib.Core.Option.{Option, none}
 use mathlib.Core.List.{List, [], _∷_, _++_}
 use lib.Dec.{eqb}
 use lib.ListN.{drop, getElem?}
-use Rattle.laws.specs.Lists.{All, keep, cat, eqText, has, indexOf}
+use Rattle.laws.specs.Lists.{All, filter, concat, eqText, elem, indexOf}
 use Rattle.standard.specs.Fields.{Meter}
-use Rattle.reader.specs.Text.{rows, clean}
+use Rattle.reader.specs.Text.{textLines, clean}
 use Rattle.reader.specs.Fields as fields
 use Rattle.reader.specs.Lines.{isV, isLyric, kindOf}
-use Rattle.reader.specs.Steps.{Row, refuse, on}
+use Rattle.reader.specs.Steps.{TextLine, refuse, on}
 use Rattle.reader.specs.Scan.{ScanState, begin, scan, Out}
 use Rattle.reader.specs.Part.{Part}
 use Rattle.reader.specs.Answer.{Verdict, refusal, reading, Outcome, parseAbc}
 use Rattle.blocks.specs.Blocks.{endsLF, header, opening, blocks, rebuilt}
-use Rattle.blocks.specs.Kinds.{isPlayed, unitAfter, meterAfter}
+use Rattle.blocks.specs.Kinds.{isMusicLine, unitAfter, meterAfter}
 
 -- "Accepted means answered with a reading"
 abbrev pub IsReading : Verdict → Type 0
@@ -29,63 +29,63 @@ abbrev pub Accepted : Outcome → Type 0
 Accepted w = IsReading (w .verdict)
 
 -- "A voice is known by the identifier that 000 reads from a V: line, which names it"
-abbrev pub identifier : Row → List ℕ
+abbrev pub identifier : TextLine → List ℕ
 identifier r = fields.identifier (drop 2 (clean r))
 
 -- "A block and its lines belong to the voice its V: line names": its first row's
-abbrev pub voiceOf : List Row → List ℕ
+abbrev pub voiceOf : List TextLine → List ℕ
 voiceOf [] = []
 voiceOf (r ∷ rs) = identifier r
 
 -- "whatever order the blocks are moved into, each voice's own kept in order": for every identifier, the blocks that name it are the same list. It follows
 -- that the new blocks are the old ones in another order (`moved-is-perm`), and this is just what exchanges of neighbours of different voices lead to
 -- (`moved-swaps`, `swaps-moved`)
-abbrev pub Moved : List (List Row) → List (List Row) → Type 0
-Moved old new = (v : List ℕ) → keep (λ b. eqText (voiceOf b) v) new ≡ keep (λ b. eqText (voiceOf b) v) old
+abbrev pub Moved : List (List TextLine) → List (List TextLine) → Type 0
+Moved old new = (v : List ℕ) → filter (λ b. eqText (voiceOf b) v) new ≡ filter (λ b. eqText (voiceOf b) v) old
 
 -- one of the rows is a V: line that names v
-abbrev pub named : List ℕ → List Row → Bool
+abbrev pub named : List ℕ → List TextLine → Bool
 named v [] = false
 named v (r ∷ rs) = (isV r && eqText (identifier r) v) || named v rs
 
 -- "A field, on its own line or inline, sets L (or M ..) unless 000 leaves that one as it found it, whatever it was": the row sets neither. So a field
 -- that writes the present value sets it, and `L:1` or `[L:1/x]` does not (proofs/Sets); the same as: no field of the row sets one (`quiet-field`, `field-quiet`)
-abbrev pub Quiet : Row → Type 0
-Quiet r = ((u : ℕ) → unitAfter (kindOf r) u ≡ u) × ((m : Meter) → meterAfter (kindOf r) m ≡ m)
+abbrev pub SetsNeither : TextLine → Type 0
+SetsNeither r = ((u : ℕ) → unitAfter (kindOf r) u ≡ u) × ((m : Meter) → meterAfter (kindOf r) m ≡ m)
 
 -- the state where the first block begins
 abbrev pub stateOf : Out → ScanState
 stateOf (refuse n l) = begin
 stateOf (on s a) = s
 
-abbrev pub there : List ℕ → ScanState
-there text = stateOf (scan (header text ++ opening text))
+abbrev pub stateAtBlocks : List ℕ → ScanState
+stateAtBlocks text = stateOf (scan (header text ++ opening text))
 
 -- the blocks of part p
-abbrev pub blocksAt : List ℕ → ℕ → List (List Row)
-blocksAt text p = keep (λ b. eqb (indexOf (voiceOf b) (there text .env .voices)) p) (blocks text)
+abbrev pub blocksAt : List ℕ → ℕ → List (List TextLine)
+blocksAt text p = filter (λ b. eqb (indexOf (voiceOf b) (stateAtBlocks text .env .voices)) p) (blocks text)
 
 -- the identifiers of a text's voices, in the order of their parts
 abbrev pub voices : List ℕ → List (List ℕ)
-voices text = stateOf (scan (rows text)) .env .voices
+voices text = stateOf (scan (textLines text)) .env .voices
 
 -- the rows of part p after the first K: row: "lines between the first K: line and the first block [belong] to the voice then current", and its blocks'
-abbrev pub rowsAt : List ℕ → ℕ → List Row
-rowsAt text p = cond (eqb (there text .part) p) (opening text) [] ++ cat (blocksAt text p)
+abbrev pub linesAt : List ℕ → ℕ → List TextLine
+linesAt text p = cond (eqb (stateAtBlocks text .part) p) (opening text) [] ++ concat (blocksAt text p)
 
 -- "a music line is one that 000 gives to `parse_body_line`", after the first K: line
-abbrev pub music : Row → Bool
-music r = isPlayed (kindOf r)
+abbrev pub music : TextLine → Bool
+music r = isMusicLine (kindOf r)
 
 -- "no lyric line .. comes before its voice's first music line": if r is music and no row before it is, no row before it is a lyric line. Literally:
 -- of a voice without a music line nothing is asked, whatever lyric lines it has
-abbrev pub LyricsBehind : List Row → Type 0
+abbrev pub LyricsBehind : List TextLine → Type 0
 LyricsBehind rs =
-    (xs ys : List Row) (r : Row) → rs ≡ xs ++ (r ∷ ys) → music r ≡ true → All (λ x. music x ≡ false) xs → All (λ x. isLyric x ≡ false) xs
+    (xs ys : List TextLine) (r : TextLine) → rs ≡ xs ++ (r ∷ ys) → music r ≡ true → All (λ x. music x ≡ false) xs → All (λ x. isLyric x ≡ false) xs
 
 -- "with all other voices' blocks removed": all but part p's
-abbrev pub alone : List ℕ → ℕ → List ℕ
-alone text p = rebuilt text (blocksAt text p)
+abbrev pub onlyPart : List ℕ → ℕ → List ℕ
+onlyPart text p = rebuilt text (blocksAt text p)
 
 -- "A voice's part is its five counts and sections, whatever number the part bears": `sections` of Records is a function of it
 abbrev pub partIn : Verdict → ℕ → Option Part
@@ -94,10 +94,10 @@ partIn (reading ps) p = getElem? ps p
 
 -- WHAT IS SUPPOSED of a text, a reading store of rl bytes and a scratch store of sl. Not supposed, though the words have it: that no block sets "other than by
 -- its V: line, the voice, inline included". In an accepted text no other line does (`only-V` in proofs/Scan), so it need not be asked; the theorem is stronger by that.
--- T-13 (blocks that begin with their own L and M) lands here: `quiet` becomes All (All Quiet) (blocks text) ⊎ All Brings (blocks text), with Brings of specs/Frame
+-- T-13 (blocks that begin with their own L and M) lands here: `sets-neither` becomes All (All Quiet) (blocks text) ⊎ All Brings (blocks text), with Brings of specs/Frame
 -- spelled out at `kindOf` as Quiet is. The frame's claim covers it already (`steady-brings` in proofs/Frame): proofs/Demand loses an `inl`, proofs/Tests gains one.
 -- Every block must bring both: blocks that neither set nor bring hear what the block before them set
-pub record Meant (text : List ℕ) (rl sl : ℕ) : Type 0 where
+pub record Hypotheses (text : List ℕ) (rl sl : ℕ) : Type 0 where
   -- "the text is accepted"
   pub accepted : Accepted (parseAbc text rl sl)
   -- "and ends in a line feed"
@@ -105,34 +105,34 @@ pub record Meant (text : List ℕ) (rl sl : ℕ) : Type 0 where
   -- "every voice with a block is named before that K: line"
   pub known : All (λ b. named (voiceOf b) (header text) ≡ true) (blocks text)
   -- "no block sets L or M .., inline included"
-  pub quiet : All (All Quiet) (blocks text)
+  pub sets-neither : All (All SetsNeither) (blocks text)
   -- "no lyric line after that K: line comes before its voice's first music line there"
-  pub sung : (p : ℕ) → LyricsBehind (rowsAt text p)
+  pub sung : (p : ℕ) → LyricsBehind (linesAt text p)
 
 -- WHAT FOLLOWS. An `Outcome` holds the verdict and both stores after the call, and only the stores' lengths go in: "whatever bytes they held"
-pub record Same (text : List ℕ) (rl sl : ℕ) : Type 0 where
+pub record Conclusion (text : List ℕ) (rl sl : ℕ) : Type 0 where
   -- "the text, given stores of the same lengths, is accepted again [`again` in proofs/Demand] with the same answer and leaves the same bytes in both"
-  pub moved : (bs : List (List Row)) → Moved (blocks text) bs → parseAbc (rebuilt text bs) rl sl ≡ parseAbc text rl sl
+  pub moved : (bs : List (List TextLine)) → Moved (blocks text) bs → parseAbc (rebuilt text bs) rl sl ≡ parseAbc text rl sl
   -- "every voice's part equals, in all five sections, the one read with all other voices' blocks removed, if that text is accepted", which "may have stores of
   -- any length". Stronger than the words: the parts themselves are equal, and p is any number (a voice without a block, the unnamed one)
-  pub apart : (p rl′ sl′ : ℕ) → Accepted (parseAbc (alone text p) rl′ sl′)
-      → partIn (parseAbc text rl sl .verdict) p ≡ partIn (parseAbc (alone text p) rl′ sl′ .verdict) p
+  pub apart : (p rl′ sl′ : ℕ) → Accepted (parseAbc (onlyPart text p) rl′ sl′)
+      → partIn (parseAbc text rl sl .verdict) p ≡ partIn (parseAbc (onlyPart text p) rl′ sl′ .verdict) p
   -- so that p is the same voice in both: every voice has the number it had, and the blocks of a voice's part are those that name it
-  pub numbers : (p : ℕ) → voices (alone text p) ≡ voices text
-  pub names : (v : List ℕ) → has v (voices text) ≡ true → blocksAt text (indexOf v (voices text)) ≡ keep (λ b. eqText (voiceOf b) v) (blocks text)
+  pub numbers : (p : ℕ) → voices (onlyPart text p) ≡ voices text
+  pub names : (v : List ℕ) → elem v (voices text) ≡ true → blocksAt text (indexOf v (voices text)) ≡ filter (λ b. eqText (voiceOf b) v) (blocks text)
 
 -- THE DEMAND: "a single claim, about every such text and every such order of its blocks"
 abbrev pub Demand-3 : Type 0
-Demand-3 = (text : List ℕ) (rl sl : ℕ) → Meant text rl sl → Same text rl sl
+Demand-3 = (text : List ℕ) (rl sl : ℕ) → Hypotheses text rl sl → Conclusion text rl sl
 
 -- ITS SECOND HALF BY NAME: the text with the blocks of all voices but v removed, and the part of the voice v
-abbrev pub only : List ℕ → List ℕ → List ℕ
-only text v = rebuilt text (keep (λ b. eqText (voiceOf b) v) (blocks text))
+abbrev pub onlyVoice : List ℕ → List ℕ → List ℕ
+onlyVoice text v = rebuilt text (filter (λ b. eqText (voiceOf b) v) (blocks text))
 
 abbrev pub partOf : List ℕ → ℕ → ℕ → List ℕ → Option Part
 partOf text rl sl v = partIn (parseAbc text rl sl .verdict) (indexOf v (voices text))
 
 abbrev pub By-name : Type 0
 By-name =
-    (text : List ℕ) (rl sl : ℕ) → Meant text rl sl → (v : List ℕ) → has v (voices text) ≡ true → (rl′ sl′ : ℕ)
-    → Accepted (parseAbc (only text v) rl′ sl′) → partOf text rl sl v ≡ partOf (only text v) rl′ sl′ v
+    (text : List ℕ) (rl sl : ℕ) → Hypotheses text rl sl → (v : List ℕ) → elem v (voices text) ≡ true → (rl′ sl′ : ℕ)
+    → Accepted (parseAbc (onlyVoice text v) rl′ sl′) → partOf text rl sl v ≡ partOf (onlyVoice text v) rl′ sl′ v

@@ -10,10 +10,10 @@ use mathlib.Core.Option.{Option, none, some}
 use mathlib.Core.List.{List, [], _∷_, _++_}
 use lib.Dec.{eqb}
 use lib.ListN.{length}
-use Rattle.laws.specs.Lists.{All, keep, cat, eqText, has, indexOf}
-use Rattle.reader.specs.Text.{rows}
+use Rattle.laws.specs.Lists.{All, filter, concat, eqText, elem, indexOf}
+use Rattle.reader.specs.Text.{textLines}
 use Rattle.reader.specs.Lines.{isV, isK, isL, isM, isLyric}
-use Rattle.reader.specs.Steps.{Row, Step, refuse, on, run, mine, tag}
+use Rattle.reader.specs.Steps.{TextLine, Step, refuse, on, run, itemsOf, tag}
 use Rattle.blocks.specs.Blocks.{closed, endsLF, header, opening, blocks, rebuilt}
 
 pub record Reader : Type 1 where
@@ -25,7 +25,7 @@ pub record Reader : Type 1 where
   pub Part : Type 0
   -- the scan
   pub start : State
-  pub step : State → Row → Step State Item
+  pub step : State → TextLine → Step State Item
   -- what is read off a state: all that later rows and the end may use and that no row of a block changes; the part being read; the
   -- notes so far; the lines so far; whether part p has a place for its verses
   pub env : State → Env
@@ -41,15 +41,15 @@ pub record Reader : Type 1 where
   pub ids : Env → List (List ℕ)
   -- what is read off a row: a V: row's identifier; whether it is given to `parse_body_line` (after the first K: row); the notes in it;
   -- that nothing in it alone is refused; what it makes of L and of M; and its items, where its part has a place for verses or has none
-  pub ident : Row → List ℕ
-  pub isMusic : Row → Bool
-  pub cost : Row → ℕ
-  pub Fine : Row → Type 0
-  pub afterL : Row → ℕ → ℕ
-  pub afterM : Row → Meter → Meter
-  pub emit : Env → ℕ → Meter → Bool → Row → List Item
+  pub ident : TextLine → List ℕ
+  pub isMusic : TextLine → Bool
+  pub noteCount : TextLine → ℕ
+  pub Fine : TextLine → Type 0
+  pub afterL : TextLine → ℕ → ℕ
+  pub afterM : TextLine → Meter → Meter
+  pub emit : Env → ℕ → Meter → Bool → TextLine → List Item
   -- an item that a music row gives
-  pub loud : Item → Bool
+  pub isMusicItem : Item → Bool
   -- the most notes and lines
   pub maxNotes : ℕ
   pub maxLines : ℕ
@@ -69,12 +69,12 @@ pub record Reader : Type 1 where
 module _ (R : Reader) where
   abbrev pub result : ℕ → ℕ → Step (R .State) (R .Item) → R .Ans
   result rl sl (refuse n l) = R .late n l rl sl
-  result rl sl (on s a) = R .finish (R .env s) (λ p. mine p a) rl sl
+  result rl sl (on s a) = R .finish (R .env s) (λ p. itemsOf p a) rl sl
 
   -- the answer for a text, a reading store of rl bytes and a scratch store of sl
   abbrev pub answered : List ℕ → ℕ → ℕ → Option (R .Ans) → R .Ans
   answered text rl sl (some a) = a
-  answered text rl sl none = result rl sl (run (R .step) (R .start) (rows text))
+  answered text rl sl none = result rl sl (run (R .step) (R .start) (textLines text))
 
   abbrev pub answer : List ℕ → ℕ → ℕ → R .Ans
   answer text rl sl = answered text rl sl (R .early text rl sl)
@@ -82,26 +82,26 @@ module _ (R : Reader) where
   -- THE WORDS OF DEMAND 3
 
   -- the identifier that names a block's voice: its first row's
-  abbrev pub identOf : List Row → List ℕ
+  abbrev pub identOf : List TextLine → List ℕ
   identOf [] = []
   identOf (r ∷ rs) = R .ident r
 
   -- `bs` is the blocks in another order, each voice's own kept in order
-  abbrev pub Moved : List (List Row) → List (List Row) → Type 0
-  Moved old new = (v : List ℕ) → keep (λ b. eqText (identOf b) v) new ≡ keep (λ b. eqText (identOf b) v) old
+  abbrev pub Moved : List (List TextLine) → List (List TextLine) → Type 0
+  Moved old new = (v : List ℕ) → filter (λ b. eqText (identOf b) v) new ≡ filter (λ b. eqText (identOf b) v) old
 
   -- `v` is named by a V: row among the rows
-  abbrev pub named : List ℕ → List Row → Bool
+  abbrev pub named : List ℕ → List TextLine → Bool
   named v [] = false
   named v (r ∷ rs) = (isV r && eqText (R .ident r) v) || named v rs
 
   -- a row leaves L and M as it finds them, whatever they are
-  abbrev pub Quiet : Row → Type 0
-  Quiet r = ((u : ℕ) → R .afterL r u ≡ u) × ((m : R .Meter) → R .afterM r m ≡ m)
+  abbrev pub SetsNeither : TextLine → Type 0
+  SetsNeither r = ((u : ℕ) → R .afterL r u ≡ u) × ((m : R .Meter) → R .afterM r m ≡ m)
 
   -- a block that brings its own L and M: its V: row, then an L: row and an M: row, and from both a value is taken whatever was in force before.
   -- Demand 3 does not use it; T-13 does (specs/Demand says where)
-  abbrev pub Brings : List Row → Type 0
+  abbrev pub Brings : List TextLine → Type 0
   Brings [] = ⊥
   Brings (v ∷ []) = ⊥
   Brings (v ∷ (l ∷ [])) = ⊥
@@ -118,63 +118,63 @@ module _ (R : Reader) where
 
   -- the identifiers of a text's voices, in the order of their parts
   abbrev pub voices : List ℕ → List (List ℕ)
-  voices text = R .ids (R .env (stateOf (run (R .step) (R .start) (rows text))))
+  voices text = R .ids (R .env (stateOf (run (R .step) (R .start) (textLines text))))
 
   -- the number of the part whose block this is, and the blocks of part p
-  abbrev pub isPart : List (List ℕ) → ℕ → List Row → Bool
+  abbrev pub isPart : List (List ℕ) → ℕ → List TextLine → Bool
   isPart is p b = eqb (indexOf (identOf b) is) p
 
-  abbrev pub blocksAt : List ℕ → ℕ → List (List Row)
-  blocksAt text p = keep (isPart (R .ids (R .env (before text))) p) (blocks text)
+  abbrev pub blocksAt : List ℕ → ℕ → List (List TextLine)
+  blocksAt text p = filter (isPart (R .ids (R .env (before text))) p) (blocks text)
 
   -- the rows of part p after the first K: row
-  abbrev pub rowsAt : List ℕ → ℕ → List Row
-  rowsAt text p = cond (eqb (R .cur (before text)) p) (opening text) [] ++ cat (blocksAt text p)
+  abbrev pub linesAt : List ℕ → ℕ → List TextLine
+  linesAt text p = cond (eqb (R .cur (before text)) p) (opening text) [] ++ concat (blocksAt text p)
 
   -- some row is music
-  abbrev pub Music : List Row → Type 0
+  abbrev pub Music : List TextLine → Type 0
   Music [] = ⊥
   Music (r ∷ rs) = (R .isMusic r ≡ true) ⊎ Music rs
 
   -- each lyric row has a music row before it, unless P
-  abbrev pub Sung : Type 0 → List Row → Type 0
-  Sung P [] = Unit {0}
-  Sung P (r ∷ rs) = (isLyric r ≡ true → P) × Sung (P ⊎ (R .isMusic r ≡ true)) rs
+  abbrev pub LyricsAfterMusic : Type 0 → List TextLine → Type 0
+  LyricsAfterMusic P [] = Unit {0}
+  LyricsAfterMusic P (r ∷ rs) = (isLyric r ≡ true → P) × LyricsAfterMusic (P ⊎ (R .isMusic r ≡ true)) rs
 
   -- the text with the blocks of all voices but part p's removed
-  abbrev pub alone : List ℕ → ℕ → List ℕ
-  alone text p = rebuilt text (blocksAt text p)
+  abbrev pub onlyPart : List ℕ → ℕ → List ℕ
+  onlyPart text p = rebuilt text (blocksAt text p)
 
-  pub record Meant (text : List ℕ) (rl sl : ℕ) : Type 0 where
+  pub record Hypotheses (text : List ℕ) (rl sl : ℕ) : Type 0 where
     pub accepted : R .Accepted (answer text rl sl)
     pub ended : endsLF text ≡ true
     pub known : All (λ b. named (identOf b) (header text) ≡ true) (blocks text)
-    pub quiet : All (All Quiet) (blocks text) ⊎ All Brings (blocks text)
+    pub sets-neither : All (All SetsNeither) (blocks text) ⊎ All Brings (blocks text)
     -- in a part with music each lyric row has a music row before it
-    pub sung : (p : ℕ) → Music (rowsAt text p) → Sung ⊥ (rowsAt text p)
+    pub sung : (p : ℕ) → Music (linesAt text p) → LyricsAfterMusic ⊥ (linesAt text p)
 
-  pub record Same (text : List ℕ) (rl sl : ℕ) : Type 0 where
-    pub moved : (bs : List (List Row)) → Moved (blocks text) bs → answer (rebuilt text bs) rl sl ≡ answer text rl sl
-    pub apart : (p rl′ sl′ : ℕ) → R .Accepted (answer (alone text p) rl′ sl′) → R .partOf (answer text rl sl) p ≡ R .partOf (answer (alone text p) rl′ sl′) p
-    pub numbers : (p : ℕ) → voices (alone text p) ≡ voices text
-    pub names : (v : List ℕ) → has v (voices text) ≡ true → blocksAt text (indexOf v (voices text)) ≡ keep (λ b. eqText (identOf b) v) (blocks text)
+  pub record Conclusion (text : List ℕ) (rl sl : ℕ) : Type 0 where
+    pub moved : (bs : List (List TextLine)) → Moved (blocks text) bs → answer (rebuilt text bs) rl sl ≡ answer text rl sl
+    pub apart : (p rl′ sl′ : ℕ) → R .Accepted (answer (onlyPart text p) rl′ sl′) → R .partOf (answer text rl sl) p ≡ R .partOf (answer (onlyPart text p) rl′ sl′) p
+    pub numbers : (p : ℕ) → voices (onlyPart text p) ≡ voices text
+    pub names : (v : List ℕ) → elem v (voices text) ≡ true → blocksAt text (indexOf v (voices text)) ≡ filter (λ b. eqText (identOf b) v) (blocks text)
     -- each block's voice is known where the first block begins
-    pub owned : All (λ b. has (identOf b) (R .ids (R .env (before text))) ≡ true) (blocks text)
+    pub owned : All (λ b. elem (identOf b) (R .ids (R .env (before text))) ≡ true) (blocks text)
 
   abbrev pub Claim : Type 0
-  Claim = (text : List ℕ) (rl sl : ℕ) → Meant text rl sl → Same text rl sl
+  Claim = (text : List ℕ) (rl sl : ℕ) → Hypotheses text rl sl → Conclusion text rl sl
 
   -- WHAT THE DEFINITIONS HAVE TO SATISFY
 
   -- the row goes through, in any state s with nothing of `env` changed, as a row of part p
-  abbrev pub Goes : R .State → Row → ℕ → Type 0
+  abbrev pub Goes : R .State → TextLine → ℕ → Type 0
   Goes s r p =
       (t : R .State) × (R .step s r ≡ on t (tag p (R .emit (R .env s) (R .unitIn s) (R .meterIn s) (R .slot s p) r))) × (R .env t ≡ R .env s) × (R .cur t ≡ p) ×
       (R .unitIn t ≡ R .afterL r (R .unitIn s)) × (R .meterIn t ≡ R .afterM r (R .meterIn s))
 
   -- no item of a music row
-  abbrev pub Hush : List (R .Item) → Type 0
-  Hush is = All (λ i. R .loud i ≡ false) is
+  abbrev pub NoMusic : List (R .Item) → Type 0
+  NoMusic is = All (λ i. R .isMusicItem i ≡ false) is
 
   abbrev pub Low : R .State → Type 0
   Low s = (R .notes s ≤ R .maxNotes) × (R .lines s ≤ R .maxLines)
@@ -182,38 +182,38 @@ module _ (R : Reader) where
   pub record Laws : Type 0 where
     -- counting: a row that goes through adds its line and its notes, and stays within the caps
     pub low-start : Low (R .start)
-    pub low : (s t : R .State) (r : Row) (a : List (ℕ × R .Item)) → Low s → R .step s r ≡ on t a → Low t
-    pub line : (s t : R .State) (r : Row) (a : List (ℕ × R .Item)) → R .step s r ≡ on t a → R .lines t ≡ suc (R .lines s)
-    pub note : (s t : R .State) (r : Row) (a : List (ℕ × R .Item)) → R .Body (R .env s) → R .step s r ≡ on t a → R .notes t ≡ R .notes s + R .cost r
+    pub low : (s t : R .State) (r : TextLine) (a : List (ℕ × R .Item)) → Low s → R .step s r ≡ on t a → Low t
+    pub line : (s t : R .State) (r : TextLine) (a : List (ℕ × R .Item)) → R .step s r ≡ on t a → R .lines t ≡ suc (R .lines s)
+    pub note : (s t : R .State) (r : TextLine) (a : List (ℕ × R .Item)) → R .Body (R .env s) → R .step s r ≡ on t a → R .notes t ≡ R .notes s + R .noteCount r
     -- the header ends with a K: row and does not come back
-    pub body-K : (s t : R .State) (r : Row) (a : List (ℕ × R .Item)) → R .step s r ≡ on t a → isK r ≡ true → R .Body (R .env t)
-    pub body : (s t : R .State) (r : Row) (a : List (ℕ × R .Item)) → R .step s r ≡ on t a → R .Body (R .env s) → R .Body (R .env t)
+    pub body-K : (s t : R .State) (r : TextLine) (a : List (ℕ × R .Item)) → R .step s r ≡ on t a → isK r ≡ true → R .Body (R .env t)
+    pub body : (s t : R .State) (r : TextLine) (a : List (ℕ × R .Item)) → R .step s r ≡ on t a → R .Body (R .env s) → R .Body (R .env t)
     -- a V: row names its voice, and a name is never lost
-    pub names : (s t : R .State) (r : Row) (a : List (ℕ × R .Item)) → R .step s r ≡ on t a → isV r ≡ true → has (R .ident r) (R .ids (R .env t)) ≡ true
-    pub keeps : (s t : R .State) (r : Row) (a : List (ℕ × R .Item)) → R .step s r ≡ on t a → (v : List ℕ) → has v (R .ids (R .env s)) ≡ true → has v (R .ids (R .env t)) ≡ true
+    pub names : (s t : R .State) (r : TextLine) (a : List (ℕ × R .Item)) → R .step s r ≡ on t a → isV r ≡ true → elem (R .ident r) (R .ids (R .env t)) ≡ true
+    pub keeps : (s t : R .State) (r : TextLine) (a : List (ℕ × R .Item)) → R .step s r ≡ on t a → (v : List ℕ) → elem v (R .ids (R .env s)) ≡ true → elem v (R .ids (R .env t)) ≡ true
     -- after the header only a V: row changes the part that is read
-    pub stays : (s t : R .State) (r : Row) (a : List (ℕ × R .Item)) → R .Body (R .env s) → isV r ≡ false → R .step s r ≡ on t a → R .cur t ≡ R .cur s
+    pub stays : (s t : R .State) (r : TextLine) (a : List (ℕ × R .Item)) → R .Body (R .env s) → isV r ≡ false → R .step s r ≡ on t a → R .cur t ≡ R .cur s
     -- a music row makes its part's place for verses, and a place is never lost
-    pub slots : (s t : R .State) (r : Row) (a : List (ℕ × R .Item)) → R .step s r ≡ on t a → (p : ℕ) → R .slot s p ≡ true → R .slot t p ≡ true
-    pub slot-music : (s t : R .State) (r : Row) (a : List (ℕ × R .Item)) → R .Body (R .env s) → R .isMusic r ≡ true → R .step s r ≡ on t a → R .slot t (R .cur s) ≡ true
-    pub music-V : (r : Row) → R .isMusic r ≡ true → isV r ≡ false
-    pub music-L : (r : Row) → isL r ≡ true → R .isMusic r ≡ false
-    pub music-M : (r : Row) → isM r ≡ true → R .isMusic r ≡ false
-    pub music-w : (r : Row) → R .isMusic r ≡ true → isLyric r ≡ false
+    pub slots : (s t : R .State) (r : TextLine) (a : List (ℕ × R .Item)) → R .step s r ≡ on t a → (p : ℕ) → R .slot s p ≡ true → R .slot t p ≡ true
+    pub slot-music : (s t : R .State) (r : TextLine) (a : List (ℕ × R .Item)) → R .Body (R .env s) → R .isMusic r ≡ true → R .step s r ≡ on t a → R .slot t (R .cur s) ≡ true
+    pub music-V : (r : TextLine) → R .isMusic r ≡ true → isV r ≡ false
+    pub music-L : (r : TextLine) → isL r ≡ true → R .isMusic r ≡ false
+    pub music-M : (r : TextLine) → isM r ≡ true → R .isMusic r ≡ false
+    pub music-w : (r : TextLine) → R .isMusic r ≡ true → isLyric r ≡ false
     -- only a lyric row's items tell whether there is a place for verses; only a music row gives a music row's items, and it makes the place
-    pub told : (e : R .Env) (u : ℕ) (m : R .Meter) (b : Bool) (r : Row) → isLyric r ≡ false → R .emit e u m b r ≡ R .emit e u m true r
+    pub slot-unseen : (e : R .Env) (u : ℕ) (m : R .Meter) (b : Bool) (r : TextLine) → isLyric r ≡ false → R .emit e u m b r ≡ R .emit e u m true r
     -- only a music row's items tell L and M
-    pub blind : (e : R .Env) (u w : ℕ) (m n : R .Meter) (b : Bool) (r : Row) → R .isMusic r ≡ false → R .emit e u m b r ≡ R .emit e w n b r
-    pub hush : (e : R .Env) (u : ℕ) (m : R .Meter) (b : Bool) (r : Row) → R .isMusic r ≡ false → Hush (R .emit e u m b r)
-    pub placed : (s t : R .State) (r : Row) (a : List (ℕ × R .Item)) → R .step s r ≡ on t a → (p : ℕ) → R .slot t p ≡ false → Hush (mine p a)
+    pub unit-meter-unseen : (e : R .Env) (u w : ℕ) (m n : R .Meter) (b : Bool) (r : TextLine) → R .isMusic r ≡ false → R .emit e u m b r ≡ R .emit e w n b r
+    pub no-music : (e : R .Env) (u : ℕ) (m : R .Meter) (b : Bool) (r : TextLine) → R .isMusic r ≡ false → NoMusic (R .emit e u m b r)
+    pub placed : (s t : R .State) (r : TextLine) (a : List (ℕ × R .Item)) → R .step s r ≡ on t a → (p : ℕ) → R .slot t p ≡ false → NoMusic (itemsOf p a)
     -- a row that goes through has nothing in it that is refused; and one that has not goes through anywhere in the blocks, within the caps
-    pub fine : (s t : R .State) (r : Row) (a : List (ℕ × R .Item)) → R .Body (R .env s) → R .step s r ≡ on t a → R .Fine r
-    pub goes : (s : R .State) (r : Row) → R .Body (R .env s) → isV r ≡ false → R .Fine r → R .notes s + R .cost r ≤ R .maxNotes → R .lines s < R .maxLines → Goes s r (R .cur s)
-    pub goes-V : (s : R .State) (r : Row) → R .Body (R .env s) → isV r ≡ true → has (R .ident r) (R .ids (R .env s)) ≡ true → R .Fine r → R .notes s + R .cost r ≤ R .maxNotes → R .lines s < R .maxLines → Goes s r (indexOf (R .ident r) (R .ids (R .env s)))
+    pub fine : (s t : R .State) (r : TextLine) (a : List (ℕ × R .Item)) → R .Body (R .env s) → R .step s r ≡ on t a → R .Fine r
+    pub goes : (s : R .State) (r : TextLine) → R .Body (R .env s) → isV r ≡ false → R .Fine r → R .notes s + R .noteCount r ≤ R .maxNotes → R .lines s < R .maxLines → Goes s r (R .cur s)
+    pub goes-V : (s : R .State) (r : TextLine) → R .Body (R .env s) → isV r ≡ true → elem (R .ident r) (R .ids (R .env s)) ≡ true → R .Fine r → R .notes s + R .noteCount r ≤ R .maxNotes → R .lines s < R .maxLines → Goes s r (indexOf (R .ident r) (R .ids (R .env s)))
     -- the answer: no refusal is a reading; a part is made of `env`, its number and its own items, and without music its items do not matter
     pub early-no : (text : List ℕ) (rl sl : ℕ) (a : R .Ans) → R .early text rl sl ≡ some a → R .Accepted a → ⊥
     pub late-no : (n l rl sl : ℕ) → R .Accepted (R .late n l rl sl) → ⊥
-    pub alike : (e : R .Env) (f g : ℕ → List (R .Item)) (rl sl : ℕ) → ((p : ℕ) → (f p ≡ g p) ⊎ (Hush (f p) × Hush (g p))) → R .finish e f rl sl ≡ R .finish e g rl sl
+    pub alike : (e : R .Env) (f g : ℕ → List (R .Item)) (rl sl : ℕ) → ((p : ℕ) → (f p ≡ g p) ⊎ (NoMusic (f p) × NoMusic (g p))) → R .finish e f rl sl ≡ R .finish e g rl sl
     pub part : (e : R .Env) (f g : ℕ → List (R .Item)) (rl sl rl′ sl′ p : ℕ) → R .Accepted (R .finish e f rl sl) → R .Accepted (R .finish e g rl′ sl′) → f p ≡ g p → R .partOf (R .finish e f rl sl) p ≡ R .partOf (R .finish e g rl′ sl′) p
     -- before the first line: nothing but the length, and two tests that go row by row
     pub early-iff : (text : List ℕ) (rl sl : ℕ) → (R .early text rl sl ≡ none) ↔ (R .Fits (length text) sl × R .Utf8 text × (R .Blank text → ⊥))

@@ -8,17 +8,17 @@ use Rattle.reader.specs.Lines.{Kind, blank, refused, lyric, voice, key, meter, 
 use Rattle.reader.specs.Scan.{lastUnit, lastMeter}
 
 -- "a music line is one that 000 gives to `parse_body_line`"
-abbrev pub isPlayed : Kind → Bool
-isPlayed blank = false
-isPlayed (refused n) = false
-isPlayed (lyric t) = false
-isPlayed (voice v mid) = false
-isPlayed (key k) = false
-isPlayed (meter m) = false
-isPlayed (unit u) = false
-isPlayed tune = false
-isPlayed other = false
-isPlayed (music hi es l) = true
+abbrev pub isMusicLine : Kind → Bool
+isMusicLine blank = false
+isMusicLine (refused n) = false
+isMusicLine (lyric t) = false
+isMusicLine (voice v mid) = false
+isMusicLine (key k) = false
+isMusicLine (meter m) = false
+isMusicLine (unit u) = false
+isMusicLine tune = false
+isMusicLine other = false
+isMusicLine (music hi es l) = true
 
 -- L after an L: line: what it sets, if it does
 abbrev pub orAsFound : Option ℕ → ℕ → ℕ

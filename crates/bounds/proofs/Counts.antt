@@ -6,7 +6,7 @@ use native.Mathlib.Nat.{mul-add, mul-suc}
 use native.Mathlib.Omega.{arith}
 use lib.Dec.{lit≤}
 use lib.ListN.{length, length-append}
-use Rattle.laws.specs.Lists.{sum, any, cat}
+use Rattle.laws.specs.Lists.{sum, any, concat}
 use Rattle.laws.proofs.Bools.{by-test}
 use Rattle.laws.proofs.Lists.{sum-append, sum-map}
 use Rattle.standard.specs.Keys.{Key}
@@ -18,59 +18,59 @@ use Rattle.reader.specs.Records.{tagged, byVoice, allNotes, notesOf, pitchesOf,
 use Rattle.reader.specs.Answer.{isMusic, built}
 use Rattle.reader.specs.All.{all as everything}
 use Rattle.reader.proofs.Sizes.{four-voices, sections-length}
-use Rattle.bounds.specs.Prices.{Prices, Covered, sectionPrices, noteCost, voiceCost, measureCost, measuresCost, syllableCost, musicBytes, lyricBytes, itemBytes}
+use Rattle.bounds.specs.Weights.{Weights, Covered, sectionWeights, noteWeight, voiceWeight, measureWeight, measuresWeight, syllableWeight, musicBytes, lyricBytes, itemBytes}
 use Rattle.bounds.proofs.Generic.{sum-both}
-use Rattle.bounds.proofs.PartCosts.{part-cost}
-use Rattle.bounds.proofs.LyricCosts.{words-cost, lyrics-cost}
+use Rattle.bounds.proofs.PartWeights.{part-weight}
+use Rattle.bounds.proofs.LyricWeights.{words-weight, lyrics-weight}
 
-module _ (p : Prices) where
+module _ (p : Weights) where
   -- a note with the number of its voice
-  abbrev oneCost : ℕ × Note → ℕ
-  oneCost x = noteCost p (x .1)
+  abbrev oneWeight : ℕ × Note → ℕ
+  oneWeight x = noteWeight p (x .1)
 
   -- the notes of a measure, voice by voice
-  voices-cost : (v : ℕ) (vs : List (List Note)) → sum oneCost (byVoice v vs) ≡ sum (voiceCost p) vs
+  voices-weight : (v : ℕ) (vs : List (List Note)) → sum oneWeight (byVoice v vs) ≡ sum (voiceWeight p) vs
   unfolding byVoice tagged
-  voices-cost v [] = refl
-  voices-cost v (ns ∷ vs) = omega (arith, sum-append oneCost (map (λ n. (v, n)) ns) (byVoice (suc v) vs), sum-map (λ (n : Note). (v, n)) oneCost ns, voices-cost (suc v) vs)
+  voices-weight v [] = refl
+  voices-weight v (ns ∷ vs) = omega (arith, sum-append oneWeight (map (λ n. (v, n)) ns) (byVoice (suc v) vs), sum-map (λ (n : Note). (v, n)) oneWeight ns, voices-weight (suc v) vs)
 
   -- measures, and notes with their pitches
-  notes-cost : (ms : List Measure) → measuresCost p ms ≡ p .measure * length ms + sum oneCost (allNotes ms)
-  unfolding allNotes measureCost
-  notes-cost [] = omega arith
-  notes-cost (m ∷ ms) =
-      omega (arith, sum-append oneCost (byVoice 0 (m .voices)) (allNotes ms), voices-cost 0 (m .voices), notes-cost ms, mul-suc (p .measure) (length ms))
+  notes-weight : (ms : List Measure) → measuresWeight p ms ≡ p .measure * length ms + sum oneWeight (allNotes ms)
+  unfolding allNotes measureWeight
+  notes-weight [] = omega arith
+  notes-weight (m ∷ ms) =
+      omega (arith, sum-append oneWeight (byVoice 0 (m .voices)) (allNotes ms), voices-weight 0 (m .voices), notes-weight ms, mul-suc (p .measure) (length ms))
 
   -- notes, and pitches
-  pitches-cost : (xs : List (ℕ × Note)) → sum oneCost xs ≡ p .note * length xs + p .pitch * length (cat (map (λ (x : ℕ × Note). x .1 .pitches) xs))
-  unfolding noteCost
-  pitches-cost [] = omega arith
-  pitches-cost (x ∷ xs) =
-      let r = cat (map (λ (x : ℕ × Note). x .1 .pitches) xs) in
-      omega (arith, pitches-cost xs, mul-suc (p .note) (length xs), length-append (x .1 .pitches) r, mul-add (p .pitch) (length (x .1 .pitches)) (length r), ap (λ (n : ℕ). p .pitch * n) (length-append (x .1 .pitches) r))
+  pitches-weight : (xs : List (ℕ × Note)) → sum oneWeight xs ≡ p .note * length xs + p .pitch * length (concat (map (λ (x : ℕ × Note). x .1 .pitches) xs))
+  unfolding noteWeight
+  pitches-weight [] = omega arith
+  pitches-weight (x ∷ xs) =
+      let r = concat (map (λ (x : ℕ × Note). x .1 .pitches) xs) in
+      omega (arith, pitches-weight xs, mul-suc (p .note) (length xs), length-append (x .1 .pitches) r, mul-add (p .pitch) (length (x .1 .pitches)) (length r), ap (λ (n : ℕ). p .pitch * n) (length-append (x .1 .pitches) r))
 
   -- THE MEASURES' COST by the counts of the first three sections
-  pub counts-cost : (q : Part) → measuresCost p (q .measures) ≡ p .measure * length (q .measures) + p .note * length (notesOf q) + p .pitch * length (pitchesOf q)
+  pub counts-weight : (q : Part) → measuresWeight p (q .measures) ≡ p .measure * length (q .measures) + p .note * length (notesOf q) + p .pitch * length (pitchesOf q)
   unfolding notesOf pitchesOf
-  counts-cost q = omega (arith, notes-cost (q .measures), pitches-cost (allNotes (q .measures)))
+  counts-weight q = omega (arith, notes-weight (q .measures), pitches-weight (allNotes (q .measures)))
 
   -- syllables, and their text
-  texts-cost : (ys : List (ℕ × Syllable)) → sum (λ (x : ℕ × Syllable). syllableCost p (x .1)) ys ≡ p .syllable * length ys + p .text * length (cat (map (λ (x : ℕ × Syllable). x .1 .text) ys))
-  unfolding syllableCost
-  texts-cost [] = omega arith
-  texts-cost (y ∷ ys) =
-      let r = cat (map (λ (x : ℕ × Syllable). x .1 .text) ys) in
-      omega (arith, texts-cost ys, mul-suc (p .syllable) (length ys), mul-add (p .text) (length (y .1 .text)) (length r), ap (λ (n : ℕ). p .text * n) (length-append (y .1 .text) r))
+  texts-weight : (ys : List (ℕ × Syllable)) → sum (λ (x : ℕ × Syllable). syllableWeight p (x .1)) ys ≡ p .syllable * length ys + p .text * length (concat (map (λ (x : ℕ × Syllable). x .1 .text) ys))
+  unfolding syllableWeight
+  texts-weight [] = omega arith
+  texts-weight (y ∷ ys) =
+      let r = concat (map (λ (x : ℕ × Syllable). x .1 .text) ys) in
+      omega (arith, texts-weight ys, mul-suc (p .syllable) (length ys), mul-add (p .text) (length (y .1 .text)) (length r), ap (λ (n : ℕ). p .text * n) (length-append (y .1 .text) r))
 
   -- THE SYLLABLES' COST by the counts of the last two
-  pub lyric-counts : (q : Part) → sum (λ (x : ℕ × Syllable). syllableCost p (x .1)) (lyrics q) ≡ p .syllable * length (lyrics q) + p .text * length (lyricText q)
+  pub lyric-counts : (q : Part) → sum (λ (x : ℕ × Syllable). syllableWeight p (x .1)) (lyrics q) ≡ p .syllable * length (lyrics q) + p .text * length (lyricText q)
   unfolding lyricText
-  lyric-counts q = texts-cost (lyrics q)
+  lyric-counts q = texts-weight (lyrics q)
 
   -- A PART BY ITS LINES' BYTES: its music, and its lyrics
   pub music-bound : Covered p → (header : Key) (is : List Item)
       → p .measure * length (build header is .measures) + p .note * length (notesOf (build header is)) + p .pitch * length (pitchesOf (build header is)) ≤ p .measure + p .byte * sum musicBytes is
-  music-bound paid header is = omega (arith, part-cost p paid header is, counts-cost (build header is))
+  music-bound paid header is = omega (arith, part-weight p paid header is, counts-weight (build header is))
 
   -- its lyrics
   pub lyric-bound : Covered p → (header : Key) (is : List Item)
@@ -78,10 +78,10 @@ module _ (p : Prices) where
   unfolding lyrics
   lyric-bound paid header is =
       let q = build header is in
-      omega (arith, words-cost p paid header is, lyrics-cost p 0 (notesOf q) (q .words), lyric-counts q)
+      omega (arith, words-weight p paid header is, lyrics-weight p 0 (notesOf q) (q .words), lyric-counts q)
 
 -- THE SECTIONS OF A PART: 20 bytes of counts, its first measure, and 23 bytes for each byte of its lines
-section-covered : Covered sectionPrices
+section-covered : Covered sectionWeights
 section-covered = record { notes = lit≤ tt; measures = lit≤ tt; accidentals = lit≤ tt; syllables = lit≤ tt }
 
 -- the bytes of its lines: of music and of lyrics
@@ -92,7 +92,7 @@ bytes-sum is = sum-both musicBytes lyricBytes is
 -- so long at most
 pub sections-bound : (header : Key) (is : List Item) → length (sections (build header is)) ≤ 48 + 23 * sum itemBytes is
 sections-bound header is =
-    omega (arith, sections-length (build header is) (four-voices header is), music-bound sectionPrices section-covered header is, lyric-bound sectionPrices section-covered header is, bytes-sum is)
+    omega (arith, sections-length (build header is) (four-voices header is), music-bound sectionWeights section-covered header is, lyric-bound sectionWeights section-covered header is, bytes-sum is)
 
 -- an empty part has its counts alone
 pub empty-length : length (sections emptyPart) ≡ 20

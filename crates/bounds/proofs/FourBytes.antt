@@ -6,12 +6,12 @@ use native.Mathlib.Nat.{pow-suc, pow-le-pow-right}
 use native.Mathlib.Omega.{arith}
 use lib.Dec.{lit<, lit≤}
 use lib.ListN.{length, length-append, length-map}
-use Rattle.laws.specs.Lists.{All, cat}
+use Rattle.laws.specs.Lists.{All, concat}
 use Rattle.laws.specs.Bytes.{le32, u32At}
 use Rattle.laws.proofs.Bools.{by-test}
 use Rattle.laws.proofs.Lists.{All-map, All-append}
 use Rattle.laws.proofs.Numbers.{littleAt-little}
-use Rattle.reader.specs.Steps.{mine}
+use Rattle.reader.specs.Steps.{itemsOf}
 use Rattle.reader.specs.Scan.{Env, Items}
 use Rattle.reader.specs.State.{Note, Measure}
 use Rattle.reader.specs.Lyrics.{Syllable}
@@ -20,7 +20,7 @@ use Rattle.reader.specs.Records.{passBits, tagged, byVoice, allNotes, isSung, l
 use Rattle.reader.specs.Answer.{Verdict, refusal, reading, refusedWith, built, parts, partBytes, encode, written, parseAbc}
 use Rattle.reader.proofs.Sizes.{Fours, built-fours, sections-length}
 use Rattle.bounds.specs.Ranges.{PassesFit, MeasureFits, PartFits, FourBytes, CountsFit}
-use Rattle.bounds.proofs.ScanCosts.{voiceCount}
+use Rattle.bounds.proofs.ScanWeights.{voiceCount}
 use Rattle.bounds.proofs.Reading.{partsAfter, parts-fit, parts-most, outcome-cases}
 
 -- PASSES: one bit for each, so below 2^32
@@ -59,10 +59,10 @@ voices-most (m ∷ ms) k h =
     (voice-most 0 (m .voices) k (omega (arith, e)), voices-most ms k (omega (arith, e)))
 
 -- of pieces that are k long together none is longer
-pieces-most {ℓ κ} : {A : Type ℓ} {B : Type κ} (f : A → List B) (xs : List A) (k : ℕ) → length (cat (map f xs)) ≤ k → All (λ x. length (f x) ≤ k) xs
+pieces-most {ℓ κ} : {A : Type ℓ} {B : Type κ} (f : A → List B) (xs : List A) (k : ℕ) → length (concat (map f xs)) ≤ k → All (λ x. length (f x) ≤ k) xs
 pieces-most f [] k h = tt
 pieces-most f (x ∷ xs) k h =
-    let e = length-append (f x) (cat (map f xs)) in
+    let e = length-append (f x) (concat (map f xs)) in
     (omega (arith, e), pieces-most f xs k (omega (arith, e)))
 
 -- a lyric's index is one of the notes
@@ -88,8 +88,8 @@ counts-fit p f h l =
     let ns = allNotes (p .measures) in
     let ys = lyricsOf 0 ns (p .words) in
     let n : length ns < 2 ^ 32 = omega (arith, e, l) in
-    let c : length (cat (map (λ (x : ℕ × Note). x .1 .pitches) ns)) < 2 ^ 32 = omega (arith, e, l) in
-    let t : length (cat (map (λ (x : ℕ × Syllable). x .1 .text) ys)) < 2 ^ 32 = omega (arith, e, l) in
+    let c : length (concat (map (λ (x : ℕ × Note). x .1 .pitches) ns)) < 2 ^ 32 = omega (arith, e, l) in
+    let t : length (concat (map (λ (x : ℕ × Syllable). x .1 .text) ys)) < 2 ^ 32 = omega (arith, e, l) in
     record {
       measures-count = omega (arith, e, l);
       notes-count = n;
@@ -98,21 +98,21 @@ counts-fit p f h l =
       text-count = t;
       voice-counts = All-map _ _ (λ m. All-map _ _ (λ v k. omega (arith, k, n)) (m .voices)) (p .measures) (voices-most (p .measures) (length ns) (omega arith));
       pass-bits = All-map MeasureFits _ (λ m k. pass-bits-small (m .passes) (k .passes-fit)) (p .measures) (h .measures-fit);
-      pitch-counts = All-map _ _ (λ x k. omega (arith, k, c)) ns (pieces-most (λ (x : ℕ × Note). x .1 .pitches) ns (length (cat (map (λ (x : ℕ × Note). x .1 .pitches) ns))) (omega arith));
+      pitch-counts = All-map _ _ (λ x k. omega (arith, k, c)) ns (pieces-most (λ (x : ℕ × Note). x .1 .pitches) ns (length (concat (map (λ (x : ℕ × Note). x .1 .pitches) ns))) (omega arith));
       indexes = index-below 0 (length ns) ns (p .words) (omega arith);
-      text-counts = All-map _ _ (λ x k. omega (arith, k, t)) ys (pieces-most (λ (x : ℕ × Syllable). x .1 .text) ys (length (cat (map (λ (x : ℕ × Syllable). x .1 .text) ys))) (omega arith));
+      text-counts = All-map _ _ (λ x k. omega (arith, k, t)) ys (pieces-most (λ (x : ℕ × Syllable). x .1 .text) ys (length (concat (map (λ (x : ℕ × Syllable). x .1 .text) ys))) (omega arith));
     }
 
 -- THE PARTS OF A READING
 -- the counts of each part
-parts-counts : (e : Env) (a : Items) (n q : ℕ) → All PartFits (parts e (λ p. mine p a) n q) → length (partBytes (parts e (λ p. mine p a) n q)) < 2 ^ 32 → All CountsFit (parts e (λ p. mine p a) n q)
+parts-counts : (e : Env) (a : Items) (n q : ℕ) → All PartFits (parts e (λ p. itemsOf p a) n q) → length (partBytes (parts e (λ p. itemsOf p a) n q)) < 2 ^ 32 → All CountsFit (parts e (λ p. itemsOf p a) n q)
 unfolding parts partBytes
 parts-counts e a zero q f h = tt
 parts-counts e a (suc n) q f h =
-    let p = built e (mine q a) in
-    let ps = parts e (λ p. mine p a) n (suc q) in
+    let p = built e (itemsOf q a) in
+    let ps = parts e (λ p. itemsOf p a) n (suc q) in
     let l = length-append (sections p) (partBytes ps) in
-    (counts-fit p (built-fours e (mine q a)) (f .0) (omega (arith, l, h)), parts-counts e a n (suc q) (f .1) (omega (arith, l, h)))
+    (counts-fit p (built-fours e (itemsOf q a)) (f .0) (omega (arith, l, h)), parts-counts e a n (suc q) (f .1) (omega (arith, l, h)))
 
 -- a verdict that has them
 unfoldable Counted : Verdict → Type 0

@@ -13,21 +13,21 @@ use Rattle.laws.specs.Lists.{sum, any}
 use Rattle.laws.proofs.Bools.{by-test}
 use Rattle.laws.specs.Bytes.{le32}
 use Rattle.laws.proofs.Numbers.{length-little}
-use Rattle.reader.specs.Text.{rows}
-use Rattle.reader.specs.Steps.{mine}
+use Rattle.reader.specs.Text.{textLines}
+use Rattle.reader.specs.Steps.{itemsOf}
 use Rattle.reader.specs.Scan.{Item, Env, ScanState, begin, scan, Items}
 use Rattle.reader.specs.Part.{emptyPart}
 use Rattle.reader.specs.Records.{sections}
 use Rattle.reader.specs.Answer.{isMusic, built, parts, partBytes, encode, measureCount}
-use Rattle.bounds.specs.Prices.{itemBytes}
+use Rattle.bounds.specs.Weights.{itemBytes}
 use Rattle.bounds.proofs.Counts.{built-bound}
-use Rattle.bounds.proofs.RowCosts.{rows-length, rows-fed}
-use Rattle.bounds.proofs.ScanCosts.{Holds, holds-map, Silent, voiceCount, Paid, total, Headed, head-bill}
+use Rattle.bounds.proofs.RowWeights.{rows-length, rows-fed}
+use Rattle.bounds.proofs.ScanWeights.{Holds, holds-map, Silent, voiceCount, Paid, total, Headed, head-bill}
 
 -- EACH ITEM IS OF ONE PART
 -- the bytes of a part's own items
 abbrev pub share : ℕ → Items → ℕ
-share q a = sum itemBytes (mine q a)
+share q a = sum itemBytes (itemsOf q a)
 
 -- those of n parts from number q on
 unfoldable pub shares : ℕ → ℕ → Items → ℕ
@@ -65,26 +65,26 @@ parts-count e f zero q = refl
 parts-count e f (suc n) q = ap suc (parts-count e f n (suc q))
 
 -- 48 bytes for each, and 23 for each byte of its lines
-pub parts-bound : (e : Env) (a : Items) (n q : ℕ) → length (partBytes (parts e (λ p. mine p a) n q)) ≤ 48 * n + 23 * shares n q a
+pub parts-bound : (e : Env) (a : Items) (n q : ℕ) → length (partBytes (parts e (λ p. itemsOf p a) n q)) ≤ 48 * n + 23 * shares n q a
 unfolding parts partBytes shares
 parts-bound e a zero q = zero-le
 parts-bound e a (suc n) q =
-    let p = built e (mine q a) in
-    let ps = parts e (λ p. mine p a) n (suc q) in
-    omega (arith, length-append (sections p) (partBytes ps), built-bound e (mine q a), parts-bound e a n (suc q))
+    let p = built e (itemsOf q a) in
+    let ps = parts e (λ p. itemsOf p a) n (suc q) in
+    omega (arith, length-append (sections p) (partBytes ps), built-bound e (itemsOf q a), parts-bound e a n (suc q))
 
-pub encode-bound : (e : Env) (a : Items) (n : ℕ) → length (encode (parts e (λ p. mine p a) n 0)) ≤ 4 + 48 * n + 23 * sum (λ (x : ℕ × Item). itemBytes (x .1)) a
+pub encode-bound : (e : Env) (a : Items) (n : ℕ) → length (encode (parts e (λ p. itemsOf p a) n 0)) ≤ 4 + 48 * n + 23 * sum (λ (x : ℕ × Item). itemBytes (x .1)) a
 unfolding encode
 encode-bound e a n =
-    let ps = parts e (λ p. mine p a) n 0 in
+    let ps = parts e (λ p. itemsOf p a) n 0 in
     omega (arith, length-append (le32 (length ps)) (partBytes ps), length-little 4 (length ps), parts-bound e a n 0, shares-all n 0 a)
 
 -- WHERE NOTHING IS PLAYED there is no measure
-silent-mine : (q : ℕ) (a : Items) → Silent a → any isMusic (mine q a) ≡ false
+silent-mine : (q : ℕ) (a : Items) → Silent a → any isMusic (itemsOf q a) ≡ false
 silent-mine q [] s = refl
 silent-mine q (x ∷ a) s = by-test (eqb (x .0) q) (λ e. rw e (rw (s .0) (silent-mine q a (s .1)))) (λ e. rw e (silent-mine q a (s .1)))
 
-pub silent-parts : (e : Env) (a : Items) (n q : ℕ) → Silent a → sum measureCount (parts e (λ p. mine p a) n q) ≡ 0
+pub silent-parts : (e : Env) (a : Items) (n q : ℕ) → Silent a → sum measureCount (parts e (λ p. itemsOf p a) n q) ≡ 0
 unfolding parts built measureCount emptyPart
 silent-parts e a zero q s = refl
 silent-parts e a (suc n) q s = rw (silent-mine q a s) (omega (arith, silent-parts e a n (suc q) s))
@@ -94,17 +94,17 @@ total-is : (a : Items) → total 0 23 23 0 48 a ≡ 23 * sum (λ (x : ℕ × Ite
 total-is [] = refl
 total-is (x ∷ a) = omega (arith, total-is a)
 
-section-paid : Paid 0 23 23 0 48
-section-paid = record { bytes = lit≤ tt; lines = lit≤ tt; feed = lit≤ tt; voices = lit≤ tt }
+section-covered : Paid 0 23 23 0 48
+section-covered = record { bytes = lit≤ tt; lines = lit≤ tt; feed = lit≤ tt; voices = lit≤ tt }
 
 pub scan-bound : (text : List ℕ)
-    → Holds (λ t a. Silent a ⊎ (4 + 48 * voiceCount t + 23 * sum (λ (x : ℕ × Item). itemBytes (x .1)) a ≤ 23 * length text)) (scan (rows text))
+    → Holds (λ t a. Silent a ⊎ (4 + 48 * voiceCount t + 23 * sum (λ (x : ℕ × Item). itemBytes (x .1)) a ≤ 23 * length text)) (scan (textLines text))
 unfolding scan begin
 scan-bound text =
-    holds-map (Headed 0 23 23 0 48 section-paid 52 (lit≤ tt) begin (sum length (rows text))) _ (λ t a h. text-pays t a h) (scan (rows text))
-    (head-bill 0 23 23 0 48 section-paid 52 (lit≤ tt) (rows text) (rows-fed text) begin refl)
+    holds-map (Headed 0 23 23 0 48 section-covered 52 (lit≤ tt) begin (sum length (textLines text))) _ (λ t a h. text-cover t a h) (scan (textLines text))
+    (head-bill 0 23 23 0 48 section-covered 52 (lit≤ tt) (textLines text) (rows-fed text) begin refl)
   where
-    text-pays : (t : ScanState) (a : Items) → Headed 0 23 23 0 48 section-paid 52 (lit≤ tt) begin (sum length (rows text)) t a
+    text-cover : (t : ScanState) (a : Items) → Headed 0 23 23 0 48 section-covered 52 (lit≤ tt) begin (sum length (textLines text)) t a
         → Silent a ⊎ (4 + 48 * voiceCount t + 23 * sum (λ (x : ℕ × Item). itemBytes (x .1)) a ≤ 23 * length text)
-    text-pays t a (inl h) = inl h
-    text-pays t a (inr h) = inr (omega (arith, h, rows-length text, total-is a))
+    text-cover t a (inl h) = inl h
+    text-cover t a (inr h) = inr (omega (arith, h, rows-length text, total-is a))

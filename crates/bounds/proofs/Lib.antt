@@ -1,10 +1,10 @@
 pub mod Generic
-pub mod TokenCosts
-pub mod PartCosts
-pub mod LyricCosts
+pub mod TokenWeights
+pub mod PartWeights
+pub mod LyricWeights
 pub mod Counts
-pub mod RowCosts
-pub mod ScanCosts
+pub mod RowWeights
+pub mod ScanWeights
 pub mod Length
 pub mod TokenRanges
 pub mod PartRanges

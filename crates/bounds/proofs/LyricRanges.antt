@@ -7,11 +7,11 @@ use lib.Dec.{ltb, eqb, lit<}
 use lib.ListN.{replicate}
 use Rattle.laws.specs.Lists.{foldl, All, eqText, isNil, alterAt}
 use Rattle.laws.proofs.Bools.{by-test}
-use Rattle.laws.proofs.Lists.{All-append, All-keep, All-alterAt}
+use Rattle.laws.proofs.Lists.{All-append, All-filter, All-alterAt}
 use Rattle.standard.specs.Bytes.{ascii, is, first, last}
 use Rattle.standard.specs.Keys.{Key}
 use Rattle.standard.specs.Lyrics.{Word, skip, hold, syllable, syllableText, syllables}
-use Rattle.reader.specs.Pieces.{pieces, words, mark, whiteAt}
+use Rattle.reader.specs.Pieces.{pieces, words, separator, whiteAt}
 use Rattle.reader.specs.Scan.{Item}
 use Rattle.reader.specs.State.{Sung, newPart}
 use Rattle.reader.specs.Lyrics.{Syllable, orSkip, wordOf, wordsOf, lyricWords, put, held, sing, sungBy}
@@ -36,7 +36,7 @@ module _ (w : List ℕ → ℕ) where
 
   pub words-bytes : (s : List ℕ) → Bytes s → All Bytes (words w s)
   unfolding words
-  words-bytes s h = All-keep (λ p. not (isNil p)) Bytes (pieces w 0 s) (pieces-bytes 0 s h)
+  words-bytes s h = All-filter (λ p. not (isNil p)) Bytes (pieces w 0 s) (pieces-bytes 0 s h)
 
 -- WORDS
 unfoldable WordFits : Word → Type 0
@@ -68,7 +68,7 @@ word-fits w h =
     (by-test (eqText w (ascii "*")) (λ f. rw (f, wordOf) (tt, tt))
     (λ f. rw (f, wordOf)
     (by-test (eqText w (ascii "_")) (λ g. rw (g, wordOf) (tt, tt))
-    (λ g. rw (g, wordOf) (skip-fits _ (syllables-fit (is "-" (first w)) (is "-" (last w)) (words (mark (is "-")) w) (words-bytes (mark (is "-")) w h))))))))
+    (λ g. rw (g, wordOf) (skip-fits _ (syllables-fit (is "-" (first w)) (is "-" (last w)) (words (separator (is "-")) w) (words-bytes (separator (is "-")) w h))))))))
 
 all-words-fit : (ws : List (List ℕ)) → All Bytes ws → All WordFits (wordsOf ws)
 unfolding wordsOf

@@ -24,12 +24,12 @@ use Rattle.reader.specs.Pitches.{Scope, remembered, orKey, soundBy, soundOf, sc
 use Rattle.reader.specs.Token.{Token, space, overlay, quoted, broken, tuplet, slur, graceOpen, graceClose, decoration, barline, volta, unit, meter, key, field, chord, rest, note, nothing, skipped, refused}
 use Rattle.reader.specs.Tokens.{tokens}
 use Rattle.reader.specs.Barlines.{leftOf}
-use Rattle.reader.specs.Scan.{Item, born, reset, headed, keyed, metered, sung, played}
-use Rattle.reader.specs.State.{PartState, Note, Measure, Half, Running, Verses, withBeam, withVoices, withRight, withLeft, withMeter, withMark, withVolta, Volta, voltaBegins, onOpen, isEmpty, voiceIn, voiceNow, setVoice, newMeasure, newPart, newLine, noScopes}
+use Rattle.reader.specs.Scan.{Item, voiceDeclared, reset, keyInHeader, keyChange, meterChange, lyricLine, musicLine}
+use Rattle.reader.specs.State.{PartState, Note, Measure, Half, Running, Verses, withBeam, withVoices, withRight, withLeft, withMeter, withKeyMark, withVolta, Volta, voltaBegins, onOpen, isEmpty, voiceIn, voiceNow, setVoice, newMeasure, newPart, newLine, noScopes}
 use Rattle.reader.specs.Voltas.{starts, endsAt, close, closed}
 use Rattle.reader.specs.Part.{halvedNote, brokenNote, onBroken, afterHalf, canBeam, beamed, beamedAgain, onNothing, groupIn, grouped, oneFewer, countedIn, append, restNote, soundNote, onSound, leftSet, ended, onBarline, hears, onToken, opened, lineBegins, onLine, onLyric, onKey, onItem, dropped, inOrder, markedBy, marked, finished}
 use Rattle.reader.proofs.ValueLaws.{value-range}
-use Rattle.bounds.specs.Ranges.{MeterFits, PassesFit, MarkFits, WrittenFits, PitchFits, TokenFits, NoteFits, MeasureFits, RunningFits, StateFits, ItemFits}
+use Rattle.bounds.specs.Ranges.{MeterFits, PassesFit, SignFits, WrittenFits, PitchFits, TokenFits, NoteFits, MeasureFits, RunningFits, StateFits, ItemFits}
 use Rattle.bounds.proofs.Generic.{All-reverse, All-here}
 use Rattle.bounds.proofs.TokenRanges.{tokens-fit}
 
@@ -104,8 +104,8 @@ rest-fits Notes.barRest u l = record { value-fits = lit≤ tt; dots-fit = lit≤
 rest-fits Notes.invisibleBarRest u l = record { value-fits = lit≤ tt; dots-fit = lit≤ tt; actual-fits = lit< tt; normal-fits = lit< tt; boundary-fits = lit< tt; pitches-fit = tt }
 
 -- PITCHES
-altered-fits : (w : Written) (a : Accidental) → WrittenFits w → MarkFits (some a) → PitchFits (altered w a)
-unfolding altered MarkFits
+altered-fits : (w : Written) (a : Accidental) → WrittenFits w → SignFits (some a) → PitchFits (altered w a)
+unfolding altered SignFits
 altered-fits w a h m = record { step-fits = h .step-fits; octave-fits = h .octave-fits; alter-fits = m .0; cents-fits = m .1 }
 
 -- a key alters by one at most
@@ -134,13 +134,13 @@ or-key-fits k w none h m = record { step-fits = h .step-fits; octave-fits = h .o
 or-key-fits k w (some p) h m = m
 
 -- as it sounds
-sound-by-fits : (k : Key) (sc : Scope) (w : Written) (a : Option Accidental) → All PitchFits sc → WrittenFits w → MarkFits a → PitchFits (soundBy k sc w a)
+sound-by-fits : (k : Key) (sc : Scope) (w : Written) (a : Option Accidental) → All PitchFits sc → WrittenFits w → SignFits a → PitchFits (soundBy k sc w a)
 unfolding soundBy
 sound-by-fits k sc w none h v m = or-key-fits k w (remembered sc w) v (remembered-fits sc w h)
 sound-by-fits k sc w (some a) h v m = altered-fits w a v m
 
 -- the scope after it
-scope-by-fits : (sc : Scope) (w : Written) (a : Option Accidental) → All PitchFits sc → WrittenFits w → MarkFits a → All PitchFits (scopeBy sc w a)
+scope-by-fits : (sc : Scope) (w : Written) (a : Option Accidental) → All PitchFits sc → WrittenFits w → SignFits a → All PitchFits (scopeBy sc w a)
 unfolding scopeBy
 scope-by-fits sc w none h v m = h
 scope-by-fits sc w (some a) h v m = (altered-fits w a v m, h)
@@ -150,13 +150,13 @@ sounds-fit : (k : Key) (sc : Scope) (ws : List Written) → All PitchFits sc →
 unfolding soundsOf soundOf scopeAfter
 sounds-fit k sc [] h v = tt
 sounds-fit k sc (w ∷ ws) h v =
-    (sound-by-fits k sc w (w .mark) h (v .0) (v .0 .mark-fits), sounds-fit k (scopeBy sc w (w .mark)) ws (scope-by-fits sc w (w .mark) h (v .0) (v .0 .mark-fits)) (v .1))
+    (sound-by-fits k sc w (w .sign) h (v .0) (v .0 .mark-fits), sounds-fit k (scopeBy sc w (w .sign)) ws (scope-by-fits sc w (w .sign) h (v .0) (v .0 .mark-fits)) (v .1))
 
 -- the scope after them
 scopes-after-fit : (sc : Scope) (ws : List Written) → All PitchFits sc → All WrittenFits ws → All PitchFits (scopeAfterAll sc ws)
 unfolding scopeAfterAll scopeAfter
 scopes-after-fit sc [] h v = h
-scopes-after-fit sc (w ∷ ws) h v = scopes-after-fit (scopeBy sc w (w .mark)) ws (scope-by-fits sc w (w .mark) h (v .0) (v .0 .mark-fits)) (v .1)
+scopes-after-fit sc (w ∷ ws) h v = scopes-after-fit (scopeBy sc w (w .sign)) ws (scope-by-fits sc w (w .sign) h (v .0) (v .0 .mark-fits)) (v .1)
 
 -- MEASURES
 voices-measure : (vs : List (List Note)) (m : Measure) → All (All NoteFits) vs → MeasureFits m → MeasureFits (withVoices vs m)
@@ -171,7 +171,7 @@ left-measure : (b : Barline) (m : Measure) → MeasureFits m → MeasureFits (wi
 left-measure b m h = record { voices-fit = h .voices-fit; meter-fits = h .meter-fits; passes-fit = h .passes-fit }
 
 -- a key mark
-mark-measure : (k : Key) (m : Measure) → MeasureFits m → MeasureFits (withMark k m)
+mark-measure : (k : Key) (m : Measure) → MeasureFits m → MeasureFits (withKeyMark k m)
 mark-measure k m h = record { voices-fit = h .voices-fit; meter-fits = h .meter-fits; passes-fit = h .passes-fit }
 
 -- another meter
@@ -293,7 +293,7 @@ token-state s (meter t) f h =
     open-state (withMeter t) (meter-measure t f) _
     (record { measures-fit = h .measures-fit; scopes-fit = h .scopes-fit; meter-fits = f; tuplet-fits = h .tuplet-fits; verse-fits = h .verse-fits; lines-fit = h .lines-fit })
 token-state s (key k) f h =
-    open-state (withMark k) (mark-measure k) _
+    open-state (withKeyMark k) (mark-measure k) _
     (record { measures-fit = h .measures-fit; scopes-fit = no-scopes-fit; meter-fits = h .meter-fits; tuplet-fits = h .tuplet-fits; verse-fits = h .verse-fits; lines-fit = h .lines-fit })
 token-state s field f h = h
 token-state s (chord ws l b) f h = sound-state ws l b s f h
@@ -329,20 +329,20 @@ key-state : (header k : Key) (ms : List Measure) (s : PartState) → StateFits s
 unfolding onKey hears
 key-state header k [] s h = record { measures-fit = h .measures-fit; scopes-fit = no-scopes-fit; meter-fits = h .meter-fits; tuplet-fits = h .tuplet-fits; verse-fits = h .verse-fits; lines-fit = h .lines-fit }
 key-state header k (m ∷ ms) s h =
-    open-state (withMark k) (mark-measure k) _
+    open-state (withKeyMark k) (mark-measure k) _
     (record { measures-fit = h .measures-fit; scopes-fit = no-scopes-fit; meter-fits = h .meter-fits; tuplet-fits = h .tuplet-fits; verse-fits = h .verse-fits; lines-fit = h .lines-fit })
 
 -- ANY ITEM
 pub item-state : (header : Key) (s : PartState) (i : Item) → ItemFits i → StateFits s → StateFits (onItem header s i)
 unfolding onItem onLyric ItemFits
-item-state header s (born b) f h = record { measures-fit = h .measures-fit; scopes-fit = h .scopes-fit; meter-fits = h .meter-fits; tuplet-fits = h .tuplet-fits; verse-fits = h .verse-fits; lines-fit = h .lines-fit }
+item-state header s (voiceDeclared b) f h = record { measures-fit = h .measures-fit; scopes-fit = h .scopes-fit; meter-fits = h .meter-fits; tuplet-fits = h .tuplet-fits; verse-fits = h .verse-fits; lines-fit = h .lines-fit }
 item-state header s reset f h = record { measures-fit = h .measures-fit; scopes-fit = h .scopes-fit; meter-fits = h .meter-fits; tuplet-fits = h .tuplet-fits; verse-fits = h .verse-fits; lines-fit = h .lines-fit }
-item-state header s headed f h = record { measures-fit = h .measures-fit; scopes-fit = h .scopes-fit; meter-fits = h .meter-fits; tuplet-fits = h .tuplet-fits; verse-fits = h .verse-fits; lines-fit = h .lines-fit }
-item-state header s (keyed k) f h = key-state header k (s .measures) s h
-item-state header s (metered t) f h = open-state (withMeter t) (meter-measure t f) s h
-item-state header s (sung b t) f h =
+item-state header s keyInHeader f h = record { measures-fit = h .measures-fit; scopes-fit = h .scopes-fit; meter-fits = h .meter-fits; tuplet-fits = h .tuplet-fits; verse-fits = h .verse-fits; lines-fit = h .lines-fit }
+item-state header s (keyChange k) f h = key-state header k (s .measures) s h
+item-state header s (meterChange t) f h = open-state (withMeter t) (meter-measure t f) s h
+item-state header s (lyricLine b t) f h =
     record { measures-fit = h .measures-fit; scopes-fit = h .scopes-fit; meter-fits = h .meter-fits; tuplet-fits = h .tuplet-fits; verse-fits = next-small b (s .verses .verse) (h .verse-fits); lines-fit = (record { verse-fits = h .verse-fits; text-fits = f }, h .lines-fit) }
-item-state header s (played u t l) f h = line-state u t l s f h
+item-state header s (musicLine u t l) f h = line-state u t l s f h
 
 pub items-state : (header : Key) (is : List Item) (s : PartState) → All ItemFits is → StateFits s → StateFits (foldl (onItem header) s is)
 items-state header [] s f h = h

@@ -12,15 +12,15 @@ use Rattle.laws.specs.Lists.{foldl, sum, any, All}
 use Rattle.laws.specs.Bytes.{le32, zeros}
 use Rattle.laws.proofs.Bools.{by-test, and-no-right}
 use Rattle.laws.proofs.Numbers.{little-bytes}
-use Rattle.reader.specs.Text.{within, Utf8, between, one, two, three, afterE0, afterED, afterF0, afterF4, invalid, utf8Step, isBetween, isUtf8, isBlank, rows}
-use Rattle.reader.specs.Steps.{refuse, on, mine}
+use Rattle.reader.specs.Text.{within, Utf8, between, one, two, three, afterE0, afterED, afterF0, afterF4, invalid, utf8Step, isBetween, isUtf8, isBlank, textLines}
+use Rattle.reader.specs.Steps.{refuse, on, itemsOf}
 use Rattle.reader.specs.Scan.{Item, Env, ScanState, scan, Items, Out, mostVoices}
 use Rattle.reader.specs.Part.{Part}
 use Rattle.reader.specs.Records.{sections}
 use Rattle.reader.specs.Answer.{Verdict, refusal, reading, Outcome, mostBytes, scratchNeeded, refusedWith, early, isMusic, built, parts, partBytes, encode, measureCount, written, ended, finish, scanned, unless, parseAbc}
-use Rattle.bounds.specs.Prices.{itemBytes}
+use Rattle.bounds.specs.Weights.{itemBytes}
 use Rattle.bounds.specs.Ranges.{Bytes, ItemFits, PartFits}
-use Rattle.bounds.proofs.ScanCosts.{Holds, Silent, voiceCount}
+use Rattle.bounds.proofs.ScanWeights.{Holds, Silent, voiceCount}
 use Rattle.bounds.proofs.ScanRanges.{ItemsFit, OutFits, ScanFits, scan-out}
 use Rattle.bounds.proofs.LyricRanges.{part-fits, empty-fits}
 use Rattle.bounds.proofs.RecordBytes.{both, sections-bytes}
@@ -69,7 +69,7 @@ utf8-bytes s h = valid-bytes s between h
 -- THE CALL: refused before the first line with 1, 2, 3 or 15, or scanned, a text of bytes up to the most
 pub call-cases : (P : Outcome → Type 0) (text : List ℕ) (rl sl : ℕ)
     → P (refusedWith 1 0 rl sl) → P (refusedWith 2 0 rl sl) → P (refusedWith 3 0 rl sl) → P (refusedWith 15 0 rl sl)
-    → (length text ≤ mostBytes → Bytes text → P (scanned rl sl (scan (rows text)))) → P (parseAbc text rl sl)
+    → (length text ≤ mostBytes → Bytes text → P (scanned rl sl (scan (textLines text)))) → P (parseAbc text rl sl)
 unfolding parseAbc early unless
 call-cases P text rl sl p1 p2 p3 p15 f =
     by-test (leb (length text) mostBytes)
@@ -88,7 +88,7 @@ zero-bytes zero = tt
 zero-bytes (suc n) = (lit< tt, zero-bytes n)
 
 -- the items of a part
-mine-fit : (q : ℕ) (a : Items) → ItemsFit a → All ItemFits (mine q a)
+mine-fit : (q : ℕ) (a : Items) → ItemsFit a → All ItemFits (itemsOf q a)
 mine-fit q [] h = tt
 mine-fit q (x ∷ a) h = by-test (eqb (x .0) q) (λ e. rw e (h .0, mine-fit q a (h .1))) (λ e. rw e (mine-fit q a (h .1)))
 
@@ -98,10 +98,10 @@ unfolding built
 built-fits e is h = by-test (any isMusic is) (λ m. rw m (part-fits (e .headerKey) is h)) (λ m. rw m empty-fits)
 
 -- the parts of a reading are in their ranges
-pub parts-fit : (e : Env) (a : Items) (n q : ℕ) → ItemsFit a → All PartFits (parts e (λ p. mine p a) n q)
+pub parts-fit : (e : Env) (a : Items) (n q : ℕ) → ItemsFit a → All PartFits (parts e (λ p. itemsOf p a) n q)
 unfolding parts
 parts-fit e a zero q h = tt
-parts-fit e a (suc n) q h = (built-fits e (mine q a) (mine-fit q a h), parts-fit e a n (suc q) h)
+parts-fit e a (suc n) q h = (built-fits e (itemsOf q a) (mine-fit q a h), parts-fit e a n (suc q) h)
 
 -- their sections
 parts-bytes : (ps : List Part) → All PartFits ps → Bytes (partBytes ps)
@@ -116,11 +116,11 @@ encode-bytes ps h = both (le32 (length ps)) (partBytes ps) (little-bytes 4 (leng
 
 -- THE PARTS that a scan leads to
 abbrev pub partsAfter : ScanState → Items → List Part
-partsAfter t a = parts (t .env) (λ p. mine p a) (voiceCount t) 0
+partsAfter t a = parts (t .env) (λ p. itemsOf p a) (voiceCount t) 0
 
 -- they are 32 at most
 pub parts-most : (t : ScanState) (a : Items) → ScanFits t → length (partsAfter t a) ≤ mostVoices
-parts-most t a h = omega (arith, parts-count (t .env) (λ p. mine p a) (voiceCount t) 0, h .voices-in)
+parts-most t a h = omega (arith, parts-count (t .env) (λ p. itemsOf p a) (voiceCount t) 0, h .voices-in)
 
 -- where there is a measure, 23 bytes for each byte of the text are enough
 enough : (text : List ℕ) (t : ScanState) (a : Items) → Silent a ⊎ (4 + 48 * voiceCount t + 23 * sum (λ (x : ℕ × Item). itemBytes (x .1)) a ≤ 23 * length text)
@@ -137,7 +137,7 @@ pub outcome-cases : (P : Outcome → Type 0) (text : List ℕ) (rl sl : ℕ)
 unfolding scanned finish ended OutFits Holds
 outcome-cases P text rl sl refused short read =
     call-cases P text rl sl (refused 1 0 (lit≤ tt)) (refused 2 0 (lit≤ tt)) (refused 3 0 (lit≤ tt)) (refused 15 0 (lit≤ tt))
-    (λ len bytes. go len (scan (rows text)) (scan-out text bytes) (scan-bound text))
+    (λ len bytes. go len (scan (textLines text)) (scan-out text bytes) (scan-bound text))
   where
     go : length text ≤ mostBytes → (o : Out) → OutFits o → Holds (λ t a. Silent a ⊎ (4 + 48 * voiceCount t + 23 * sum (λ (x : ℕ × Item). itemBytes (x .1)) a ≤ 23 * length text)) o → P (scanned rl sl o)
     go len (refuse n l) f b = refused n l (omega (arith, f .1))

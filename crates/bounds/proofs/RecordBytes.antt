@@ -6,7 +6,7 @@ use mathlib.Core.List.{List, [], _∷_, _++_, map}
 use native.Mathlib.Omega.{arith}
 use lib.Dec.{ltb, lit<}
 use lib.ListN.{length, getD}
-use Rattle.laws.specs.Lists.{All, cat}
+use Rattle.laws.specs.Lists.{All, concat}
 use Rattle.laws.specs.Bytes.{le32}
 use Rattle.laws.proofs.Bools.{by-test}
 use Rattle.laws.proofs.Lists.{All-append}
@@ -22,7 +22,7 @@ use Rattle.reader.specs.State.{Note, Measure, Volta, noVolta, voltaBegins, volt
 use Rattle.reader.specs.Lyrics.{Syllable}
 use Rattle.reader.specs.Part.{Part}
 use Rattle.reader.specs.Codes.{barlineCode, voltaCode, modeCode, kindCode, beamCode, syllabicCode, bit}
-use Rattle.reader.specs.Records.{signed8, signed16, markBytes, passBits, noteCounts, measureBytes, isUnbeamed, flagByte, noteBytes, pitchBytes, lyricBytes, tagged, byVoice, allNotes, isSung, lyricsOf, section, notesOf, pitchesOf, lyrics, lyricText, sections}
+use Rattle.reader.specs.Records.{signed8, signed16, keyMarkBytes, passBits, noteCounts, measureBytes, isUnbeamed, flagByte, noteBytes, pitchBytes, lyricBytes, tagged, byVoice, allNotes, isSung, lyricsOf, section, notesOf, pitchesOf, lyrics, lyricText, sections}
 use Rattle.bounds.specs.Ranges.{Bytes, PassesFit, PitchFits, NoteFits, MeasureFits, SyllableFits, PartFits}
 
 -- two lists of bytes, one after the other
@@ -101,8 +101,8 @@ counts-bytes [] = tt
 counts-bytes (v ∷ vs) = All-append _ (le32 (length v)) (noteCounts vs) (little-bytes 4 (length v)) (counts-bytes vs)
 
 -- a key mark
-mark-bytes : (k : Option Key) → Bytes (markBytes k)
-unfolding markBytes
+mark-bytes : (k : Option Key) → Bytes (keyMarkBytes k)
+unfolding keyMarkBytes
 mark-bytes none = (lit< tt, (lit< tt, tt))
 mark-bytes (some k) = (mode-byte (k .minor), (signed-byte (k .fifths), tt))
 
@@ -118,7 +118,7 @@ unfolding measureBytes
 measure-bytes m h =
     let one = noteCounts (m .voices) in
     let two : List ℕ = barlineCode (m .left) ∷ barlineCode (m .right) ∷ m .meter .0 ∷ m .meter .1 ∷ [] in
-    let three = markBytes (m .key) in
+    let three = keyMarkBytes (m .key) in
     let four : List ℕ = voltaCode (m .volta) ∷ getD (m .passes) 0 0 ∷ le32 (passBits (m .passes)) in
     let b : Bytes two = (barline-byte (m .left), (barline-byte (m .right), (h .meter-fits .0, (h .meter-fits .1, tt)))) in
     let d : Bytes four = (volta-byte (m .volta), (first-pass 0 (m .passes) (h .passes-fit), little-bytes 4 (passBits (m .passes)))) in
@@ -169,7 +169,7 @@ notes-fit [] h = tt
 notes-fit (m ∷ ms) h = All-append _ (byVoice 0 (m .voices)) (allNotes ms) (voices-fit 0 (m .voices) (h .0 .voices-fit)) (notes-fit ms (h .1))
 
 -- their pitches
-pitches-fit : (xs : List (ℕ × Note)) → All (λ (x : ℕ × Note). NoteFits (x .1)) xs → All PitchFits (cat (map (λ (x : ℕ × Note). x .1 .pitches) xs))
+pitches-fit : (xs : List (ℕ × Note)) → All (λ (x : ℕ × Note). NoteFits (x .1)) xs → All PitchFits (concat (map (λ (x : ℕ × Note). x .1 .pitches) xs))
 pitches-fit [] h = tt
 pitches-fit (x ∷ xs) h = All-append PitchFits (x .1 .pitches) _ (h .0 .pitches-fit) (pitches-fit xs (h .1))
 
@@ -189,7 +189,7 @@ lyrics-fit i (x ∷ xs) (w ∷ ws) h =
     (λ e. rw (e, lyricsOf) (lyrics-fit (suc i) xs (w ∷ ws) h))
 
 -- their text
-text-fits : (ys : List (ℕ × Syllable)) → All (λ (x : ℕ × Syllable). SyllableFits (x .1)) ys → Bytes (cat (map (λ (x : ℕ × Syllable). x .1 .text) ys))
+text-fits : (ys : List (ℕ × Syllable)) → All (λ (x : ℕ × Syllable). SyllableFits (x .1)) ys → Bytes (concat (map (λ (x : ℕ × Syllable). x .1 .text) ys))
 text-fits [] h = tt
 text-fits (y ∷ ys) h = All-append _ (y .1 .text) _ (h .0 .text-fits) (text-fits ys (h .1))
 
@@ -198,7 +198,7 @@ section-bytes {ℓ} : {A : Type ℓ} (P : A → Type 0) (f : A → List ℕ) →
 unfolding section
 section-bytes {A = A} P f h xs k = All-append _ (le32 (length xs)) _ (little-bytes 4 (length xs)) (records xs k)
   where
-    records : (xs : List A) → All P xs → Bytes (cat (map f xs))
+    records : (xs : List A) → All P xs → Bytes (concat (map f xs))
     records [] k = tt
     records (x ∷ xs) k = All-append _ (f x) _ (h x (k .0)) (records xs (k .1))
 
@@ -212,8 +212,8 @@ unfolding sections notesOf pitchesOf lyrics lyricText
 sections-bytes p h =
     let ns = allNotes (p .measures) in
     let ys = lyricsOf 0 ns (p .words) in
-    let ps = cat (map (λ (x : ℕ × Note). x .1 .pitches) ns) in
-    let ts = cat (map (λ (x : ℕ × Syllable). x .1 .text) ys) in
+    let ps = concat (map (λ (x : ℕ × Note). x .1 .pitches) ns) in
+    let ts = concat (map (λ (x : ℕ × Syllable). x .1 .text) ys) in
     let nf : All (λ (x : ℕ × Note). NoteFits (x .1)) ns = notes-fit (p .measures) (h .measures-fit) in
     let yf : All (λ (x : ℕ × Syllable). SyllableFits (x .1)) ys = lyrics-fit 0 ns (p .words) (h .words-fit) in
     let bn : ℕ × Note → List ℕ = λ x. noteBytes (x .1) in

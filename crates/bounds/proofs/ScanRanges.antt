@@ -8,21 +8,21 @@ use native.Mathlib.Omega.{arith}
 use lib.Dec.{eqb, leb, ltb, lit<, lit≤}
 use lib.ListN.{length, drop, length-append}
 use borrow.Author.Tests.{leb-false}
-use Rattle.laws.specs.Lists.{All, has, isNil}
+use Rattle.laws.specs.Lists.{All, elem, isNil}
 use Rattle.laws.proofs.Bools.{by-test}
 use Rattle.laws.proofs.Lists.{All-append}
 use Rattle.standard.specs.Fields.{Meter}
-use Rattle.reader.specs.Text.{isBlank, push, rows, cut, trim, clean, hasHigh}
+use Rattle.reader.specs.Text.{isBlank, push, textLines, cut, trim, clean, hasHigh}
 use Rattle.reader.specs.Fields.{middleWord, identifier}
 use Rattle.reader.specs.Token.{Token, space, overlay, quoted, broken, tuplet, slur, graceOpen, graceClose, decoration, barline, volta, chord, rest, note, nothing, skipped}
 use Rattle.reader.specs.Token
-use Rattle.reader.specs.Tokens.{tokens, Effect, counts, refuses, setsUnit, setsMeter, passes, effectOf, effects}
+use Rattle.reader.specs.Tokens.{tokens, Effect, counts, refuses, setsUnit, setsMeter, noEffect, effectOf, effects}
 use Rattle.reader.specs.Lines.{isV, isK, isL, isM, isX, isLyric, isField, Kind, blank, refused, lyric, voice, key, meter, unit, tune, other, music, voiceKind, keyKind, fieldKind, lineKind, kindOf}
-use Rattle.reader.specs.Steps.{Row, refuse, on, run, first}
+use Rattle.reader.specs.Steps.{TextLine, refuse, on, run, first}
 use Rattle.reader.specs.Scan.{Item, ScanState, begin, mostNotes, mostVoices, mostLines, lastMeter, firstRefusal, voicesBefore, playOn, voiceOn, unitOn, act, step, scan, Out, Items}
 use Rattle.bounds.specs.Ranges.{Bytes, MeterFits, TokenFits, ItemFits}
 use Rattle.bounds.proofs.TokenRanges.{tokens-fit, meter-fits}
-use Rattle.bounds.proofs.ScanCosts.{before-count}
+use Rattle.bounds.proofs.ScanWeights.{before-count}
 
 -- ROWS AND LINES of bytes
 pub push-bytes : (c : ℕ) (ps : List (List ℕ)) → c < 256 → All Bytes ps → All Bytes (push c ps)
@@ -30,10 +30,10 @@ push-bytes c [] h k = ((h, tt), tt)
 push-bytes c (p ∷ ps) h k = ((h, k .0), k .1)
 
 -- each row
-pub rows-bytes : (t : List ℕ) → Bytes t → All Bytes (rows t)
-unfolding rows
+pub rows-bytes : (t : List ℕ) → Bytes t → All Bytes (textLines t)
+unfolding textLines
 rows-bytes [] h = tt
-rows-bytes (c ∷ t) h = by-test (eqb c 10) (λ e. rw e ((h .0, tt), rows-bytes t (h .1))) (λ e. rw e (push-bytes c (rows t) (h .0) (rows-bytes t (h .1))))
+rows-bytes (c ∷ t) h = by-test (eqb c 10) (λ e. rw e ((h .0, tt), rows-bytes t (h .1))) (λ e. rw e (push-bytes c (textLines t) (h .0) (rows-bytes t (h .1))))
 
 -- cut
 cut-bytes : (r : List ℕ) → Bytes r → Bytes (cut r)
@@ -64,7 +64,7 @@ EffectFits counts = Unit {0}
 EffectFits (refuses n) = (4 ≤ n) × (n ≤ 14)
 EffectFits (setsUnit u) = Unit {0}
 EffectFits (setsMeter m) = MeterFits m
-EffectFits passes = Unit {0}
+EffectFits noEffect = Unit {0}
 
 -- of a token
 effect-fits : (t : Token) → TokenFits t → EffectFits (effectOf t)
@@ -109,7 +109,7 @@ last-fits (counts ∷ es) m f h = last-fits es m (f .1) h
 last-fits (refuses k ∷ es) m f h = last-fits es m (f .1) h
 last-fits (setsUnit u ∷ es) m f h = last-fits es m (f .1) h
 last-fits (setsMeter n ∷ es) m f h = last-fits es n (f .1) (f .0)
-last-fits (passes ∷ es) m f h = last-fits es m (f .1) h
+last-fits (noEffect ∷ es) m f h = last-fits es m (f .1) h
 
 -- the first refusal among them
 unfoldable Refusal : Option ℕ → Type 0
@@ -124,7 +124,7 @@ first-fits n (counts ∷ es) f = by-test (ltb n mostNotes) (λ e. rw e (first-fi
 first-fits n (refuses k ∷ es) f = f .0
 first-fits n (setsUnit u ∷ es) f = first-fits n es (f .1)
 first-fits n (setsMeter m ∷ es) f = first-fits n es (f .1)
-first-fits n (passes ∷ es) f = first-fits n es (f .1)
+first-fits n (noEffect ∷ es) f = first-fits n es (f .1)
 
 -- KINDS
 unfoldable KindRange : Kind → Type 0
@@ -211,7 +211,7 @@ act-out s (lyric t) true h f = (record { meter-in = h .meter-in; voices-in = h .
 act-out s (lyric t) false h f = (record { meter-in = h .meter-in; voices-in = h .voices-in }, (f, tt))
 act-out s (voice v mid) b h f =
     let vs = voicesBefore s in
-    voice-out s v vs h (before-most s h) (has v vs) (leb mostVoices (length vs)) mid (λ e. leb-false mostVoices (length vs) e)
+    voice-out s v vs h (before-most s h) (elem v vs) (leb mostVoices (length vs)) mid (λ e. leb-false mostVoices (length vs) e)
 act-out s (key k) true h f = (record { meter-in = h .meter-in; voices-in = h .voices-in }, (tt, tt))
 act-out s (key k) false h f = (record { meter-in = h .meter-in; voices-in = h .voices-in }, (tt, tt))
 act-out s (meter m) true h f = (record { meter-in = f; voices-in = h .voices-in }, tt)
@@ -225,7 +225,7 @@ act-out s (music true es l) false h f = (lit≤ tt, lit≤ tt)
 act-out s (music false es l) false h f = play-out s es l (firstRefusal (s .notes) es) h f (first-fits (s .notes) es f)
 
 -- a row
-step-out : (s : ScanState) (r : Row) → ScanFits s → Bytes r → OutFits (step s r)
+step-out : (s : ScanState) (r : TextLine) → ScanFits s → Bytes r → OutFits (step s r)
 unfolding step kindOf OutFits
 step-out s r h b =
     by-test (ltb (s .lines) mostLines) (λ e. rw e (act-out s (lineKind (clean r)) (s .env .inHeader) h (kind-range (clean r) (clean-bytes r b)))) (λ e. rw e (lit≤ tt, lit≤ tt))
@@ -237,7 +237,7 @@ first-out a (refuse n l) h f = f
 first-out a (on t b) h f = (f .0, All-append _ a b h (f .1))
 
 -- any rows
-run-out : (rs : List Row) (s : ScanState) → ScanFits s → All Bytes rs → OutFits (run step s rs)
+run-out : (rs : List TextLine) (s : ScanState) → ScanFits s → All Bytes rs → OutFits (run step s rs)
 unfolding OutFits
 run-out [] s h b = (h, tt)
 run-out (r ∷ rs) s h b = go (step s r) refl (step-out s r h (b .0)) (λ t k. run-out rs t k (b .1))
@@ -247,6 +247,6 @@ run-out (r ∷ rs) s h b = go (step s r) refl (step-out s r h (b .0)) (λ t k. r
     go (on t a) e f ih = rw (e, run) (first-out a (run step t rs) (f .1) (ih t (f .0)))
 
 -- THE SCAN OF A TEXT of bytes
-pub scan-out : (text : List ℕ) → Bytes text → OutFits (scan (rows text))
+pub scan-out : (text : List ℕ) → Bytes text → OutFits (scan (textLines text))
 unfolding scan begin
-scan-out text h = run-out (rows text) begin (record { meter-in = (lit< tt, lit< tt); voices-in = lit≤ tt }) (rows-bytes text h)
+scan-out text h = run-out (textLines text) begin (record { meter-in = (lit< tt, lit< tt); voices-in = lit≤ tt }) (rows-bytes text h)

@@ -5,14 +5,14 @@ use mathlib.Core.Bool.{true}
 use mathlib.Core.List.{List, _++_}
 use lib.Dec.{ltb}
 use lib.ListN.{length, replicate}
-use Rattle.laws.specs.Lists.{cat}
+use Rattle.laws.specs.Lists.{concat}
 use Rattle.standard.specs.Bytes.{ascii}
 use Rattle.reader.specs.Answer.{Verdict, refusal, reading, encode, scratchNeeded, parseAbc}
 use Rattle.reader.specs.All.{all}
 
 -- a note and a barline, sixty times
 abbrev text : List ℕ
-text = ascii "K:\n" ++ cat (replicate 60 (ascii "A|"))
+text = ascii "K:\n" ++ concat (replicate 60 (ascii "A|"))
 
 -- the length of a reading
 abbrev lengthOf : Verdict → ℕ

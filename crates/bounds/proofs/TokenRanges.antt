@@ -9,7 +9,7 @@ use native.Mathlib.Omega.{arith}
 use lib.Dec.{ltb, leb, eqb, lit<, lit≤}
 use lib.ListN.{length, take, drop}
 use borrow.Author.Tests.{ltb-true, ltb-false, leb-true}
-use Rattle.laws.specs.Lists.{span, all, isNil, eqText, All}
+use Rattle.laws.specs.Lists.{countWhile, all, isNil, eqText, All}
 use Rattle.laws.proofs.Bools.{by-test, and-left, and-right}
 use Rattle.standard.specs.Bytes.{ascii, is, isDigit, first, decimal, digits}
 use Rattle.standard.specs.Fields.{Meter, namedMeter}
@@ -17,7 +17,7 @@ use Rattle.standard.specs.Passes.{Item, pass, passes, rising, passesOf}
 use Rattle.standard.specs.Bars.{Symbol, barSymbols, symbolAt}
 use Rattle.standard.specs.Tuplets.{usualNormal}
 use Rattle.standard.specs.Pitches.{Accidental, Written, isLetter, stepOf, letterOctave}
-use Rattle.reader.specs.Pieces.{numeral, before, after, pieces, mark, trimmed}
+use Rattle.reader.specs.Pieces.{numeral, before, after, pieces, separator, trimmed}
 use Rattle.reader.specs.Fields.{orFour, meterNumber, meterBottom, meterOr, meterText, meterOf, unitInline, middleWord}
 use Rattle.reader.specs.Pitches.{octaveFrom, octaveOf, Before, signs, accidentalOf, natural, quarterTone, moved, added, isQuarter, consPitch, chordOf}
 use Rattle.reader.specs.Token.{Token, quoted, decoration, skipped, Taken, taken}
@@ -27,7 +27,7 @@ use Rattle.reader.specs.PassLists.{passNumber, single, range, itemOf, lastPass,
 use Rattle.reader.specs.Inline.{unitToken, keyToken, fieldToken, isInline, inlineAt}
 use Rattle.reader.specs.Sounds.{chordTaken, chordAt, restAs, noteAs, noteAfter, noteOf}
 use Rattle.reader.specs.Tokens.{closedBy, brokenOf, bracketOf, Class, white, ampersand, quote, more, less, paren, braceOpen, braceClose, bang, plus, bars, bracket, pitched, none-of-these, resting, classOf, tokenAs, tokenOf, tokens}
-use Rattle.bounds.specs.Ranges.{MeterFits, PassesFit, MarkFits, WrittenFits, TokenFits}
+use Rattle.bounds.specs.Ranges.{MeterFits, PassesFit, SignFits, WrittenFits, TokenFits}
 
 -- NUMBERS
 -- a number that is read is at most what may be read
@@ -154,8 +154,8 @@ list-fits : (low : ℕ) (xs : List (List ℕ)) → ListFits low (passList low xs
 unfolding passList ListFits PassesFit
 list-fits low [] = tt
 list-fits low (x ∷ xs) =
-    let i = itemOf low (pieces (mark (is "-")) 0 x) in
-    turn-fits low i (passList (lastPass low i) xs) (item-above low (pieces (mark (is "-")) 0 x)) (list-fits (lastPass low i) xs)
+    let i = itemOf low (pieces (separator (is "-")) 0 x) in
+    turn-fits low i (passList (lastPass low i) xs) (item-above low (pieces (separator (is "-")) 0 x)) (list-fits (lastPass low i) xs)
 
 -- TUPLETS
 zero-most : (top : ℕ) (o : Option ℕ) → Most top o → Most top (notZero o)
@@ -166,7 +166,7 @@ zero-most top (some v) h = by-test (eqb v 0) (λ e. rw e tt) (λ e. rw e h)
 -- a number that is not 0
 pub positive-most : (top : ℕ) (s : List ℕ) → Most top (positive top s)
 unfolding positive
-positive-most top s = zero-most top (digits top (take (span isDigit s) s)) (digits-most top (take (span isDigit s) s))
+positive-most top s = zero-most top (digits top (take (countWhile isDigit s) s)) (digits-most top (take (countWhile isDigit s) s))
 
 -- the usual normal, or one less
 less-most : (p : ℕ) (o : Option ℕ) → p ≤ 255 → Most 255 o → orOneLess p o ≤ 255
@@ -202,14 +202,14 @@ count-fits : (p q n : ℕ) (s : List ℕ) → p ≤ 255 → q ≤ 255 → TakenF
 unfolding withCount TakenFits TokenFits
 count-fits p q n s h k =
     by-test (is ":" (first s))
-    (λ e. rw (e, withCount) (counted-fits p q (n + 1 + span isDigit (drop 1 s)) (positive (2 ^ 64 - 1) (drop 1 s)) h k))
+    (λ e. rw (e, withCount) (counted-fits p q (n + 1 + countWhile isDigit (drop 1 s)) (positive (2 ^ 64 - 1) (drop 1 s)) h k))
     (λ e. rw (e, withCount) (omega arith, omega arith))
 
 -- up to its normal
 normal-fits : (p n : ℕ) (s : List ℕ) (o : Option ℕ) → p ≤ 255 → Most 255 o → TakenFits (withNormal p n s o)
 unfolding withNormal TakenFits Most
 normal-fits p n s none h k = tt
-normal-fits p n s (some q) h k = count-fits p q (n + 1 + span isDigit (drop 1 s)) (drop (1 + span isDigit (drop 1 s)) s) h k
+normal-fits p n s (some q) h k = count-fits p q (n + 1 + countWhile isDigit (drop 1 s)) (drop (1 + countWhile isDigit (drop 1 s)) s) h k
 
 -- up to its actual
 actual-fits : (n : ℕ) (s : List ℕ) (o : Option ℕ) → Most 255 o → TakenFits (withActual n s o)
@@ -231,7 +231,7 @@ slur-fits (some t) h = h
 -- a tuplet
 tuplet-fits : (s : List ℕ) → TokenFits (orSlur (tupletOf s) .token)
 unfolding tupletOf
-tuplet-fits s = slur-fits (tupletOf s) (actual-fits (1 + span isDigit s) (drop (span isDigit s) s) (positive 255 s) (positive-most 255 s))
+tuplet-fits s = slur-fits (tupletOf s) (actual-fits (1 + countWhile isDigit s) (drop (countWhile isDigit s) s) (positive 255 s) (positive-most 255 s))
 
 -- PITCHES
 -- a step is one of seven
@@ -244,8 +244,8 @@ octave-small : (c : ℕ) (s : List ℕ) → octaveOf c s .fine ≡ true → octa
 unfolding octaveOf octaveFrom
 octave-small c s e =
     let start = letterOctave c in
-    let down = span (is ",") s in
-    let up = span (is "'") (drop down s) in
+    let down = countWhile (is ",") s in
+    let up = countWhile (is "'") (drop down s) in
     omega (arith, leb-true (start - down + up) 255 (and-right (leb down start) (leb (start - down + up) 255) e))
 
 -- a sign more
@@ -254,29 +254,29 @@ moved-small true n a h = omega arith
 moved-small false n a h = omega arith
 
 -- a quarter tone
-quarter-fits : (up : Bool) → MarkFits (some (quarterTone up))
-unfolding MarkFits
+quarter-fits : (up : Bool) → SignFits (some (quarterTone up))
+unfolding SignFits
 quarter-fits true = (lit< tt, lit< tt)
 quarter-fits false = (lit< tt, lit< tt)
 
 -- a run of signs
-signs-fit : (up : Bool) (n : ℕ) (s : List ℕ) → MarkFits (signs up n s .mark)
-unfolding signs MarkFits
+signs-fit : (up : Bool) (n : ℕ) (s : List ℕ) → SignFits (signs up n s .sign)
+unfolding signs SignFits
 signs-fit up n s =
     by-test (eqb n 1 && is "/" (first (drop n s))) (λ e. rw (e, signs) (quarter-fits up)) (λ e. rw (e, signs) (moved-small up n 128 (lit< tt), lit< tt))
 
 -- an accidental before a note
-accidental-fits : (s : List ℕ) → MarkFits (accidentalOf s .mark)
-unfolding accidentalOf MarkFits
+accidental-fits : (s : List ℕ) → SignFits (accidentalOf s .sign)
+unfolding accidentalOf SignFits
 accidental-fits s =
-    by-test (is "^" (first s)) (λ e. rw (e, accidentalOf) (signs-fit true (span (is "^") s) s))
+    by-test (is "^" (first s)) (λ e. rw (e, accidentalOf) (signs-fit true (countWhile (is "^") s) s))
     (λ e. rw (e, accidentalOf)
-    (by-test (is "_" (first s)) (λ f. rw (f, accidentalOf) (signs-fit false (span (is "_") s) s))
+    (by-test (is "_" (first s)) (λ f. rw (f, accidentalOf) (signs-fit false (countWhile (is "_") s) s))
     (λ f. rw (f, accidentalOf) (by-test (is "=" (first s)) (λ g. rw g (lit< tt, lit< tt)) (λ g. rw g tt)))))
 
 -- signs that add up in a chord
-added-fits : (up : Bool) (a : Option Accidental) → MarkFits a → MarkFits (some (added up a))
-unfolding added MarkFits
+added-fits : (up : Bool) (a : Option Accidental) → SignFits a → SignFits (some (added up a))
+unfolding added SignFits
 added-fits up none h = (moved-small up 1 128 (lit< tt), lit< tt)
 added-fits up (some a) h = (moved-small up 1 (a .alter) (h .0), lit< tt)
 
@@ -286,7 +286,7 @@ ChordFits none = Unit {0}
 ChordFits (some ws) = All WrittenFits ws
 
 -- one pitch before the others
-cons-fits : (c : ℕ) (a : Option Accidental) (s : List ℕ) (r : Option (List Written)) → MarkFits a → ChordFits r → ChordFits (consPitch c a (octaveOf c s) r)
+cons-fits : (c : ℕ) (a : Option Accidental) (s : List ℕ) (r : Option (List Written)) → SignFits a → ChordFits r → ChordFits (consPitch c a (octaveOf c s) r)
 unfolding consPitch ChordFits
 cons-fits c a s none h k = tt
 cons-fits c a s (some ws) h k =
@@ -295,17 +295,17 @@ cons-fits c a s (some ws) h k =
     (λ e. rw (e, consPitch) tt)
 
 -- no accidental
-no-mark : MarkFits none
-unfolding MarkFits
+no-mark : SignFits none
+unfolding SignFits
 no-mark = tt
 
 -- a natural
-natural-fits : MarkFits (some natural)
-unfolding MarkFits
+natural-fits : SignFits (some natural)
+unfolding SignFits
 natural-fits = (lit< tt, lit< tt)
 
 -- all of them
-chord-fits : (k : ℕ) (a : Option Accidental) (s : List ℕ) → MarkFits a → ChordFits (chordOf k a s)
+chord-fits : (k : ℕ) (a : Option Accidental) (s : List ℕ) → SignFits a → ChordFits (chordOf k a s)
 unfolding chordOf ChordFits
 chord-fits k a [] h = tt
 chord-fits zero a (c ∷ s) h =
@@ -338,10 +338,10 @@ taken-fits n s (some (w ∷ ws)) h = h
 -- the same from its bracket on
 chordAt-fits : (s : List ℕ) → TokenFits (chordAt s .token)
 unfolding chordAt
-chordAt-fits s = let n = span (λ c. not (is "]" c)) s in taken-fits (cond (ltb n (length s)) (2 + n) (1 + n)) (drop (suc n) s) (chordOf 0 none s) (chord-fits 0 none s no-mark)
+chordAt-fits s = let n = countWhile (λ c. not (is "]" c)) s in taken-fits (cond (ltb n (length s)) (2 + n) (1 + n)) (drop (suc n) s) (chordOf 0 none s) (chord-fits 0 none s no-mark)
 
 -- a note from its letter on
-noteAs-fits : (a : Before) (c : ℕ) (s : List ℕ) → MarkFits (a .mark) → TokenFits (noteAs a c s .token)
+noteAs-fits : (a : Before) (c : ℕ) (s : List ℕ) → SignFits (a .sign) → TokenFits (noteAs a c s .token)
 unfolding noteAs TokenFits
 noteAs-fits a c s h =
     by-test (octaveOf c s .fine)
@@ -349,7 +349,7 @@ noteAs-fits a c s h =
     (λ e. rw (e, noteAs) (lit≤ tt, lit≤ tt))
 
 -- a note behind its accidental
-noteAfter-fits : (a : Before) (r : List ℕ) → MarkFits (a .mark) → TokenFits (noteAfter a r .token)
+noteAfter-fits : (a : Before) (r : List ℕ) → SignFits (a .sign) → TokenFits (noteAfter a r .token)
 unfolding noteAfter TokenFits
 noteAfter-fits a [] h = tt
 noteAfter-fits a (c ∷ r) h = by-test (isLetter c) (λ e. rw (e, noteAfter) (noteAs-fits a c r h)) (λ e. rw (e, noteAfter) tt)
@@ -362,7 +362,7 @@ note-fits s = let a = accidentalOf s in noteAfter-fits a (drop (a .used) s) (acc
 -- a quote or decoration
 closed-fits : (x : ℕ → Bool) (t : Token) (s : List ℕ) (other : Taken) → TokenFits t → TokenFits (other .token) → TokenFits (closedBy x t s other .token)
 unfolding closedBy
-closed-fits x t s other g h = by-test (ltb (span (λ c. not (x c)) s) (length s)) (λ e. rw (e, closedBy) g) (λ e. rw (e, closedBy) h)
+closed-fits x t s other g h = by-test (ltb (countWhile (λ c. not (x c)) s) (length s)) (λ e. rw (e, closedBy) g) (λ e. rw (e, closedBy) h)
 
 -- a broken rhythm
 broken-fits : (up : Bool) (n : ℕ) (s : List ℕ) → TokenFits (brokenOf up n s .token)
@@ -408,12 +408,12 @@ field-fits s =
 bracket-fits : (s : List ℕ) → TokenFits (bracketOf s .token)
 unfolding bracketOf voltaOf inlineAt
 bracket-fits s =
-    let n = span isPassByte s in
-    let xs = pieces (mark (is ",")) 0 (take n s) in
+    let n = countWhile isPassByte s in
+    let xs = pieces (separator (is ",")) 0 (take n s) in
     by-test (isDigit (first s))
     (λ e. rw (e, bracketOf) (volta-fits n s (passList 0 xs) (list-fits 0 xs)))
     (λ e. rw (e, bracketOf)
-    (by-test (isInline s) (λ f. rw (f, bracketOf) (field-fits (take (span (λ c. not (is "]" c)) s) s))) (λ f. rw (f, bracketOf) (chordAt-fits s))))
+    (by-test (isInline s) (λ f. rw (f, bracketOf) (field-fits (take (countWhile (λ c. not (is "]" c)) s) s))) (λ f. rw (f, bracketOf) (chordAt-fits s))))
 
 -- of any class
 as-fits : (k : Class) (s : List ℕ) → TokenFits (tokenAs k s .token)
@@ -421,8 +421,8 @@ unfolding tokenAs restAs barlineOf TokenFits
 as-fits white s = tt
 as-fits ampersand s = tt
 as-fits quote s = closed-fits (is "\"") quoted (drop 1 s) (taken quoted (length s)) tt tt
-as-fits more s = broken-fits true (suc (span (is ">") (drop 1 s))) s
-as-fits less s = broken-fits false (suc (span (is "<") (drop 1 s))) s
+as-fits more s = broken-fits true (suc (countWhile (is ">") (drop 1 s))) s
+as-fits less s = broken-fits false (suc (countWhile (is "<") (drop 1 s))) s
 as-fits paren s = tuplet-fits (drop 1 s)
 as-fits braceOpen s = tt
 as-fits braceClose s = tt

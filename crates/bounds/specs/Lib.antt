@@ -1,2 +1,2 @@
-pub mod Prices
+pub mod Weights
 pub mod Ranges

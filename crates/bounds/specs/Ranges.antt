@@ -7,7 +7,7 @@ use Rattle.laws.specs.Lists.{All}
 use Rattle.standard.specs.Pitches.{Accidental, Written, Pitch}
 use Rattle.standard.specs.Fields.{Meter}
 use Rattle.reader.specs.Token.{Token, space, overlay, quoted, broken, tuplet, slur, graceOpen, graceClose, decoration, barline, volta, unit, meter, key, field, chord, rest, note, nothing, skipped, refused}
-use Rattle.reader.specs.Scan.{Item, born, reset, headed, keyed, metered, sung, played}
+use Rattle.reader.specs.Scan.{Item, voiceDeclared, reset, keyInHeader, keyChange, meterChange, lyricLine, musicLine}
 use Rattle.reader.specs.State.{Note, Measure, Running, Sung, PartState}
 use Rattle.reader.specs.Lyrics.{Syllable}
 use Rattle.reader.specs.Part.{Part}
@@ -27,15 +27,15 @@ PassesFit low [] = Unit {0}
 PassesFit low (a ∷ ps) = (low < a) × ((a ≤ 32) × PassesFit a ps)
 
 -- an accidental, if there is one: both with 128 added
-unfoldable pub MarkFits : Option Accidental → Type 0
-MarkFits none = Unit {0}
-MarkFits (some a) = (a .alter < 256) × (a .cents < 256)
+unfoldable pub SignFits : Option Accidental → Type 0
+SignFits none = Unit {0}
+SignFits (some a) = (a .alter < 256) × (a .cents < 256)
 
 -- a pitch as written
 pub record WrittenFits (w : Written) : Type 0 where
   pub step-fits : w .step < 7
   pub octave-fits : w .octave < 256
-  pub mark-fits : MarkFits (w .mark)
+  pub mark-fits : SignFits (w .sign)
 
 -- a pitch as sounded
 pub record PitchFits (p : Pitch) : Type 0 where
@@ -109,13 +109,13 @@ pub record StateFits (s : PartState) : Type 0 where
 
 -- an item
 unfoldable pub ItemFits : Item → Type 0
-ItemFits (born b) = Unit {0}
+ItemFits (voiceDeclared b) = Unit {0}
 ItemFits reset = Unit {0}
-ItemFits headed = Unit {0}
-ItemFits (keyed k) = Unit {0}
-ItemFits (metered m) = MeterFits m
-ItemFits (sung b t) = Bytes t
-ItemFits (played u m l) = MeterFits m
+ItemFits keyInHeader = Unit {0}
+ItemFits (keyChange k) = Unit {0}
+ItemFits (meterChange m) = MeterFits m
+ItemFits (lyricLine b t) = Bytes t
+ItemFits (musicLine u m l) = MeterFits m
 
 -- a finished part
 pub record PartFits (p : Part) : Type 0 where

@@ -6,7 +6,7 @@ use mathlib.Core.Option.{Option, none, some}
 use mathlib.Core.List.{List}
 use lib.Dec.{ltb}
 use lib.ListN.{length, drop}
-use Rattle.laws.specs.Lists.{span}
+use Rattle.laws.specs.Lists.{countWhile}
 use Rattle.laws.proofs.Bools.{by-test}
 use Rattle.standard.specs.Bytes.{is, isDigit, first}
 use Rattle.reader.specs.Token.{Token, Taken}
@@ -15,7 +15,7 @@ use Rattle.reader.specs.PassLists.{voltaAs}
 use Rattle.reader.specs.Inline.{unitToken, keyToken, fieldToken}
 use Rattle.reader.specs.Fields.{unitInline, middleWord}
 use Rattle.reader.specs.Tokens.{closedBy, brokenOf}
-use Rattle.capacity.specs.Pays.{makes, none-made}
+use Rattle.capacity.specs.Covers.{makes, none-made}
 
 abbrev pub Makes-nothing : Taken → Type 0
 Makes-nothing t = makes (t .token) ≡ none-made
@@ -23,7 +23,7 @@ Makes-nothing t = makes (t .token) ≡ none-made
 -- a quote or decoration
 pub closed-free : (x : ℕ → Bool) (t : Token) (s : List ℕ) (other : Taken) → makes t ≡ none-made → Makes-nothing other → Makes-nothing (closedBy x t s other)
 unfolding closedBy
-closed-free x t s other g h = by-test (ltb (span (λ c. not (x c)) s) (length s)) (λ e. rw (e, closedBy) g) (λ e. rw (e, closedBy) h)
+closed-free x t s other g h = by-test (ltb (countWhile (λ c. not (x c)) s) (length s)) (λ e. rw (e, closedBy) g) (λ e. rw (e, closedBy) h)
 
 -- a broken rhythm
 pub broken-free : (up : Bool) (n : ℕ) (s : List ℕ) → Makes-nothing (brokenOf up n s)
@@ -44,13 +44,13 @@ count-free : (a q n : ℕ) (s : List ℕ) → Free (withCount a q n s)
 unfolding withCount Free
 count-free a q n s =
     by-test (is ":" (first s))
-    (λ e. rw (e, withCount) (counted-free a q (n + 1 + span isDigit (drop 1 s)) (positive (2 ^ 64 - 1) (drop 1 s))))
+    (λ e. rw (e, withCount) (counted-free a q (n + 1 + countWhile isDigit (drop 1 s)) (positive (2 ^ 64 - 1) (drop 1 s))))
     (λ e. rw (e, withCount) refl)
 
 normal-free : (a n : ℕ) (s : List ℕ) (o : Option ℕ) → Free (withNormal a n s o)
 unfolding withNormal Free
 normal-free a n s none = tt
-normal-free a n s (some q) = count-free a q (n + 1 + span isDigit (drop 1 s)) (drop (1 + span isDigit (drop 1 s)) s)
+normal-free a n s (some q) = count-free a q (n + 1 + countWhile isDigit (drop 1 s)) (drop (1 + countWhile isDigit (drop 1 s)) s)
 
 actual-free : (n : ℕ) (s : List ℕ) (o : Option ℕ) → Free (withActual n s o)
 unfolding withActual Free
@@ -69,7 +69,7 @@ slur-free (some t) h = h
 -- a tuplet or a slur
 pub tuplet-free : (s : List ℕ) → Makes-nothing (orSlur (tupletOf s))
 unfolding tupletOf
-tuplet-free s = slur-free (tupletOf s) (actual-free (1 + span isDigit s) (drop (span isDigit s) s) (positive 255 s))
+tuplet-free s = slur-free (tupletOf s) (actual-free (1 + countWhile isDigit s) (drop (countWhile isDigit s) s) (positive 255 s))
 
 -- an ending
 pub volta-free : (n : ℕ) (s : List ℕ) (o : Option (List ℕ)) → Makes-nothing (voltaAs n s o)

@@ -7,21 +7,21 @@ use native.Mathlib.Nat.{not-suc-le-zero}
 use native.Mathlib.Omega.{arith}
 use lib.ListN.{length, take, drop, take-append-drop, length-append, length-drop}
 use lib.Seq.{drop-drop}
-use Rattle.laws.specs.Lists.{keep, sum}
+use Rattle.laws.specs.Lists.{filter, sum}
 use Rattle.laws.proofs.Bools.{by-test}
-use Rattle.laws.proofs.Lists.{keep-append}
+use Rattle.laws.proofs.Lists.{filter-append}
 use Rattle.standard.specs.Pitches.{isLetter}
 use Rattle.reader.specs.Tokens.{tokenOf}
 use Rattle.capacity.specs.Sizes.{isBar, isRest, isSign, bars, letters, rests, signs, tones}
-use Rattle.capacity.specs.Pays.{Pays, Spends}
-use Rattle.capacity.proofs.Weights.{Prices, Covered, cost, token-paid}
+use Rattle.capacity.specs.Covers.{Covers, CoversBoth}
+use Rattle.capacity.proofs.Weights.{Prices, Covered, cost, token-covered}
 
 -- HOW MANY PASS A TEST, in both parts of a list
-pub count-both : (p : ℕ → Bool) (s t : List ℕ) → length (keep p (s ++ t)) ≡ length (keep p s) + length (keep p t)
-count-both p s t = ap length (keep-append p s t) ∙ length-append (keep p s) (keep p t)
+pub count-both : (p : ℕ → Bool) (s t : List ℕ) → length (filter p (s ++ t)) ≡ length (filter p s) + length (filter p t)
+count-both p s t = ap length (filter-append p s t) ∙ length-append (filter p s) (filter p t)
 
-pub count-split : (p : ℕ → Bool) (n : ℕ) (s : List ℕ) → length (keep p (take n s)) + length (keep p (drop n s)) ≡ length (keep p s)
-count-split p n s = sym (count-both p (take n s) (drop n s)) ∙ ap (λ (l : List ℕ). length (keep p l)) (take-append-drop n s)
+pub count-split : (p : ℕ → Bool) (n : ℕ) (s : List ℕ) → length (filter p (take n s)) + length (filter p (drop n s)) ≡ length (filter p s)
+count-split p n s = sym (count-both p (take n s) (drop n s)) ∙ ap (λ (l : List ℕ). length (filter p l)) (take-append-drop n s)
 
 -- what two texts can make, one behind the other
 pub bars-both : (s t : List ℕ) → bars (s ++ t) ≡ bars s + bars t
@@ -67,14 +67,14 @@ tones-split n s = omega (arith, letters-split n s, rests-split n s)
 abbrev one : Bool → ℕ
 one b = cond b 1 0
 
-one-paid : (b : Bool) → b ≡ true → 1 ≤ one b
-one-paid b e = rw e (omega arith)
+one-covered : (b : Bool) → b ≡ true → 1 ≤ one b
+one-covered b e = rw e (omega arith)
 
-count-sum : (p : ℕ → Bool) (s : List ℕ) → length (keep p s) ≡ sum (λ c. one (p c)) s
+count-sum : (p : ℕ → Bool) (s : List ℕ) → length (filter p s) ≡ sum (λ c. one (p c)) s
 count-sum p [] = refl
 count-sum p (c ∷ s) = by-test (p c) (λ e. rw e (omega (arith, count-sum p s))) (λ e. rw e (omega (arith, count-sum p s)))
 
-count-two : (p q : ℕ → Bool) (s : List ℕ) → length (keep p s) + length (keep q s) ≡ sum (λ c. one (p c) + one (q c)) s
+count-two : (p q : ℕ → Bool) (s : List ℕ) → length (filter p s) + length (filter q s) ≡ sum (λ c. one (p c) + one (q c)) s
 count-two p q s = omega (arith, count-sum p s, count-sum q s, both s)
   where
     both : (s : List ℕ) → sum (λ c. one (p c)) s + sum (λ c. one (q c)) s ≡ sum (λ c. one (p c) + one (q c)) s
@@ -95,49 +95,49 @@ abbrev for-scopes : Prices
 for-scopes = record { measure = 0; note = 0; pitch = 0; accidental = 1; byte = λ c. one (isSign c) }
 
 heads-covered : Covered for-heads
-heads-covered = record { letters = λ c e. zero-le; rests = λ c e. zero-le; bars = λ c e. one-paid (isBar c) e; signs = λ c e. zero-le }
+heads-covered = record { letters = λ c e. zero-le; rests = λ c e. zero-le; bars = λ c e. one-covered (isBar c) e; signs = λ c e. zero-le }
 
 notes-covered : Covered for-notes
 notes-covered =
     record {
-      letters = λ c e. omega (arith, one-paid (isLetter c) e);
-      rests = λ c e. omega (arith, one-paid (isRest c) e);
+      letters = λ c e. omega (arith, one-covered (isLetter c) e);
+      rests = λ c e. omega (arith, one-covered (isRest c) e);
       bars = λ c e. zero-le;
       signs = λ c e. zero-le;
     }
 
 pitches-covered : Covered for-pitches
-pitches-covered = record { letters = λ c e. one-paid (isLetter c) e; rests = λ c e. zero-le; bars = λ c e. zero-le; signs = λ c e. zero-le }
+pitches-covered = record { letters = λ c e. one-covered (isLetter c) e; rests = λ c e. zero-le; bars = λ c e. zero-le; signs = λ c e. zero-le }
 
 scopes-covered : Covered for-scopes
-scopes-covered = record { letters = λ c e. zero-le; rests = λ c e. zero-le; bars = λ c e. zero-le; signs = λ c e. one-paid (isSign c) e }
+scopes-covered = record { letters = λ c e. zero-le; rests = λ c e. zero-le; bars = λ c e. zero-le; signs = λ c e. one-covered (isSign c) e }
 
-first-pays : (c : ℕ) (s : List ℕ) → Pays (tokenOf (c ∷ s) .token) (take (tokenOf (c ∷ s) .used) (c ∷ s))
+first-cover : (c : ℕ) (s : List ℕ) → Covers (tokenOf (c ∷ s) .token) (take (tokenOf (c ∷ s) .used) (c ∷ s))
 unfolding cost bars letters rests signs
-first-pays c s =
+first-cover c s =
     let l = take (tokenOf (c ∷ s) .used) (c ∷ s) in
     record {
-      bars-pay = omega (arith, token-paid for-heads heads-covered c s, count-sum isBar l);
-      tones-pay = omega (arith, token-paid for-notes notes-covered c s, count-two isLetter isRest l);
-      letters-pay = omega (arith, token-paid for-pitches pitches-covered c s, count-sum isLetter l);
-      signs-pay = omega (arith, token-paid for-scopes scopes-covered c s, count-sum isSign l);
+      bars-cover = omega (arith, token-covered for-heads heads-covered c s, count-sum isBar l);
+      tones-cover = omega (arith, token-covered for-notes notes-covered c s, count-two isLetter isRest l);
+      letters-cover = omega (arith, token-covered for-pitches pitches-covered c s, count-sum isLetter l);
+      signs-cover = omega (arith, token-covered for-scopes scopes-covered c s, count-sum isSign l);
     }
 
 -- THE BYTES OF A TOKEN pay for it
-pub token-pays : (s : List ℕ) → 0 < length s → Pays (tokenOf s .token) (take (tokenOf s .used) s)
-token-pays [] h = absurd (not-suc-le-zero h)
-token-pays (c ∷ s) h = first-pays c s
+pub token-cover : (s : List ℕ) → 0 < length s → Covers (tokenOf s .token) (take (tokenOf s .used) s)
+token-cover [] h = absurd (not-suc-le-zero h)
+token-cover (c ∷ s) h = first-cover c s
 
 -- at a position of a line
-pub token-spends : (s : List ℕ) (i : ℕ) → i < length s → Spends (tokenOf (drop i s) .token) (drop i s) (drop (i + tokenOf (drop i s) .used) s)
+pub token-spends : (s : List ℕ) (i : ℕ) → i < length s → CoversBoth (tokenOf (drop i s) .token) (drop i s) (drop (i + tokenOf (drop i s) .used) s)
 token-spends s i h =
     let u = tokenOf (drop i s) .used in
     let l = drop i s in
-    let paid = token-pays l (omega (arith, length-drop i s)) in
+    let paid = token-cover l (omega (arith, length-drop i s)) in
     rw (← drop-drop u i s)
     (record {
-      bars-left = omega (arith, paid .bars-pay, bars-split u l);
-      tones-left = omega (arith, paid .tones-pay, tones-split u l);
-      letters-left = omega (arith, paid .letters-pay, letters-split u l);
-      signs-left = omega (arith, paid .signs-pay, signs-split u l);
+      bars-left = omega (arith, paid .bars-cover, bars-split u l);
+      tones-left = omega (arith, paid .tones-cover, tones-split u l);
+      letters-left = omega (arith, paid .letters-cover, letters-split u l);
+      signs-left = omega (arith, paid .signs-cover, signs-split u l);
     })

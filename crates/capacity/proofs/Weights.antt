@@ -11,15 +11,15 @@ use lib.Dec.{ltb, eqb}
 use lib.ListN.{length, take, drop, take-append-drop}
 use lib.Seq.{take-add}
 use borrow.Author.Tests.{eqb-true}
-use Rattle.laws.specs.Lists.{span, sum, All}
+use Rattle.laws.specs.Lists.{countWhile, sum, All}
 use Rattle.laws.proofs.Bools.{by-test, or-left, or-right}
 use Rattle.laws.proofs.Lists.{sum-append}
-use Rattle.laws.proofs.Spans.{span-yes, span-no}
+use Rattle.laws.proofs.Spans.{count-while-yes, count-while-no}
 use Rattle.standard.specs.Bytes.{is, isDigit, first}
 use Rattle.standard.specs.Bars.{Symbol, barSymbols, symbolAt}
 use Rattle.standard.specs.Pitches.{Accidental, Written, isLetter}
 use Rattle.reader.specs.Lengths.{lengthOf}
-use Rattle.reader.specs.Pieces.{pieces, mark}
+use Rattle.reader.specs.Pieces.{pieces, separator}
 use Rattle.reader.specs.Pitches.{Octave, octaveOf, Before, signs, accidentalOf, natural, quarterTone, added, isQuarter, consPitch, chordOf}
 use Rattle.reader.specs.Token.{quoted, decoration, skipped, Taken, taken}
 use Rattle.reader.specs.Barlines.{barlineAs, barlineOf}
@@ -30,7 +30,7 @@ use Rattle.reader.specs.Tokens.{bracketOf, Class, white, ampersand, quote, more
 use Rattle.reader.proofs.TokenLaws.{as-takes}
 use Rattle.reader.proofs.TokenBounds.{inChord, octave-in-chord, quarter-in-chord}
 use Rattle.capacity.specs.Sizes.{isBar, isRest, isSign}
-use Rattle.capacity.specs.Pays.{marks, marked, Rows, makes}
+use Rattle.capacity.specs.Covers.{signCount, signsIn, Rows, makes}
 use Rattle.capacity.proofs.Free.{Makes-nothing, closed-free, broken-free, tuplet-free, volta-free, field-free}
 
 -- SUMS over a part of a list
@@ -110,125 +110,125 @@ module _ (p : Prices) (paid : Covered p) where
   -- A CHORD'S PITCHES, if none is refused: each as a note with its accidental
   unfoldable Costs : ℕ → Option (List Written) → Type 0
   Costs n none = Unit {0}
-  Costs n (some ws) = p .note * length ws + p .pitch * length ws + p .accidental * marked ws ≤ n
+  Costs n (some ws) = p .note * length ws + p .pitch * length ws + p .accidental * signsIn ws ≤ n
 
-  abbrev mark-cost : Option Accidental → ℕ
-  mark-cost a = p .accidental * marks a
+  abbrev mark-weight : Option Accidental → ℕ
+  mark-weight a = p .accidental * signCount a
 
-  costs-more : (m n : ℕ) (o : Option (List Written)) → m ≤ n → Costs m o → Costs n o
+  weights-more : (m n : ℕ) (o : Option (List Written)) → m ≤ n → Costs m o → Costs n o
   unfolding Costs
-  costs-more m n none h k = tt
-  costs-more m n (some ws) h k = omega arith
+  weights-more m n none h k = tt
+  weights-more m n (some ws) h k = omega arith
 
   -- one pitch before the others
-  costs-cons : (c : ℕ) (a : Option Accidental) (o : Octave) (n : ℕ) (r : Option (List Written)) → Costs n r → Costs (p .note + p .pitch + mark-cost a + n) (consPitch c a o r)
+  weights-cons : (c : ℕ) (a : Option Accidental) (o : Octave) (n : ℕ) (r : Option (List Written)) → Costs n r → Costs (p .note + p .pitch + mark-weight a + n) (consPitch c a o r)
   unfolding Costs consPitch
-  costs-cons c a o n none h = tt
-  costs-cons c a o n (some ws) h =
+  weights-cons c a o n none h = tt
+  weights-cons c a o n (some ws) h =
       by-test (o .fine)
       (λ e. rw (e, consPitch)
-      (omega (arith, mul-suc (p .note) (length ws), mul-suc (p .pitch) (length ws), mul-add (p .accidental) (marks a) (marked ws))))
+      (omega (arith, mul-suc (p .note) (length ws), mul-suc (p .pitch) (length ws), mul-add (p .accidental) (signCount a) (signsIn ws))))
       (λ e. rw (e, consPitch) tt)
 
   -- a sign pays for an accidental
-  mark-paid : (c : ℕ) (a : Option Accidental) → isSign c ≡ true → mark-cost a ≤ p .byte c
-  mark-paid c none e = omega arith
-  mark-paid c (some a) e = omega (arith, paid .signs c e)
+  mark-covered : (c : ℕ) (a : Option Accidental) → isSign c ≡ true → mark-weight a ≤ p .byte c
+  mark-covered c none e = omega arith
+  mark-covered c (some a) e = omega (arith, paid .signs c e)
 
   -- the bytes up to the chord's end
   abbrev inside : List ℕ → List ℕ
-  inside s = take (span inChord s) s
+  inside s = take (countWhile inChord s) s
 
   -- what they pay when k of them are passed, and what is paid for the accidental that waits
   abbrev bound : ℕ → Option Accidental → List ℕ → ℕ
-  bound k a s = worth (drop k (inside s)) + mark-cost a
+  bound k a s = worth (drop k (inside s)) + mark-weight a
 
-  sign-bound : (k c : ℕ) (a b : Option Accidental) (s : List ℕ) → isSign c ≡ true → bound k b s ≤ p .byte c + worth (inside s) + mark-cost a
-  sign-bound k c a b s e = omega (arith, mark-paid c b e, sum-drop (p .byte) k (inside s))
+  sign-bound : (k c : ℕ) (a b : Option Accidental) (s : List ℕ) → isSign c ≡ true → bound k b s ≤ p .byte c + worth (inside s) + mark-weight a
+  sign-bound k c a b s e = omega (arith, mark-covered c b e, sum-drop (p .byte) k (inside s))
 
   letter-bound : (k c : ℕ) (a : Option Accidental) (s : List ℕ) → isLetter c ≡ true
-      → p .note + p .pitch + mark-cost a + bound k none s ≤ p .byte c + worth (inside s) + mark-cost a
+      → p .note + p .pitch + mark-weight a + bound k none s ≤ p .byte c + worth (inside s) + mark-weight a
   letter-bound k c a s e = omega (arith, paid .letters c e, sum-drop (p .byte) k (inside s))
 
   -- the pitches up to the chord's end cost what the bytes up to it pay
-  chord-paid : (k : ℕ) (a : Option Accidental) (s : List ℕ) → k ≤ span inChord s → Costs (bound k a s) (chordOf k a s)
+  chord-covered : (k : ℕ) (a : Option Accidental) (s : List ℕ) → k ≤ countWhile inChord s → Costs (bound k a s) (chordOf k a s)
   unfolding Costs chordOf
-  chord-paid k a [] h = omega arith
-  chord-paid zero a (c ∷ s) h =
+  chord-covered k a [] h = omega arith
+  chord-covered zero a (c ∷ s) h =
       by-test (is "]" c) (λ e. rw (e, chordOf) (omega arith))
-      (λ e. rw (span-yes inChord c s (rw e), e, chordOf)
-      (let most = p .byte c + worth (inside s) + mark-cost a in
+      (λ e. rw (count-while-yes inChord c s (rw e), e, chordOf)
+      (let most = p .byte c + worth (inside s) + mark-weight a in
       by-test (is "^" c || is "_" c)
       (λ f. rw (f, chordOf)
       (let y : isSign c ≡ true = or-left (is "^" c || is "_" c) (is "=" c) f in
       by-test (isQuarter a s)
       (λ g. rw (g, chordOf)
       (let b = some (quarterTone (is "^" c)) in
-      costs-more (bound 1 b s) most (chordOf 1 b s) (sign-bound 1 c a b s y) (chord-paid 1 b s (quarter-in-chord a s g))))
+      weights-more (bound 1 b s) most (chordOf 1 b s) (sign-bound 1 c a b s y) (chord-covered 1 b s (quarter-in-chord a s g))))
       (λ g. rw (g, chordOf)
       (let b = some (added (is "^" c) a) in
-      costs-more (bound 0 b s) most (chordOf 0 b s) (sign-bound 0 c a b s y) (chord-paid 0 b s zero-le)))))
+      weights-more (bound 0 b s) most (chordOf 0 b s) (sign-bound 0 c a b s y) (chord-covered 0 b s zero-le)))))
       (λ f. rw (f, chordOf)
       (by-test (is "=" c)
       (λ g. rw (g, chordOf)
       (let b = some natural in
-      costs-more (bound 0 b s) most (chordOf 0 b s) (sign-bound 0 c a b s (or-right (is "^" c || is "_" c) (is "=" c) g)) (chord-paid 0 b s zero-le)))
+      weights-more (bound 0 b s) most (chordOf 0 b s) (sign-bound 0 c a b s (or-right (is "^" c || is "_" c) (is "=" c) g)) (chord-covered 0 b s zero-le)))
       (λ g. rw (g, chordOf)
       (by-test (isLetter c)
       (λ i. rw (i, chordOf)
       (let o = octaveOf c s in
-      costs-more (p .note + p .pitch + mark-cost a + bound (o .used) none s) most (consPitch c a o (chordOf (o .used) none s)) (letter-bound (o .used) c a s i)
-      (costs-cons c a o (bound (o .used) none s) (chordOf (o .used) none s) (chord-paid (o .used) none s (octave-in-chord c s)))))
-      (λ i. rw (i, chordOf) (costs-more (bound 0 a s) most (chordOf 0 a s) (omega arith) (chord-paid 0 a s zero-le)))))))))
-  chord-paid (suc k) a (c ∷ s) h =
+      weights-more (p .note + p .pitch + mark-weight a + bound (o .used) none s) most (consPitch c a o (chordOf (o .used) none s)) (letter-bound (o .used) c a s i)
+      (weights-cons c a o (bound (o .used) none s) (chordOf (o .used) none s) (chord-covered (o .used) none s (octave-in-chord c s)))))
+      (λ i. rw (i, chordOf) (weights-more (bound 0 a s) most (chordOf 0 a s) (omega arith) (chord-covered 0 a s zero-le)))))))))
+  chord-covered (suc k) a (c ∷ s) h =
       by-test (inChord c)
       (λ e.
-      let q = span-yes inChord c s e in
-      let l : suc k ≤ suc (span inChord s) = rw q at h in
-      rw q (chord-paid k a s (omega arith)))
-      (λ e. absurd (not-suc-le-zero (rw (span-no inChord c s e) at h)))
+      let q = count-while-yes inChord c s e in
+      let l : suc k ≤ suc (countWhile inChord s) = rw q at h in
+      rw q (chord-covered k a s (omega arith)))
+      (λ e. absurd (not-suc-le-zero (rw (count-while-no inChord c s e) at h)))
 
   -- A CHORD; its first byte is the `[`, and n bytes behind it reach to its end
-  sounds-paid : (u : ℕ) (r : List ℕ) (c : ℕ) (s : List ℕ) (n : ℕ) (o : Option (List Written)) → n < u → Costs (worth (take n s)) o → Fair (chordTaken u r o) (c ∷ s)
+  sounds-covered : (u : ℕ) (r : List ℕ) (c : ℕ) (s : List ℕ) (n : ℕ) (o : Option (List Written)) → n < u → Costs (worth (take n s)) o → Fair (chordTaken u r o) (c ∷ s)
   unfolding Costs chordTaken cost
-  sounds-paid u r c s n none h k = omega arith
-  sounds-paid u r c s n (some []) h k = omega arith
-  sounds-paid u r c s n (some (w ∷ ws)) h k =
+  sounds-covered u r c s n none h k = omega arith
+  sounds-covered u r c s n (some []) h k = omega arith
+  sounds-covered u r c s n (some (w ∷ ws)) h k =
       let l = lengthOf r in
       omega (arith, sum-more (p .byte) (suc n) (u + l .used + behind (drop (l .used) r) .used) (c ∷ s) (omega arith), mul-suc (p .note) (length ws))
 
-  chordAt-paid : (c : ℕ) (s : List ℕ) → Fair (chordAt s) (c ∷ s)
+  chordAt-covered : (c : ℕ) (s : List ℕ) → Fair (chordAt s) (c ∷ s)
   unfolding chordAt
-  chordAt-paid c s =
-      let n = span inChord s in
-      sounds-paid (cond (ltb n (length s)) (2 + n) (1 + n)) (drop (suc n) s) c s n (chordOf 0 none s) (longer (ltb n (length s)) n)
-      (costs-more (bound 0 none s) (worth (take n s)) (chordOf 0 none s) (omega arith) (chord-paid 0 none s zero-le))
+  chordAt-covered c s =
+      let n = countWhile inChord s in
+      sounds-covered (cond (ltb n (length s)) (2 + n) (1 + n)) (drop (suc n) s) c s n (chordOf 0 none s) (longer (ltb n (length s)) n)
+      (weights-more (bound 0 none s) (worth (take n s)) (chordOf 0 none s) (omega arith) (chord-covered 0 none s zero-le))
     where
       longer : (b : Bool) (n : ℕ) → n < cond b (2 + n) (1 + n)
       longer true n = omega arith
       longer false n = omega arith
 
   -- A NOTE'S ACCIDENTAL pays for itself
-  signs-paid : (up : Bool) (n c : ℕ) (s : List ℕ) → isSign c ≡ true → 1 ≤ n → mark-cost (signs up n (c ∷ s) .mark) ≤ worth (take (signs up n (c ∷ s) .used) (c ∷ s))
+  signs-covered : (up : Bool) (n c : ℕ) (s : List ℕ) → isSign c ≡ true → 1 ≤ n → mark-weight (signs up n (c ∷ s) .sign) ≤ worth (take (signs up n (c ∷ s) .used) (c ∷ s))
   unfolding signs
-  signs-paid up n c s y h =
+  signs-covered up n c s y h =
       by-test (eqb n 1 && is "/" (first (drop n (c ∷ s))))
       (λ e. rw (e, signs) (omega (arith, paid .signs c y, first-byte c s 2 (omega arith))))
       (λ e. rw (e, signs) (omega (arith, paid .signs c y, first-byte c s n h)))
 
-  some-signs : (x : ℕ → Bool) (c : ℕ) (s : List ℕ) → x c ≡ true → 1 ≤ span x (c ∷ s)
-  some-signs x c s e = rw (span-yes x c s e) (omega arith)
+  some-signs : (x : ℕ → Bool) (c : ℕ) (s : List ℕ) → x c ≡ true → 1 ≤ countWhile x (c ∷ s)
+  some-signs x c s e = rw (count-while-yes x c s e) (omega arith)
 
-  accidental-paid : (c : ℕ) (s : List ℕ) → mark-cost (accidentalOf (c ∷ s) .mark) ≤ worth (take (accidentalOf (c ∷ s) .used) (c ∷ s))
+  accidental-covered : (c : ℕ) (s : List ℕ) → mark-weight (accidentalOf (c ∷ s) .sign) ≤ worth (take (accidentalOf (c ∷ s) .used) (c ∷ s))
   unfolding accidentalOf
-  accidental-paid c s =
+  accidental-covered c s =
       by-test (is "^" c)
       (λ e. rw (e, accidentalOf)
-      (signs-paid true (span (is "^") (c ∷ s)) c s (or-left (is "^" c || is "_" c) (is "=" c) (or-left (is "^" c) (is "_" c) e)) (some-signs (is "^") c s e)))
+      (signs-covered true (countWhile (is "^") (c ∷ s)) c s (or-left (is "^" c || is "_" c) (is "=" c) (or-left (is "^" c) (is "_" c) e)) (some-signs (is "^") c s e)))
       (λ e. rw (e, accidentalOf)
       (by-test (is "_" c)
       (λ f. rw (f, accidentalOf)
-      (signs-paid false (span (is "_") (c ∷ s)) c s (or-left (is "^" c || is "_" c) (is "=" c) (or-right (is "^" c) (is "_" c) f)) (some-signs (is "_") c s f)))
+      (signs-covered false (countWhile (is "_") (c ∷ s)) c s (or-left (is "^" c || is "_" c) (is "=" c) (or-right (is "^" c) (is "_" c) f)) (some-signs (is "_") c s f)))
       (λ f. rw (f, accidentalOf)
       (by-test (is "=" c)
       (λ g. rw (g, accidentalOf) (omega (arith, paid .signs c (or-right (is "^" c || is "_" c) (is "=" c) g))))
@@ -240,9 +240,9 @@ module _ (p : Prices) (paid : Covered p) where
       let q : worth (take (n + 1) l) ≡ worth (take n l) + worth (take 1 (drop n l)) = ap worth (take-add n 1 l) ∙ sum-append (p .byte) (take n l) (take 1 (drop n l)) in
       omega (arith, q, ap (λ (x : List ℕ). worth (take 1 x)) e, sum-more (p .byte) (n + 1) m l (omega arith))
 
-  noteAs-paid : (a : Before) (c : ℕ) (s l : List ℕ) → drop (a .used) l ≡ c ∷ s → isLetter c ≡ true → mark-cost (a .mark) ≤ worth (take (a .used) l) → Fair (noteAs a c s) l
+  noteAs-covered : (a : Before) (c : ℕ) (s l : List ℕ) → drop (a .used) l ≡ c ∷ s → isLetter c ≡ true → mark-weight (a .sign) ≤ worth (take (a .used) l) → Fair (noteAs a c s) l
   unfolding noteAs cost
-  noteAs-paid a c s l d i h =
+  noteAs-covered a c s l d i h =
       let o = octaveOf c s in
       let n = lengthOf (drop (o .used) s) in
       let b = behind (drop (o .used + n .used) s) in
@@ -250,60 +250,60 @@ module _ (p : Prices) (paid : Covered p) where
       (λ e. rw (e, noteAs) (omega (arith, paid .letters c i, letter-byte (a .used) (a .used + 1 + o .used + n .used + b .used) c s l d (omega arith))))
       (λ e. rw (e, noteAs) (omega arith))
 
-  noteAfter-paid : (a : Before) (r l : List ℕ) → drop (a .used) l ≡ r → mark-cost (a .mark) ≤ worth (take (a .used) l) → Fair (noteAfter a r) l
+  noteAfter-covered : (a : Before) (r l : List ℕ) → drop (a .used) l ≡ r → mark-weight (a .sign) ≤ worth (take (a .used) l) → Fair (noteAfter a r) l
   unfolding noteAfter cost
-  noteAfter-paid a [] l d h = omega arith
-  noteAfter-paid a (c ∷ r) l d h = by-test (isLetter c) (λ e. rw (e, noteAfter) (noteAs-paid a c r l d e h)) (λ e. rw (e, noteAfter) (omega arith))
+  noteAfter-covered a [] l d h = omega arith
+  noteAfter-covered a (c ∷ r) l d h = by-test (isLetter c) (λ e. rw (e, noteAfter) (noteAs-covered a c r l d e h)) (λ e. rw (e, noteAfter) (omega arith))
 
-  note-paid : (c : ℕ) (s : List ℕ) → Fair (noteOf (c ∷ s)) (c ∷ s)
+  note-covered : (c : ℕ) (s : List ℕ) → Fair (noteOf (c ∷ s)) (c ∷ s)
   unfolding noteOf
-  note-paid c s = let a = accidentalOf (c ∷ s) in noteAfter-paid a (drop (a .used) (c ∷ s)) (c ∷ s) refl (accidental-paid c s)
+  note-covered c s = let a = accidentalOf (c ∷ s) in noteAfter-covered a (drop (a .used) (c ∷ s)) (c ∷ s) refl (accidental-covered c s)
 
   -- A BARLINE
-  barlineAs-paid : (c : ℕ) (s : List ℕ) (o : Option Symbol) → isBar c ≡ true → 0 < barlineAs (c ∷ s) o .used → Fair (barlineAs (c ∷ s) o) (c ∷ s)
+  barlineAs-covered : (c : ℕ) (s : List ℕ) (o : Option Symbol) → isBar c ≡ true → 0 < barlineAs (c ∷ s) o .used → Fair (barlineAs (c ∷ s) o) (c ∷ s)
   unfolding barlineAs cost
-  barlineAs-paid c s none y h = omega arith
-  barlineAs-paid c s (some x) y h = omega (arith, paid .bars c y, first-byte c s (length (x .text)) h)
+  barlineAs-covered c s none y h = omega arith
+  barlineAs-covered c s (some x) y h = omega (arith, paid .bars c y, first-byte c s (length (x .text)) h)
 
-  barline-paid : (c : ℕ) (s : List ℕ) → isBar c ≡ true → 0 < barlineOf (c ∷ s) .used → Fair (barlineOf (c ∷ s)) (c ∷ s)
+  barline-covered : (c : ℕ) (s : List ℕ) → isBar c ≡ true → 0 < barlineOf (c ∷ s) .used → Fair (barlineOf (c ∷ s)) (c ∷ s)
   unfolding barlineOf
-  barline-paid c s y h = barlineAs-paid c s (symbolAt barSymbols (c ∷ s)) y h
+  barline-covered c s y h = barlineAs-covered c s (symbolAt barSymbols (c ∷ s)) y h
 
   -- what a `[` begins
-  bracket-paid : (c : ℕ) (s : List ℕ) → Fair (bracketOf s) (c ∷ s)
+  bracket-covered : (c : ℕ) (s : List ℕ) → Fair (bracketOf s) (c ∷ s)
   unfolding bracketOf voltaOf inlineAt
-  bracket-paid c s =
-      let n = span isPassByte s in
-      let ps = passList 0 (pieces (mark (is ",")) 0 (take n s)) in
+  bracket-covered c s =
+      let n = countWhile isPassByte s in
+      let ps = passList 0 (pieces (separator (is ",")) 0 (take n s)) in
       by-test (isDigit (first s))
       (λ e. rw (e, bracketOf) (free (voltaAs n s ps) (c ∷ s) (volta-free n s ps)))
       (λ e. rw (e, bracketOf)
-      (by-test (isInline s) (λ f. rw (f, bracketOf) (free (inlineAt s) (c ∷ s) (field-free (inside s)))) (λ f. rw (f, bracketOf) (chordAt-paid c s))))
+      (by-test (isInline s) (λ f. rw (f, bracketOf) (free (inlineAt s) (c ∷ s) (field-free (inside s)))) (λ f. rw (f, bracketOf) (chordAt-covered c s))))
 
   -- A REST
-  rest-paid : (c : ℕ) (s : List ℕ) (n : ℕ) → isRest c ≡ true → p .note ≤ worth (take (suc n) (c ∷ s))
-  rest-paid c s n y = omega (arith, paid .rests c y)
+  rest-covered : (c : ℕ) (s : List ℕ) (n : ℕ) → isRest c ≡ true → p .note ≤ worth (take (suc n) (c ∷ s))
+  rest-covered c s n y = omega (arith, paid .rests c y)
 
   -- A TOKEN of any class
-  as-paid : (k : Class) (c : ℕ) (s : List ℕ) → Begins k c → Fair (tokenAs k (c ∷ s)) (c ∷ s)
+  as-covered : (k : Class) (c : ℕ) (s : List ℕ) → Begins k c → Fair (tokenAs k (c ∷ s)) (c ∷ s)
   unfolding tokenAs restAs cost
-  as-paid white c s y = omega arith
-  as-paid ampersand c s y = omega arith
-  as-paid quote c s y = free (tokenAs quote (c ∷ s)) (c ∷ s) (closed-free (is "\"") quoted s (taken quoted (suc (length s))) refl refl)
-  as-paid more c s y = free (tokenAs more (c ∷ s)) (c ∷ s) (broken-free true (suc (span (is ">") s)) (c ∷ s))
-  as-paid less c s y = free (tokenAs less (c ∷ s)) (c ∷ s) (broken-free false (suc (span (is "<") s)) (c ∷ s))
-  as-paid paren c s y = free (tokenAs paren (c ∷ s)) (c ∷ s) (tuplet-free s)
-  as-paid braceOpen c s y = omega arith
-  as-paid braceClose c s y = omega arith
-  as-paid bang c s y = free (tokenAs bang (c ∷ s)) (c ∷ s) (closed-free (is "!") decoration s (taken skipped 1) refl refl)
-  as-paid plus c s y = free (tokenAs plus (c ∷ s)) (c ∷ s) (closed-free (is "+") decoration s (taken skipped 1) refl refl)
-  as-paid bars c s y = barline-paid c s y (as-takes bars c s)
-  as-paid bracket c s y = bracket-paid c s
-  as-paid pitched c s y = note-paid c s
-  as-paid none-of-these c s y = omega arith
-  as-paid (resting k) c s y = omega (arith, paid .rests c y)
+  as-covered white c s y = omega arith
+  as-covered ampersand c s y = omega arith
+  as-covered quote c s y = free (tokenAs quote (c ∷ s)) (c ∷ s) (closed-free (is "\"") quoted s (taken quoted (suc (length s))) refl refl)
+  as-covered more c s y = free (tokenAs more (c ∷ s)) (c ∷ s) (broken-free true (suc (countWhile (is ">") s)) (c ∷ s))
+  as-covered less c s y = free (tokenAs less (c ∷ s)) (c ∷ s) (broken-free false (suc (countWhile (is "<") s)) (c ∷ s))
+  as-covered paren c s y = free (tokenAs paren (c ∷ s)) (c ∷ s) (tuplet-free s)
+  as-covered braceOpen c s y = omega arith
+  as-covered braceClose c s y = omega arith
+  as-covered bang c s y = free (tokenAs bang (c ∷ s)) (c ∷ s) (closed-free (is "!") decoration s (taken skipped 1) refl refl)
+  as-covered plus c s y = free (tokenAs plus (c ∷ s)) (c ∷ s) (closed-free (is "+") decoration s (taken skipped 1) refl refl)
+  as-covered bars c s y = barline-covered c s y (as-takes bars c s)
+  as-covered bracket c s y = bracket-covered c s
+  as-covered pitched c s y = note-covered c s
+  as-covered none-of-these c s y = omega arith
+  as-covered (resting k) c s y = omega (arith, paid .rests c y)
 
   -- the bytes of a token pay for it
-  pub token-paid : (c : ℕ) (s : List ℕ) → cost (makes (tokenOf (c ∷ s) .token)) ≤ worth (take (tokenOf (c ∷ s) .used) (c ∷ s))
+  pub token-covered : (c : ℕ) (s : List ℕ) → cost (makes (tokenOf (c ∷ s) .token)) ≤ worth (take (tokenOf (c ∷ s) .used) (c ∷ s))
   unfolding tokenOf
-  token-paid c s = as-paid (classOf c) c s (class-begins c)
+  token-covered c s = as-covered (classOf c) c s (class-begins c)

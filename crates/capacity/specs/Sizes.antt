@@ -4,7 +4,7 @@ use Prim.Native.Nat.{ℕ, _+_}
 use mathlib.Core.Bool.{Bool, _||_}
 use mathlib.Core.List.{List}
 use lib.ListN.{length}
-use Rattle.laws.specs.Lists.{keep}
+use Rattle.laws.specs.Lists.{filter}
 use Rattle.standard.specs.Bytes.{is}
 use Rattle.standard.specs.Pitches.{isLetter}
 
@@ -19,19 +19,19 @@ isSign c = is "^" c || is "_" c || is "=" c
 
 -- measures that can open behind the first
 unfoldable pub bars : List ℕ → ℕ
-bars l = length (keep isBar l)
+bars l = length (filter isBar l)
 
 -- pitches
 unfoldable pub letters : List ℕ → ℕ
-letters l = length (keep isLetter l)
+letters l = length (filter isLetter l)
 
 -- rests
 unfoldable pub rests : List ℕ → ℕ
-rests l = length (keep isRest l)
+rests l = length (filter isRest l)
 
 -- accidentals in force
 unfoldable pub signs : List ℕ → ℕ
-signs l = length (keep isSign l)
+signs l = length (filter isSign l)
 
 -- notes, chords and rests
 abbrev pub tones : List ℕ → ℕ

@@ -4,7 +4,7 @@ use Prim.Native.String.{String}
 use mathlib.Core.Path.{_≡_, refl}
 use mathlib.Core.Option.{Option, none, some}
 use mathlib.Core.List.{List, [], _∷_, _++_, map}
-use Rattle.laws.specs.Lists.{cat}
+use Rattle.laws.specs.Lists.{concat}
 use Rattle.standard.specs.Bytes.{ascii}
 use Rattle.standard.specs.Keys.{Key}
 use Rattle.reader.specs.State.{Note, Measure}
@@ -51,13 +51,13 @@ marks none = []
 marks (some k) = signed8 (k .fifths) ∷ []
 
 abbrev ask : Asked → Part → List ℕ
-ask values p = cat (map (λ (x : ℕ × Note). x .1 .value ∷ x .1 .dots ∷ []) (notesOf p))
+ask values p = concat (map (λ (x : ℕ × Note). x .1 .value ∷ x .1 .dots ∷ []) (notesOf p))
 ask beams p = map (λ (x : ℕ × Note). beamCode (x .1 .beam)) (notesOf p)
 ask voltas p = map (λ (m : Measure). voltaCode (m .volta)) (p .measures)
-ask fifths p = cat (map (λ (m : Measure). marks (m .key)) (p .measures))
+ask fifths p = concat (map (λ (m : Measure). marks (m .key)) (p .measures))
 
 abbrev answer : Bar → List ℕ
-answer b = cat (map (ask (b .asked)) (partsIn (parseAbc (textOf b) 1000 100000 .verdict)))
+answer b = concat (map (ask (b .asked)) (partsIn (parseAbc (textOf b) 1000 100000 .verdict)))
 
 -- every bar is answered as document 01 says
 pub table : map answer bars ≡ map (λ (b : Bar). b .answer) bars

@@ -3,12 +3,12 @@ use Prim.Native.Nat.{ℕ, _+_, _-_}
 use mathlib.Core.Path.{_≡_, refl, sym, ap, ap₂, _∙_}
 use mathlib.Core.Bool.{Bool, true, false, not, true≢false}
 use mathlib.Core.List.{List, [], _∷_, _++_, map, append-nil}
-use Rattle.laws.specs.Lists.{startsWith, foldl, all, All, keep, isNil}
+use Rattle.laws.specs.Lists.{startsWith, foldl, all, All, filter, isNil}
 use Rattle.laws.proofs.Bools.{by-test, not-true, and-left, and-right, and-both}
-use Rattle.laws.proofs.Lists.{foldl-kept, All-keep, keep-passes}
+use Rattle.laws.proofs.Lists.{foldl-kept, All-filter, filter-passes}
 use Rattle.standard.specs.Bytes.{ascii, first, lower}
 use Rattle.reader.specs.Text.{isSpace, push}
-use Rattle.reader.specs.Pieces.{pieces, words, mark, fieldWords, trimStart, consTrim, trimEnd, trimmed}
+use Rattle.reader.specs.Pieces.{pieces, words, separator, fieldWords, trimStart, consTrim, trimEnd, trimmed}
 use Rattle.reader.specs.Keys.{isKeyWord, joined, keyText, keyOf}
 use Rattle.text_words.specs.Words.{notSpace}
 use Rattle.text_words.proofs.Trims.{consTrim-word}
@@ -68,10 +68,10 @@ push-plain : (c : ℕ) (ps : List (List ℕ)) → isSpace c ≡ false → All (�
 push-plain c [] q h = (and-both (notSpace c) true (ap not q) refl, tt)
 push-plain c (r ∷ rs) q h = (and-both (notSpace c) (all notSpace r) (ap not q) (h .0), h .1)
 
-pieces-plain : (s : List ℕ) → All (λ w. all notSpace w ≡ true) (pieces (mark isSpace) 0 s)
+pieces-plain : (s : List ℕ) → All (λ w. all notSpace w ≡ true) (pieces (separator isSpace) 0 s)
 unfolding pieces
 pieces-plain [] = (refl, tt)
-pieces-plain (c ∷ s) = by-test (isSpace c) (λ q. rw (q, pieces) (refl, pieces-plain s)) (λ q. rw (q, pieces) (push-plain c (pieces (mark isSpace) 0 s) q (pieces-plain s)))
+pieces-plain (c ∷ s) = by-test (isSpace c) (λ q. rw (q, pieces) (refl, pieces-plain s)) (λ q. rw (q, pieces) (push-plain c (pieces (separator isSpace) 0 s) q (pieces-plain s)))
 
 All-both : (P Q : List ℕ → Type 0) (xs : List (List ℕ)) → All P xs → All Q xs → All (λ x. P x × Q x) xs
 All-both P Q [] p q = tt
@@ -81,8 +81,8 @@ words-are : (s : List ℕ) → All IsWord (fieldWords s)
 unfolding fieldWords words
 words-are s =
     All-both (λ w. all notSpace w ≡ true) (λ w. not (isNil w) ≡ true) (fieldWords s)
-    (All-keep (λ p. not (isNil p)) (λ w. all notSpace w ≡ true) (pieces (mark isSpace) 0 s) (pieces-plain s))
-    (keep-passes (λ p. not (isNil p)) (pieces (mark isSpace) 0 s))
+    (All-filter (λ p. not (isNil p)) (λ w. all notSpace w ≡ true) (pieces (separator isSpace) 0 s) (pieces-plain s))
+    (filter-passes (λ p. not (isNil p)) (pieces (separator isSpace) 0 s))
 
 -- a word stays, whatever is left behind it
 trimEnd-plain : (w t : List ℕ) → all notSpace w ≡ true → trimEnd (w ++ t) ≡ w ++ trimEnd t
@@ -126,8 +126,8 @@ joined-trimmed ws a = ap trimEnd (start-stays (joined ws) (joined-first ws a)) �
 pub key-of : (value : List ℕ) → keyBy (foldl passKept unpassed (fieldWords value)) ≡ keyOf value
 unfolding keyOf keyText passKept
 key-of value =
-    let ws = keep isKeyWord (fieldWords value) in
-    let a : All IsWord ws = All-keep isKeyWord IsWord (fieldWords value) (words-are value) in
+    let ws = filter isKeyWord (fieldWords value) in
+    let a : All IsWord ws = All-filter isKeyWord IsWord (fieldWords value) (words-are value) in
     ap keyBy
     (foldl-kept (λ (p : Passed). p) passKept passWord isKeyWord (λ p w e. rw e) (λ p w e. rw e) unpassed (fieldWords value) ∙ pass-words ws)
     ∙ key-same (joined ws) (joined-first ws a) (joined-trimmed ws a)

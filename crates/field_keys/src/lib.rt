@@ -5,7 +5,7 @@ ghost use mathlib.Core.Path.{_≡_};
 ghost use mathlib.Core.List.{map};
 ghost use Prim.Native.Nat.{_≤_};
 ghost use lib.ListN.{length};
-ghost use Rattle.laws.specs.Lists.{has};
+ghost use Rattle.laws.specs.Lists.{elem};
 ghost use Rattle.laws.specs.Bytes.{between};
 ghost use Rattle.standard.specs.Bytes.{lower};
 ghost use Rattle.reader.specs.Keys.{clefs, isKeyWord, keyOf};
@@ -82,7 +82,7 @@ fn pass_word(line: &[u8], i: usize, e: usize, p: Passed) -> Passed
 // The word is one of the seven clefs, in any case.
 fn is_clef(line: &[u8], i: usize, e: usize) -> bool
     requires { ⌜ (i ≤ e) × (e ≤ length (now line)) ⌝ }
-    ensures { λ r. ⌜ r ≡ has (map lower (between (now (line .entry)) i e)) clefs ⌝ }
+    ensures { λ r. ⌜ r ≡ elem (map lower (between (now (line .entry)) i e)) clefs ⌝ }
 {
     if text_names::is_named(line, i, e, b"treble") {
         return true;

@@ -10,7 +10,7 @@ use lib.Dec.{eqb}
 use lib.ListN.{length, getD, take, drop, set, length-append, drop-of-length-le}
 use lib.Seq.{drop-cons}
 use borrow.Author.Tests.{eqb-true}
-use Rattle.laws.specs.Lists.{foldl, all, any, All, keep, cat, sum, alterAt, onFirst, isNil, eqText, startsWith, has, indexOf}
+use Rattle.laws.specs.Lists.{foldl, all, any, All, filter, concat, sum, alterAt, onFirst, isNil, eqText, startsWith, elem, indexOf}
 use Rattle.laws.proofs.Bools.{by-test, and-left, and-right, and-both, or-left, or-right, or-no-left, or-no-right, eqb-same, same-test}
 
 -- what is left from i on: the element there, and what is left from i + 1 on. So a function by recursion on the list goes on in a loop by position
@@ -52,13 +52,13 @@ pub foldl-kept-in {ℓ κ μ ν} : {A : Type ℓ} {B : Type κ} {C : Type μ} (P
     → ((b : B) (x : A) → P b → q x ≡ true → P (f b x))
     → ((b : B) (x : A) → P b → q x ≡ true → p x ≡ true → v (f b x) ≡ g (v b) x)
     → ((b : B) (x : A) → P b → q x ≡ true → p x ≡ false → v (f b x) ≡ v b)
-    → (b : B) (xs : List A) → P b → all q xs ≡ true → v (foldl f b xs) ≡ foldl g (v b) (keep p xs)
+    → (b : B) (xs : List A) → P b → all q xs ≡ true → v (foldl f b xs) ≡ foldl g (v b) (filter p xs)
 foldl-kept-in P q p v f g stays seen unseen b [] h a = refl
 foldl-kept-in P q p v f g stays seen unseen b (x ∷ xs) h a =
     let qx : q x ≡ true = and-left (q x) (all q xs) a in
     let ih = foldl-kept-in P q p v f g stays seen unseen (f b x) xs (stays b x h qx) (and-right (q x) (all q xs) a) in
-    by-test (p x) (λ e. rw e (ih ∙ ap (λ c. foldl g c (keep p xs)) (seen b x h qx e)))
-    (λ e. rw e (ih ∙ ap (λ c. foldl g c (keep p xs)) (unseen b x h qx e)))
+    by-test (p x) (λ e. rw e (ih ∙ ap (λ c. foldl g c (filter p xs)) (seen b x h qx e)))
+    (λ e. rw e (ih ∙ ap (λ c. foldl g c (filter p xs)) (unseen b x h qx e)))
 
 -- MAP
 module _ {ℓ κ} {A : Type ℓ} {B : Type κ} where
@@ -105,11 +105,11 @@ module _ {ℓ} {A : Type ℓ} (p : A → Bool) where
   all-append (x ∷ xs) ys = by-test (p x) (λ e. rw e (all-append xs ys)) (λ e. rw e)
 
   -- of the elements that another test keeps
-  pub all-keep : (t : A → Bool) (xs : List A) → all p xs ≡ true → all p (keep t xs) ≡ true
-  all-keep t [] a = refl
-  all-keep t (x ∷ xs) a =
-      let r = all-keep t xs (and-right (p x) (all p xs) a) in
-      by-test (t x) (λ e. rw e (and-both (p x) (all p (keep t xs)) (and-left (p x) (all p xs) a) r)) (λ e. rw e r)
+  pub all-filter : (t : A → Bool) (xs : List A) → all p xs ≡ true → all p (filter t xs) ≡ true
+  all-filter t [] a = refl
+  all-filter t (x ∷ xs) a =
+      let r = all-filter t xs (and-right (p x) (all p xs) a) in
+      by-test (t x) (λ e. rw e (and-both (p x) (all p (filter t xs)) (and-left (p x) (all p xs) a) r)) (λ e. rw e r)
 
   -- the test as a property of each element
   pub all-All : (xs : List A) → all p xs ≡ true → All (λ x. p x ≡ true) xs
@@ -162,14 +162,14 @@ module _ {ℓ} {A : Type ℓ} where
   All-right P (x ∷ xs) ys p = All-right P xs ys (p .1)
 
   -- of each list: of all, one after the other
-  pub All-cat : (P : A → Type 0) (xs : List (List A)) → All (All P) xs → All P (cat xs)
-  All-cat P [] p = tt
-  All-cat P (x ∷ xs) p = All-append P x (cat xs) (p .0) (All-cat P xs (p .1))
+  pub All-concat : (P : A → Type 0) (xs : List (List A)) → All (All P) xs → All P (concat xs)
+  All-concat P [] p = tt
+  All-concat P (x ∷ xs) p = All-append P x (concat xs) (p .0) (All-concat P xs (p .1))
 
   -- and back
-  pub All-uncat : (P : A → Type 0) (xs : List (List A)) → All P (cat xs) → All (All P) xs
+  pub All-uncat : (P : A → Type 0) (xs : List (List A)) → All P (concat xs) → All (All P) xs
   All-uncat P [] p = tt
-  All-uncat P (x ∷ xs) p = (All-left P x (cat xs) p, All-uncat P xs (All-right P x (cat xs) p))
+  All-uncat P (x ∷ xs) p = (All-left P x (concat xs) p, All-uncat P xs (All-right P x (concat xs) p))
 
   -- what follows from it holds of each too
   pub All-map : (P Q : A → Type 0) → ((x : A) → P x → Q x) → (xs : List A) → All P xs → All Q xs
@@ -190,73 +190,73 @@ module _ {ℓ} {A : Type ℓ} where
 -- ELEMENTS KEPT
 module _ {ℓ} {A : Type ℓ} (t : A → Bool) where
   -- an element at the front that passes
-  pub keep-yes : (x : A) (xs : List A) → t x ≡ true → keep t (x ∷ xs) ≡ x ∷ keep t xs
-  keep-yes x xs e = rw e
+  pub filter-yes : (x : A) (xs : List A) → t x ≡ true → filter t (x ∷ xs) ≡ x ∷ filter t xs
+  filter-yes x xs e = rw e
 
   -- an element at the front that does not
-  pub keep-no : (x : A) (xs : List A) → t x ≡ false → keep t (x ∷ xs) ≡ keep t xs
-  keep-no x xs e = rw e
+  pub filter-no : (x : A) (xs : List A) → t x ≡ false → filter t (x ∷ xs) ≡ filter t xs
+  filter-no x xs e = rw e
 
   -- of two lists, one after the other
-  pub keep-append : (xs ys : List A) → keep t (xs ++ ys) ≡ keep t xs ++ keep t ys
-  keep-append [] ys = refl
-  keep-append (x ∷ xs) ys = by-test (t x) (λ e. rw e (ap {B = List A} (λ r. x ∷ r) (keep-append xs ys))) (λ e. rw e (keep-append xs ys))
+  pub filter-append : (xs ys : List A) → filter t (xs ++ ys) ≡ filter t xs ++ filter t ys
+  filter-append [] ys = refl
+  filter-append (x ∷ xs) ys = by-test (t x) (λ e. rw e (ap {B = List A} (λ r. x ∷ r) (filter-append xs ys))) (λ e. rw e (filter-append xs ys))
 
   -- one element more at the end, that passes
-  pub keep-snoc-yes : (xs : List A) (x : A) → t x ≡ true → keep t (xs ++ (x ∷ [])) ≡ keep t xs ++ (x ∷ [])
-  keep-snoc-yes xs x e = keep-append xs (x ∷ []) ∙ ap (λ l. keep t xs ++ l) (keep-yes x [] e)
+  pub filter-snoc-yes : (xs : List A) (x : A) → t x ≡ true → filter t (xs ++ (x ∷ [])) ≡ filter t xs ++ (x ∷ [])
+  filter-snoc-yes xs x e = filter-append xs (x ∷ []) ∙ ap (λ l. filter t xs ++ l) (filter-yes x [] e)
 
   -- one element more at the end, that does not
-  pub keep-snoc-no : (xs : List A) (x : A) → t x ≡ false → keep t (xs ++ (x ∷ [])) ≡ keep t xs
-  keep-snoc-no xs x e = keep-append xs (x ∷ []) ∙ ap (λ l. keep t xs ++ l) (keep-no x [] e) ∙ append-nil (keep t xs)
+  pub filter-snoc-no : (xs : List A) (x : A) → t x ≡ false → filter t (xs ++ (x ∷ [])) ≡ filter t xs
+  filter-snoc-no xs x e = filter-append xs (x ∷ []) ∙ ap (λ l. filter t xs ++ l) (filter-no x [] e) ∙ append-nil (filter t xs)
 
   -- to keep twice is to keep once
-  pub keep-keep : (xs : List A) → keep t (keep t xs) ≡ keep t xs
-  keep-keep [] = refl
-  keep-keep (x ∷ xs) = by-test (t x) (λ e. rw e (rw e (ap {B = List A} (λ r. x ∷ r) (keep-keep xs)))) (λ e. rw e (keep-keep xs))
+  pub filter-filter : (xs : List A) → filter t (filter t xs) ≡ filter t xs
+  filter-filter [] = refl
+  filter-filter (x ∷ xs) = by-test (t x) (λ e. rw e (rw e (ap {B = List A} (λ r. x ∷ r) (filter-filter xs)))) (λ e. rw e (filter-filter xs))
 
   -- what holds of each holds of what is kept
-  pub All-keep : (P : A → Type 0) (xs : List A) → All P xs → All P (keep t xs)
-  All-keep P [] p = tt
-  All-keep P (x ∷ xs) p = by-test (t x) (λ e. rw e (p .0, All-keep P xs (p .1))) (λ e. rw e (All-keep P xs (p .1)))
+  pub All-filter : (P : A → Type 0) (xs : List A) → All P xs → All P (filter t xs)
+  All-filter P [] p = tt
+  All-filter P (x ∷ xs) p = by-test (t x) (λ e. rw e (p .0, All-filter P xs (p .1))) (λ e. rw e (All-filter P xs (p .1)))
 
   -- what is kept passes
-  pub keep-passes : (xs : List A) → All (λ x. t x ≡ true) (keep t xs)
-  keep-passes [] = tt
-  keep-passes (x ∷ xs) =
-      by-test (t x) (λ e. subst (All (λ y. t y ≡ true)) (sym (keep-yes x xs e)) (e, keep-passes xs))
-      (λ e. subst (All (λ y. t y ≡ true)) (sym (keep-no x xs e)) (keep-passes xs))
+  pub filter-passes : (xs : List A) → All (λ x. t x ≡ true) (filter t xs)
+  filter-passes [] = tt
+  filter-passes (x ∷ xs) =
+      by-test (t x) (λ e. subst (All (λ y. t y ≡ true)) (sym (filter-yes x xs e)) (e, filter-passes xs))
+      (λ e. subst (All (λ y. t y ≡ true)) (sym (filter-no x xs e)) (filter-passes xs))
 
   -- where each passes all are kept
-  pub keep-whole : (xs : List A) → All (λ x. t x ≡ true) xs → keep t xs ≡ xs
-  keep-whole [] p = refl
-  keep-whole (x ∷ xs) p = keep-yes x xs (p .0) ∙ ap {B = List A} (λ r. x ∷ r) (keep-whole xs (p .1))
+  pub filter-whole : (xs : List A) → All (λ x. t x ≡ true) xs → filter t xs ≡ xs
+  filter-whole [] p = refl
+  filter-whole (x ∷ xs) p = filter-yes x xs (p .0) ∙ ap {B = List A} (λ r. x ∷ r) (filter-whole xs (p .1))
 
   -- where none passes nothing is kept
-  pub keep-none : (xs : List A) → All (λ x. t x ≡ false) xs → keep t xs ≡ []
-  keep-none [] p = refl
-  keep-none (x ∷ xs) p = keep-no x xs (p .0) ∙ keep-none xs (p .1)
+  pub filter-none : (xs : List A) → All (λ x. t x ≡ false) xs → filter t xs ≡ []
+  filter-none [] p = refl
+  filter-none (x ∷ xs) p = filter-no x xs (p .0) ∙ filter-none xs (p .1)
 
   -- no more are kept than there are
-  pub keep-le : (xs : List A) → length (keep t xs) ≤ length xs
-  keep-le [] = zero-le
-  keep-le (x ∷ xs) = by-test (t x) (λ e. rw e (suc-le-suc (keep-le xs))) (λ e. rw e (omega (arith, keep-le xs)))
+  pub filter-le : (xs : List A) → length (filter t xs) ≤ length xs
+  filter-le [] = zero-le
+  filter-le (x ∷ xs) = by-test (t x) (λ e. rw e (suc-le-suc (filter-le xs))) (λ e. rw e (omega (arith, filter-le xs)))
 
   -- what is kept weighs no more
-  pub sum-keep : (f : A → ℕ) (xs : List A) → sum f (keep t xs) ≤ sum f xs
-  sum-keep f [] = zero-le
-  sum-keep f (x ∷ xs) = by-test (t x) (λ e. rw e (omega (arith, sum-keep f xs))) (λ e. rw e (omega (arith, sum-keep f xs)))
+  pub sum-filter : (f : A → ℕ) (xs : List A) → sum f (filter t xs) ≤ sum f xs
+  sum-filter f [] = zero-le
+  sum-filter f (x ∷ xs) = by-test (t x) (λ e. rw e (omega (arith, sum-filter f xs))) (λ e. rw e (omega (arith, sum-filter f xs)))
 
 -- two tests that agree on the list keep the same
-pub keep-agree {ℓ} : {A : Type ℓ} (s t : A → Bool) (xs : List A) → All (λ x. s x ≡ t x) xs → keep s xs ≡ keep t xs
-keep-agree s t [] p = refl
-keep-agree s t (x ∷ xs) p = λ i. cond (p .0 i) (x ∷ keep-agree s t xs (p .1) i) (keep-agree s t xs (p .1) i)
+pub filter-agree {ℓ} : {A : Type ℓ} (s t : A → Bool) (xs : List A) → All (λ x. s x ≡ t x) xs → filter s xs ≡ filter t xs
+filter-agree s t [] p = refl
+filter-agree s t (x ∷ xs) p = λ i. cond (p .0 i) (x ∷ filter-agree s t xs (p .1) i) (filter-agree s t xs (p .1) i)
 
 -- a view that sees only the elements that pass p shows the fold of those
 pub foldl-kept {ℓ κ μ} : {A : Type ℓ} {B : Type κ} {C : Type μ} (v : B → C) (f : B → A → B) (g : C → A → C) (p : A → Bool)
     → ((b : B) (x : A) → p x ≡ true → v (f b x) ≡ g (v b) x)
     → ((b : B) (x : A) → p x ≡ false → v (f b x) ≡ v b)
-    → (b : B) (xs : List A) → v (foldl f b xs) ≡ foldl g (v b) (keep p xs)
+    → (b : B) (xs : List A) → v (foldl f b xs) ≡ foldl g (v b) (filter p xs)
 foldl-kept {A = A} v f g p seen unseen b xs =
     foldl-kept-in (λ _. Unit {0}) (λ _. true) p v f g (λ _ _ _ _. tt) (λ b x _ _. seen b x) (λ b x _ _. unseen b x) b xs tt
     (All-all {A = A} (λ _. true) xs (All-every (λ _. true ≡ true) (λ _. refl) xs))
@@ -264,23 +264,23 @@ foldl-kept {A = A} v f g p seen unseen b xs =
 -- LISTS OF LISTS, AND SUMS
 module _ {ℓ} {A : Type ℓ} where
   -- of two lists of lists, one after the other
-  pub cat-append : (xs ys : List (List A)) → cat (xs ++ ys) ≡ cat xs ++ cat ys
-  cat-append [] ys = refl
-  cat-append (x ∷ xs) ys = ap (λ (l : List A). x ++ l) (cat-append xs ys) ∙ sym (append-assoc x (cat xs) (cat ys))
+  pub concat-append : (xs ys : List (List A)) → concat (xs ++ ys) ≡ concat xs ++ concat ys
+  concat-append [] ys = refl
+  concat-append (x ∷ xs) ys = ap (λ (l : List A). x ++ l) (concat-append xs ys) ∙ sym (append-assoc x (concat xs) (concat ys))
 
   -- one list more, at the end
-  pub cat-snoc : (xs : List (List A)) (x : List A) → cat (xs ++ (x ∷ [])) ≡ cat xs ++ x
-  cat-snoc xs x = cat-append xs (x ∷ []) ∙ ap (λ (l : List A). cat xs ++ l) (append-nil x)
+  pub concat-snoc : (xs : List (List A)) (x : List A) → concat (xs ++ (x ∷ [])) ≡ concat xs ++ x
+  concat-snoc xs x = concat-append xs (x ∷ []) ∙ ap (λ (l : List A). concat xs ++ l) (append-nil x)
 
   -- of lists of one element each
-  pub cat-singles : (xs : List A) → cat (map (λ x. x ∷ []) xs) ≡ xs
-  cat-singles [] = refl
-  cat-singles (x ∷ xs) = ap {B = List A} (λ r. x ∷ r) (cat-singles xs)
+  pub concat-singles : (xs : List A) → concat (map (λ x. x ∷ []) xs) ≡ xs
+  concat-singles [] = refl
+  concat-singles (x ∷ xs) = ap {B = List A} (λ r. x ∷ r) (concat-singles xs)
 
   -- its length is the sum of the lengths
-  pub length-cat : (xs : List (List A)) → length (cat xs) ≡ sum length xs
-  length-cat [] = refl
-  length-cat (x ∷ xs) = length-append x (cat xs) ∙ ap (λ (n : ℕ). length x + n) (length-cat xs)
+  pub length-concat : (xs : List (List A)) → length (concat xs) ≡ sum length xs
+  length-concat [] = refl
+  length-concat (x ∷ xs) = length-append x (concat xs) ∙ ap (λ (n : ℕ). length x + n) (length-concat xs)
 
   -- the sum over two lists, one after the other
   pub sum-append : (f : A → ℕ) (xs ys : List A) → sum f (xs ++ ys) ≡ sum f xs + sum f ys
@@ -288,9 +288,9 @@ module _ {ℓ} {A : Type ℓ} where
   sum-append f (x ∷ xs) ys = omega (arith, sum-append f xs ys)
 
   -- the sum over lists, one after the other
-  pub sum-cat : (f : A → ℕ) (xs : List (List A)) → sum f (cat xs) ≡ sum (sum f) xs
-  sum-cat f [] = refl
-  sum-cat f (x ∷ xs) = sum-append f x (cat xs) ∙ ap (λ (n : ℕ). sum f x + n) (sum-cat f xs)
+  pub sum-concat : (f : A → ℕ) (xs : List (List A)) → sum f (concat xs) ≡ sum (sum f) xs
+  sum-concat f [] = refl
+  sum-concat f (x ∷ xs) = sum-append f x (concat xs) ∙ ap (λ (n : ℕ). sum f x + n) (sum-concat f xs)
 
   -- the sum of smaller numbers is smaller
   pub sum-le : (f g : A → ℕ) (xs : List A) → All (λ x. f x ≤ g x) xs → sum f xs ≤ sum g xs
@@ -445,25 +445,25 @@ startsWith-short p s i h k = rw (drop-next p i 0 h, drop-of-length-le s k)
 
 -- TEXTS IN A LIST
 -- a text of the first list stands in both, one after the other
-pub has-left : (v : List ℕ) (xs ys : List (List ℕ)) → has v xs ≡ true → has v (xs ++ ys) ≡ true
-has-left v [] ys h = absurd (false≢true h)
-has-left v (x ∷ xs) ys h =
-    by-test (eqText x v) (λ e. or-left (eqText x v) (has v (xs ++ ys)) e)
-    (λ e. or-right (eqText x v) (has v (xs ++ ys)) (has-left v xs ys (rw e at h)))
+pub elem-left : (v : List ℕ) (xs ys : List (List ℕ)) → elem v xs ≡ true → elem v (xs ++ ys) ≡ true
+elem-left v [] ys h = absurd (false≢true h)
+elem-left v (x ∷ xs) ys h =
+    by-test (eqText x v) (λ e. or-left (eqText x v) (elem v (xs ++ ys)) e)
+    (λ e. or-right (eqText x v) (elem v (xs ++ ys)) (elem-left v xs ys (rw e at h)))
 
 -- a text of the second too
-pub has-right : (v : List ℕ) (xs ys : List (List ℕ)) → has v ys ≡ true → has v (xs ++ ys) ≡ true
-has-right v [] ys h = h
-has-right v (x ∷ xs) ys h = or-right (eqText x v) (has v (xs ++ ys)) (has-right v xs ys h)
+pub elem-right : (v : List ℕ) (xs ys : List (List ℕ)) → elem v ys ≡ true → elem v (xs ++ ys) ≡ true
+elem-right v [] ys h = h
+elem-right v (x ∷ xs) ys h = or-right (eqText x v) (elem v (xs ++ ys)) (elem-right v xs ys h)
 
 -- a text stands in a list that ends with it
-pub has-last : (v : List ℕ) (xs : List (List ℕ)) → has v (xs ++ (v ∷ [])) ≡ true
-has-last v xs = has-right v xs (v ∷ []) (or-left (eqText v v) false (eqText-same v))
+pub has-last : (v : List ℕ) (xs : List (List ℕ)) → elem v (xs ++ (v ∷ [])) ≡ true
+has-last v xs = elem-right v xs (v ∷ []) (or-left (eqText v v) false (eqText-same v))
 
 -- a text that stands in neither does not stand in both
-pub has-none : (v : List ℕ) (xs ys : List (List ℕ)) → has v xs ≡ false → has v ys ≡ false → has v (xs ++ ys) ≡ false
+pub has-none : (v : List ℕ) (xs ys : List (List ℕ)) → elem v xs ≡ false → elem v ys ≡ false → elem v (xs ++ ys) ≡ false
 has-none v [] ys h k = k
-has-none v (x ∷ xs) ys h k = rw (or-no-left (eqText x v) (has v xs) h) (has-none v xs ys (or-no-right (eqText x v) (has v xs) h) k)
+has-none v (x ∷ xs) ys h k = rw (or-no-left (eqText x v) (elem v xs) h) (has-none v xs ys (or-no-right (eqText x v) (elem v xs) h) k)
 
 -- the first of the list
 pub index-zero : (v w : List ℕ) (ws : List (List ℕ)) → eqText w v ≡ true → indexOf v (w ∷ ws) ≡ 0
@@ -474,26 +474,26 @@ pub index-suc : (v w : List ℕ) (ws : List (List ℕ)) → eqText w v ≡ false
 index-suc v w ws e = rw e
 
 -- a text of the list stands within it
-pub index-lt : (v : List ℕ) (ws : List (List ℕ)) → has v ws ≡ true → indexOf v ws < length ws
+pub index-lt : (v : List ℕ) (ws : List (List ℕ)) → elem v ws ≡ true → indexOf v ws < length ws
 index-lt v [] h = absurd (false≢true h)
 index-lt v (w ∷ ws) h =
     by-test (eqText w v) (λ e. rw e (suc-le-suc zero-le)) (λ e. rw e (suc-le-suc (index-lt v ws (rw e at h))))
 
 -- a text that is not in the list has its length for a place
-pub index-none : (v : List ℕ) (ws : List (List ℕ)) → has v ws ≡ false → indexOf v ws ≡ length ws
+pub index-none : (v : List ℕ) (ws : List (List ℕ)) → elem v ws ≡ false → indexOf v ws ≡ length ws
 index-none v [] h = refl
-index-none v (w ∷ ws) h = rw (or-no-left (eqText w v) (has v ws) h) (ap suc (index-none v ws (or-no-right (eqText w v) (has v ws) h)))
+index-none v (w ∷ ws) h = rw (or-no-left (eqText w v) (elem v ws) h) (ap suc (index-none v ws (or-no-right (eqText w v) (elem v ws) h)))
 
 -- the text at a text's place is that text
-pub index-getD : (v : List ℕ) (ws : List (List ℕ)) (d : List ℕ) → has v ws ≡ true → getD ws (indexOf v ws) d ≡ v
+pub index-getD : (v : List ℕ) (ws : List (List ℕ)) (d : List ℕ) → elem v ws ≡ true → getD ws (indexOf v ws) d ≡ v
 index-getD v [] d h = absurd (false≢true h)
 index-getD v (w ∷ ws) d h = by-test (eqText w v) (λ e. rw e (eqText-true w v e)) (λ e. rw e (index-getD v ws d (rw e at h)))
 
 -- further texts at the end do not move it
-pub index-append : (v : List ℕ) (xs ys : List (List ℕ)) → has v xs ≡ true → indexOf v (xs ++ ys) ≡ indexOf v xs
+pub index-append : (v : List ℕ) (xs ys : List (List ℕ)) → elem v xs ≡ true → indexOf v (xs ++ ys) ≡ indexOf v xs
 index-append v [] ys h = absurd (false≢true h)
 index-append v (x ∷ xs) ys h = by-test (eqText x v) (λ e. rw e) (λ e. rw e (ap suc (index-append v xs ys (rw e at h))))
 
 -- two texts of the list that stand at one place are one
-pub index-inj : (a b : List ℕ) (ws : List (List ℕ)) → has a ws ≡ true → has b ws ≡ true → indexOf a ws ≡ indexOf b ws → a ≡ b
+pub index-inj : (a b : List ℕ) (ws : List (List ℕ)) → elem a ws ≡ true → elem b ws ≡ true → indexOf a ws ≡ indexOf b ws → a ≡ b
 index-inj a b ws p q h = sym (index-getD a ws [] p) ∙ ap (λ (k : ℕ). getD ws k []) h ∙ index-getD b ws [] q

@@ -10,9 +10,9 @@ use lib.Dec.{eqb, ltb}
 use lib.ListN.{length, getD, length-set}
 use lib.Seq.{getD-set-same, getD-set-other, ext-getD}
 use borrow.Author.Tests.{eqb-true, eqb-false, ltb-true}
-use Rattle.laws.specs.Lists.{foldl, all, All, keep, sum, eqText, has, indexOf}
+use Rattle.laws.specs.Lists.{foldl, all, All, filter, sum, eqText, elem, indexOf}
 use Rattle.laws.proofs.Bools.{by-test, same-test}
-use Rattle.laws.proofs.Lists.{All-map, all-keep, keep-yes, keep-no, keep-keep, keep-none, keep-agree, foldl-kept, foldl-kept-in, eqText-true, eqText-same, index-inj}
+use Rattle.laws.proofs.Lists.{All-map, all-filter, filter-yes, filter-no, filter-filter, filter-none, filter-agree, foldl-kept, foldl-kept-in, eqText-true, eqText-same, index-inj}
 pub use Rattle.laws.specs.Orders.{Ins, here, there, Perm, nothing, more, atOwner}
 
 -- AN ELEMENT PUT IN, AND ANOTHER ORDER
@@ -70,7 +70,7 @@ module _ {A : Type 0} where
 module _ {A W : Type 0} (eq : W → W → Bool) (sound : (a b : W) → eq a b ≡ true → a ≡ b) (same : (a : W) → eq a a ≡ true) (o : A → W) where
   -- those of the owner v, in order
   abbrev own : W → List A → List A
-  own v xs = keep (λ x. eq (o x) v) xs
+  own v xs = filter (λ x. eq (o x) v) xs
 
   -- the first element of x's owner taken out
   find : (x : A) (t ys : List A) → own (o x) ys ≡ x ∷ t
@@ -82,36 +82,36 @@ module _ {A W : Type 0} (eq : W → W → Bool) (sound : (a b : W) → eq a b �
       by-test
       (eq (o y) (o x))
       (λ e.
-      let k : Path (List A) (y ∷ own (o x) ys) (x ∷ t) = sym (keep-yes (λ z. eq (o z) (o x)) y ys e) ∙ h in
+      let k : Path (List A) (y ∷ own (o x) ys) (x ∷ t) = sym (filter-yes (λ z. eq (o z) (o x)) y ys e) ∙ h in
       let yx : y ≡ x = head-eq-of-cons-eq k in (
         ys,
         subst (λ (a : A). Ins x ys (a ∷ ys)) (sym yx) here,
         tail-eq-of-cons-eq k,
-        λ w n. sym (keep-no (λ z. eq (o z) w) y ys (ap (λ (a : A). eq (o a) w) yx ∙ n)),
+        λ w n. sym (filter-no (λ z. eq (o z) w) y ys (ap (λ (a : A). eq (o a) w) yx ∙ n)),
       ))
       (λ e.
       let q : (zs : List A) × Ins x zs ys × (own (o x) zs ≡ t) × ((w : W) → eq (o x) w ≡ false → own w zs ≡ own w ys)
-      = r (sym (keep-no (λ z. eq (o z) (o x)) y ys e) ∙ h) in (
+      = r (sym (filter-no (λ z. eq (o z) (o x)) y ys e) ∙ h) in (
         y ∷ q .0,
         there (q .1),
-        keep-no (λ z. eq (o z) (o x)) y (q .0) e ∙ q .2,
+        filter-no (λ z. eq (o z) (o x)) y (q .0) e ∙ q .2,
         λ w n. λ i. cond (eq (o y) w) (y ∷ q .3 w n i) (q .3 w n i),
       ))
 
   -- two lists in which each owner's own elements are the same list are one another in another order
   pub moved-perm : (xs ys : List A) → ((v : W) → own v ys ≡ own v xs) → Perm xs ys
   moved-perm [] [] h = nothing
-  moved-perm [] (y ∷ ys) h = absurd (nil≢cons (sym (h (o y)) ∙ keep-yes (λ z. eq (o z) (o y)) y ys (same (o y))))
+  moved-perm [] (y ∷ ys) h = absurd (nil≢cons (sym (h (o y)) ∙ filter-yes (λ z. eq (o z) (o y)) y ys (same (o y))))
   moved-perm (x ∷ xs) ys h =
       let q : (zs : List A) × Ins x zs ys × (own (o x) zs ≡ own (o x) xs) × ((w : W) → eq (o x) w ≡ false → own w zs ≡ own w ys)
-      = find x (own (o x) xs) ys (h (o x) ∙ keep-yes (λ z. eq (o z) (o x)) x xs (same (o x))) in
+      = find x (own (o x) xs) ys (h (o x) ∙ filter-yes (λ z. eq (o z) (o x)) x xs (same (o x))) in
       more
       (moved-perm xs (q .0)
       (λ v.
       by-test
       (eq (o x) v)
       (λ e. subst (λ (w : W). own w (q .0) ≡ own w xs) (sound (o x) v e) (q .2))
-      (λ e. q .3 v e ∙ h v ∙ keep-no (λ z. eq (o z) v) x xs e)))
+      (λ e. q .3 v e ∙ h v ∙ filter-no (λ z. eq (o z) v) x xs e)))
       (q .1)
 
 -- OWNERS BY NAME AND BY NUMBER
@@ -122,7 +122,7 @@ module _ {A : Type 0} (o : A → List ℕ) (ids : List (List ℕ)) where
 
   -- x's owner has a number
   abbrev Known : A → Type 0
-  Known x = has (o x) ids ≡ true
+  Known x = elem (o x) ids ≡ true
 
   first-at : (p : ℕ) (xs : List A) → All Known xs → ((x : A) × Known x × (at p x ≡ true)) ⊎ All (λ x. at p x ≡ false) xs
   first-at p [] k = inr tt
@@ -138,16 +138,16 @@ module _ {A : Type 0} (o : A → List ℕ) (ids : List (List ℕ)) where
       (λ t. rw (eqText-true (o z) (o x) t) e)
 
   -- where the elements that each name owns are the same list in both, so are those that each number owns
-  pub moved-index : (xs ys : List A) → All Known xs → ((v : List ℕ) → keep (λ x. eqText (o x) v) ys ≡ keep (λ x. eqText (o x) v) xs) → (p : ℕ) → keep (at p) ys ≡ keep (at p) xs
+  pub moved-index : (xs ys : List A) → All Known xs → ((v : List ℕ) → filter (λ x. eqText (o x) v) ys ≡ filter (λ x. eqText (o x) v) xs) → (p : ℕ) → filter (at p) ys ≡ filter (at p) xs
   moved-index xs ys k h p =
       let pm : Perm xs ys = moved-perm eqText eqText-true eqText-same o xs ys h in
       ⊎-elim
       (λ q.
       let x : A = q .0 in
-      keep-agree (at p) (λ z. eqText (o z) (o x)) ys (All-map Known (λ z. at p z ≡ eqText (o z) (o x)) (λ z kz. number-name p x z (q .1) (q .2) kz) ys (All-perm Known pm k))
+      filter-agree (at p) (λ z. eqText (o z) (o x)) ys (All-map Known (λ z. at p z ≡ eqText (o z) (o x)) (λ z kz. number-name p x z (q .1) (q .2) kz) ys (All-perm Known pm k))
       ∙ h (o x)
-      ∙ sym (keep-agree (at p) (λ z. eqText (o z) (o x)) xs (All-map Known (λ z. at p z ≡ eqText (o z) (o x)) (λ z kz. number-name p x z (q .1) (q .2) kz) xs k)))
-      (λ q. keep-none (at p) ys (All-perm (λ x. at p x ≡ false) pm q) ∙ sym (keep-none (at p) xs q))
+      ∙ sym (filter-agree (at p) (λ z. eqText (o z) (o x)) xs (All-map Known (λ z. at p z ≡ eqText (o z) (o x)) (λ z kz. number-name p x z (q .1) (q .2) kz) xs k)))
+      (λ q. filter-none (at p) ys (All-perm (λ x. at p x ≡ false) pm q) ∙ sym (filter-none (at p) xs q))
       (first-at p xs k)
 
 -- FOLDS WITH OWNERS
@@ -155,7 +155,7 @@ module _ {A : Type 0} (o : A → List ℕ) (ids : List (List ℕ)) where
 pub any-order {ℓ κ μ} : {A : Type ℓ} {B : Type κ} {C : Type μ} (view : ℕ → B → C) (f : B → A → B) (g : C → A → C) (owner : A → ℕ)
     → ((v : ℕ) (b : B) (x : A) → eqb (owner x) v ≡ true → view v (f b x) ≡ g (view v b) x)
     → ((v : ℕ) (b : B) (x : A) → eqb (owner x) v ≡ false → view v (f b x) ≡ view v b)
-    → (xs ys : List A) → ((v : ℕ) → keep (λ x. eqb (owner x) v) xs ≡ keep (λ x. eqb (owner x) v) ys)
+    → (xs ys : List A) → ((v : ℕ) → filter (λ x. eqb (owner x) v) xs ≡ filter (λ x. eqb (owner x) v) ys)
     → (b : B) (v : ℕ) → view v (foldl f b xs) ≡ view v (foldl f b ys)
 any-order view f g owner seen unseen xs ys same b v =
     foldl-kept (view v) f g (λ x. eqb (owner x) v) (seen v) (unseen v) b xs
@@ -165,7 +165,7 @@ any-order view f g owner seen unseen xs ys same b v =
 module _ {ℓ κ} {A : Type ℓ} {C : Type κ} (owner : A → ℕ) (g : C → A → C) (d : C) (n : ℕ) where
   -- in a list with a place for each owner: a place is the fold of its owner's elements alone
   pub place : (b : List C) (xs : List A) (v : ℕ) → length b ≡ n → all (λ x. ltb (owner x) n) xs ≡ true
-      → getD (foldl (atOwner owner g d) b xs) v d ≡ foldl g (getD b v d) (keep (λ x. eqb (owner x) v) xs)
+      → getD (foldl (atOwner owner g d) b xs) v d ≡ foldl g (getD b v d) (filter (λ x. eqb (owner x) v) xs)
   place b xs v h a =
       foldl-kept-in (λ (c : List C). length c ≡ n) (λ x. ltb (owner x) n) (λ x. eqb (owner x) v) (λ c. getD c v d) (atOwner owner g d) g
       (λ c x e q. length-set c (owner x) _ ∙ e)
@@ -180,7 +180,7 @@ module _ {ℓ κ} {A : Type ℓ} {C : Type κ} (owner : A → ℕ) (g : C → A 
 
   -- the order of different owners' elements changes nothing
   pub in-any-order : (b : List C) (xs ys : List A) → length b ≡ n → all (λ x. ltb (owner x) n) xs ≡ true → all (λ x. ltb (owner x) n) ys ≡ true
-      → ((v : ℕ) → keep (λ x. eqb (owner x) v) xs ≡ keep (λ x. eqb (owner x) v) ys)
+      → ((v : ℕ) → filter (λ x. eqb (owner x) v) xs ≡ filter (λ x. eqb (owner x) v) ys)
       → foldl (atOwner owner g d) b xs ≡ foldl (atOwner owner g d) b ys
   in-any-order b xs ys h a a′ same =
       ext-getD d _ _ (fold-length b xs ∙ sym (fold-length b ys))
@@ -188,7 +188,7 @@ module _ {ℓ κ} {A : Type ℓ} {C : Type κ} (owner : A → ℕ) (g : C → A 
 
   -- an owner's place is the one with all others' elements removed
   pub alone : (b : List C) (xs : List A) (v : ℕ) → length b ≡ n → all (λ x. ltb (owner x) n) xs ≡ true
-      → getD (foldl (atOwner owner g d) b xs) v d ≡ getD (foldl (atOwner owner g d) b (keep (λ x. eqb (owner x) v) xs)) v d
+      → getD (foldl (atOwner owner g d) b xs) v d ≡ getD (foldl (atOwner owner g d) b (filter (λ x. eqb (owner x) v) xs)) v d
   alone b xs v h a =
-      place b xs v h a ∙ ap (λ l. foldl g (getD b v d) l) (sym (keep-keep (λ x. eqb (owner x) v) xs))
-      ∙ sym (place b (keep (λ x. eqb (owner x) v) xs) v h (all-keep (λ x. ltb (owner x) n) (λ x. eqb (owner x) v) xs a))
+      place b xs v h a ∙ ap (λ l. foldl g (getD b v d) l) (sym (filter-filter (λ x. eqb (owner x) v) xs))
+      ∙ sym (place b (filter (λ x. eqb (owner x) v) xs) v h (all-filter (λ x. ltb (owner x) n) (λ x. eqb (owner x) v) xs a))

@@ -10,11 +10,11 @@ use native.Mathlib.Numerals.{add-one}
 use native.Mathlib.Omega.{arith}
 use lib.ListN.{length, take, drop, getD, length-take, length-drop, drop-of-length-le, List·getD-eq-default}
 use lib.Seq.{take-suc, take-add, take-nil, take-all, take-take, drop-drop, getD-take, getD-drop}
-use Rattle.laws.specs.Lists.{span}
+use Rattle.laws.specs.Lists.{countWhile}
 use Rattle.laws.specs.Spans.{run, endOf, endIn}
 use Rattle.laws.specs.Bytes.{part, between}
 use Rattle.laws.proofs.Lists.{drop-next}
-use Rattle.laws.proofs.Spans.{span-yes, span-no, span-take, span-stops}
+use Rattle.laws.proofs.Spans.{count-while-yes, count-while-no, count-while-take, count-while-stops}
 
 -- what is taken of what is left is what is left of what is taken
 pub take-drop {ℓ} : {A : Type ℓ} (a n : ℕ) (l : List A) → take n (drop a l) ≡ drop a (take (a + n) l)
@@ -177,30 +177,30 @@ module _ (s : List ℕ) (i b : ℕ) where
 -- THE BYTES OF ONE KIND AT ITS FRONT
 module _ (p : ℕ → Bool) (s : List ℕ) (i b : ℕ) where
   -- they are those of the line, as far as the text goes
-  pub span-part : (n : ℕ) → span p (part s i n) ≡ min n (span p (drop i s))
+  pub count-while-part : (n : ℕ) → countWhile p (part s i n) ≡ min n (countWhile p (drop i s))
   unfolding part
-  span-part n = span-take p n (drop i s)
+  count-while-part n = count-while-take p n (drop i s)
 
   -- so is their end
   pub endIn-endOf : i ≤ b → endIn p s i b ≡ min b (endOf p s i)
-  endIn-endOf h = omega (arith, span-part (b - i))
+  endIn-endOf h = omega (arith, count-while-part (b - i))
 
   -- one byte further on, where the byte here is of the kind
   pub endIn-more : i < b → b ≤ length s → p (getD s i 0) ≡ true → endIn p s i b ≡ endIn p s (i + 1) b
   endIn-more h l e =
-      let q : span p (between s i b) ≡ suc (span p (between s (i + 1) b)) = rw (between-first s i b h l) (span-yes p (getD s i 0) (between s (i + 1) b) e) in
+      let q : countWhile p (between s i b) ≡ suc (countWhile p (between s (i + 1) b)) = rw (between-first s i b h l) (count-while-yes p (getD s i 0) (between s (i + 1) b) e) in
       omega arith
 
   -- here, where it is not
   pub endIn-stop : i < b → b ≤ length s → p (getD s i 0) ≡ false → endIn p s i b ≡ i
   endIn-stop h l e =
-      let q : span p (between s i b) ≡ 0 = rw (between-first s i b h l) (span-no p (getD s i 0) (between s (i + 1) b) e) in
+      let q : countWhile p (between s i b) ≡ 0 = rw (between-first s i b h l) (count-while-no p (getD s i 0) (between s (i + 1) b) e) in
       omega arith
 
   -- here, where the text is over
   pub endIn-over : b ≤ i → endIn p s i b ≡ i
   endIn-over h =
-      let q : span p (between s i b) ≡ 0 = rw (between-none s i b h) in
+      let q : countWhile p (between s i b) ≡ 0 = rw (between-none s i b h) in
       omega arith
 
   -- not before the position
@@ -209,24 +209,24 @@ module _ (p : ℕ → Bool) (s : List ℕ) (i b : ℕ) where
 
   -- nor past the text
   pub endIn-le : i ≤ b → endIn p s i b ≤ b
-  endIn-le h = omega (arith, span-part (b - i))
+  endIn-le h = omega (arith, count-while-part (b - i))
 
   -- the byte there is not of the kind
   pub endIn-stops : b ≤ length s → endIn p s i b < b → p (getD s (endIn p s i b) 0) ≡ false
   endIn-stops l h =
-      let k = span p (between s i b) in
-      rw (← getD-between s i b k h) (span-stops p (between s i b) 0 (rw (length-between s i b l) (omega arith)))
+      let k = countWhile p (between s i b) in
+      rw (← getD-between s i b k h) (count-while-stops p (between s i b) 0 (rw (length-between s i b l) (omega arith)))
 
   -- the text before their end: the first piece, where the kind is `no mark`; a word, where it is `no space`
   pub run-between : i ≤ b → run p (between s i b) ≡ between s i (endIn p s i b)
-  run-between h = take-between s i b (span p (between s i b)) (endIn-le h)
+  run-between h = take-between s i b (countWhile p (between s i b)) (endIn-le h)
 
   -- the text from their end on: without white space at its front, where the kind is `space`; with the mark, behind a first piece
-  pub behind-between : drop (span p (between s i b)) (between s i b) ≡ between s (endIn p s i b) b
-  behind-between = drop-between s i b (span p (between s i b))
+  pub behind-between : drop (countWhile p (between s i b)) (between s i b) ≡ between s (endIn p s i b) b
+  behind-between = drop-between s i b (countWhile p (between s i b))
 
   -- the text behind the byte at their end: what stands after the mark
-  pub after-between : drop (span p (between s i b) + 1) (between s i b) ≡ between s (endIn p s i b + 1) b
+  pub after-between : drop (countWhile p (between s i b) + 1) (between s i b) ≡ between s (endIn p s i b + 1) b
   after-between =
-      let e : i + (span p (between s i b) + 1) ≡ i + span p (between s i b) + 1 = omega arith in
-      drop-between s i b (span p (between s i b) + 1) ∙ ap (λ (k : ℕ). between s k b) e
+      let e : i + (countWhile p (between s i b) + 1) ≡ i + countWhile p (between s i b) + 1 = omega arith in
+      drop-between s i b (countWhile p (between s i b) + 1) ∙ ap (λ (k : ℕ). between s k b) e

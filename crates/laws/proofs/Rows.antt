@@ -9,9 +9,9 @@ use native.Mathlib.Numerals.{add-one}
 use native.Mathlib.Omega.{arith}
 use lib.ListN.{length, take, drop, getD, set, length-append}
 use lib.Seq.{getD-at, set-append-left, set-at, set-getD, take-at, drop-at, drop-length}
-use Rattle.laws.specs.Lists.{cat, All}
+use Rattle.laws.specs.Lists.{concat, All}
 use Rattle.laws.specs.Bytes.{part, over, splice, rows, mapTo, encAll}
-use Rattle.laws.proofs.Lists.{map-append, cat-append}
+use Rattle.laws.proofs.Lists.{map-append, concat-append}
 use Rattle.laws.proofs.Parts.{length-part, part-part, part-front, part-back, take-part, drop-part}
 use Rattle.laws.proofs.Splices.{over-eq, part-same, part-below, part-above, part-around, part-within}
 
@@ -206,7 +206,7 @@ module _ {R : Type 0} (enc : R → List ℕ) where
   -- of two lists, one after the other
   pub encAll-append : (xs ys : List R) → encAll enc (xs ++ ys) ≡ encAll enc xs ++ encAll enc ys
   unfolding encAll
-  encAll-append xs ys = ap cat (map-append enc xs ys) ∙ cat-append (map enc xs) (map enc ys)
+  encAll-append xs ys = ap concat (map-append enc xs ys) ∙ concat-append (map enc xs) (map enc ys)
 
   -- one record more, at the end
   pub encAll-snoc : (xs : List R) (x : R) → encAll enc (xs ++ (x ∷ [])) ≡ encAll enc xs ++ enc x

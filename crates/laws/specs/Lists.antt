@@ -25,14 +25,14 @@ All P [] = Unit {0}
 All P (x ∷ xs) = P x × All P xs
 
 -- the elements that pass a test, in order
-abbrev pub keep {ℓ} : {A : Type ℓ} → (A → Bool) → List A → List A
-keep p [] = []
-keep p (x ∷ xs) = cond (p x) (x ∷ keep p xs) (keep p xs)
+abbrev pub filter {ℓ} : {A : Type ℓ} → (A → Bool) → List A → List A
+filter p [] = []
+filter p (x ∷ xs) = cond (p x) (x ∷ filter p xs) (filter p xs)
 
 -- the lists, one after the other
-abbrev pub cat {ℓ} : {A : Type ℓ} → List (List A) → List A
-cat [] = []
-cat (x ∷ xs) = x ++ cat xs
+abbrev pub concat {ℓ} : {A : Type ℓ} → List (List A) → List A
+concat [] = []
+concat (x ∷ xs) = x ++ concat xs
 
 -- the sum of a number for each element
 abbrev pub sum {ℓ} : {A : Type ℓ} → (A → ℕ) → List A → ℕ
@@ -40,9 +40,9 @@ sum f [] = 0
 sum f (x ∷ xs) = f x + sum f xs
 
 -- how many elements at the front pass
-abbrev pub span {ℓ} : {A : Type ℓ} → (A → Bool) → List A → ℕ
-span p [] = 0
-span p (c ∷ s) = elim (p c) [ true ↦ suc (span p s) | false ↦ 0 ]
+abbrev pub countWhile {ℓ} : {A : Type ℓ} → (A → Bool) → List A → ℕ
+countWhile p [] = 0
+countWhile p (c ∷ s) = elim (p c) [ true ↦ suc (countWhile p s) | false ↦ 0 ]
 
 -- the element at place k changed; nothing past the end
 abbrev pub alterAt {ℓ} : {A : Type ℓ} → ℕ → (A → A) → List A → List A
@@ -74,9 +74,9 @@ startsWith (p ∷ ps) [] = false
 startsWith (p ∷ ps) (c ∷ s) = eqb p c && startsWith ps s
 
 -- the text v stands in the list
-abbrev pub has : List ℕ → List (List ℕ) → Bool
-has v [] = false
-has v (w ∷ ws) = eqText w v || has v ws
+abbrev pub elem : List ℕ → List (List ℕ) → Bool
+elem v [] = false
+elem v (w ∷ ws) = eqText w v || elem v ws
 
 -- where the text v stands first in the list; the list's length if it does not
 abbrev pub indexOf : List ℕ → List (List ℕ) → ℕ

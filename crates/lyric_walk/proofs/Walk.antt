@@ -8,7 +8,7 @@ use lib.Dec.{leb}
 use lib.ListN.{length, getD, length-map}
 use borrow.Author.Tests.{leb-true, eq-eqb, ne-eqb}
 use Rattle.laws.specs.Bytes.{part, between}
-use Rattle.laws.proofs.Lists.{keep-passes, map-append}
+use Rattle.laws.proofs.Lists.{filter-passes, map-append}
 use Rattle.laws.proofs.Parts.{length-between, part-suc}
 use Rattle.standard.specs.Lyrics.{syllableText}
 use Rattle.reader.specs.Lyrics.{Syllable, put}
@@ -29,7 +29,7 @@ unfolding syllableIs
 same-syllable text f r i = ap (syllableIs text) (i .same) ∙ (λ j. record { verse = f .verse; syllabic = syllableIs text f .syllabic; extend = f .extend; text = syllableText (i .cut .same text refl j) })
 
 rises : (from : ℕ) (ys zs : List Syllable) (y : Syllable) → fromVerse from ys ≡ y ∷ zs → from ≤ y .verse
-rises from ys zs y e = leb-true from (y .verse) ((rw e at (keep-passes (λ (x : Syllable). leb from (x .verse)) ys)) .0)
+rises from ys zs y e = leb-true from (y .verse) ((rw e at (filter-passes (λ (x : Syllable). leb from (x .verse)) ys)) .0)
 
 verse-is : (text : List ℕ) (f : Found) → syllableIs text f .verse ≡ f .verse
 unfolding syllableIs

@@ -5,7 +5,7 @@ use mathlib.Core.Bool.{cond}
 use mathlib.Core.List.{List, [], _∷_}
 use lib.Dec.{eqb, leb}
 use lib.ListN.{length, getD}
-use Rattle.laws.specs.Lists.{keep}
+use Rattle.laws.specs.Lists.{filter}
 use Rattle.laws.specs.Bytes.{between}
 use Rattle.standard.specs.Bytes.{is}
 use Rattle.standard.specs.Lyrics.{syllableText}
@@ -59,10 +59,10 @@ better from best verse code = cond (eqb code 4) best (cond (leb from verse) (min
 
 -- the syllables of one verse; those from a verse on
 abbrev pub ofVerse : ℕ → List Syllable → List Syllable
-ofVerse v ys = keep (λ (y : Syllable). eqb (y .verse) v) ys
+ofVerse v ys = filter (λ (y : Syllable). eqb (y .verse) v) ys
 
 abbrev pub fromVerse : ℕ → List Syllable → List Syllable
-fromVerse v ys = keep (λ (y : Syllable). leb v (y .verse)) ys
+fromVerse v ys = filter (λ (y : Syllable). leb v (y .verse)) ys
 
 -- the syllable that was found: `~` is a space
 unfoldable pub syllableIs : List ℕ → Found → Syllable

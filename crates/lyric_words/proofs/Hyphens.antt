@@ -5,14 +5,14 @@ use mathlib.Core.Bool.{Bool, true, false, not}
 use mathlib.Core.List.{List, [], _∷_}
 use native.Mathlib.Omega.{arith}
 use lib.ListN.{length, getD, take, drop}
-use Rattle.laws.specs.Lists.{span}
+use Rattle.laws.specs.Lists.{countWhile}
 use Rattle.laws.specs.Spans.{endIn}
 use Rattle.laws.specs.Bytes.{between}
 use Rattle.laws.proofs.Bools.{by-test}
-use Rattle.laws.proofs.Spans.{span-yes, span-no}
+use Rattle.laws.proofs.Spans.{count-while-yes, count-while-no}
 use Rattle.laws.proofs.Parts.{between-first, run-between, behind-between}
 use Rattle.standard.specs.Lyrics.{Syllabic, single, begins, ends, middle, syllabicOf, syllable, syllables, syllableText}
-use Rattle.reader.specs.Pieces.{pieces, words, mark}
+use Rattle.reader.specs.Pieces.{pieces, words, separator}
 use Rattle.reader.specs.Lyrics.{orSkip}
 use Rattle.reader.specs.Codes.{syllabicCode}
 use Rattle.reader.proofs.WordLaws.{stretch, words-mark, words-word}
@@ -35,37 +35,37 @@ unfolding words pieces
 words-none w = refl
 
 -- hyphens at the front are passed over
-pub words-hyphens : (s : List ℕ) → words (mark isHyphen) s ≡ words (mark isHyphen) (drop (span isHyphen s) s)
+pub words-hyphens : (s : List ℕ) → words (separator isHyphen) s ≡ words (separator isHyphen) (drop (countWhile isHyphen s) s)
 words-hyphens [] = refl
 words-hyphens (c ∷ s) =
     by-test (isHyphen c)
-    (λ e. let one : mark isHyphen (c ∷ s) ≡ 1 = rw e in
-    words-mark (mark isHyphen) c s 0 one ∙ words-hyphens s ∙ ap (λ (k : ℕ). words (mark isHyphen) (drop k (c ∷ s))) (sym (span-yes isHyphen c s e)))
-    (λ e. ap (λ (k : ℕ). words (mark isHyphen) (drop k (c ∷ s))) (sym (span-no isHyphen c s e)))
+    (λ e. let one : separator isHyphen (c ∷ s) ≡ 1 = rw e in
+    words-mark (separator isHyphen) c s 0 one ∙ words-hyphens s ∙ ap (λ (k : ℕ). words (separator isHyphen) (drop k (c ∷ s))) (sym (count-while-yes isHyphen c s e)))
+    (λ e. ap (λ (k : ℕ). words (separator isHyphen) (drop k (c ∷ s))) (sym (count-while-no isHyphen c s e)))
 
 -- a piece goes up to the next hyphen
-stretch-span : (s : List ℕ) → stretch (mark isHyphen) s ≡ span noHyphen s
+stretch-count-while : (s : List ℕ) → stretch (separator isHyphen) s ≡ countWhile noHyphen s
 unfolding stretch
-stretch-span [] = refl
-stretch-span (c ∷ s) =
-    by-test (isHyphen c) (λ e. rw (e, stretch, span)) (λ e. rw (e, stretch, span) (ap suc (stretch-span s)))
+stretch-count-while [] = refl
+stretch-count-while (c ∷ s) =
+    by-test (isHyphen c) (λ e. rw (e, stretch, countWhile)) (λ e. rw (e, stretch, countWhile) (ap suc (stretch-count-while s)))
 
 module _ (text : List ℕ) (at end : ℕ) where
   -- hyphens at the front of a word are passed over
-  pub hyphens-past : words (mark isHyphen) (between text at end) ≡ words (mark isHyphen) (between text (endIn isHyphen text at end) end)
-  hyphens-past = words-hyphens (between text at end) ∙ ap (words (mark isHyphen)) (behind-between isHyphen text at end)
+  pub hyphens-past : words (separator isHyphen) (between text at end) ≡ words (separator isHyphen) (between text (endIn isHyphen text at end) end)
+  hyphens-past = words-hyphens (between text at end) ∙ ap (words (separator isHyphen)) (behind-between isHyphen text at end)
 
   -- a piece, and those behind it
   pub piece-first : at < end → end ≤ length text → isHyphen (getD text at 0) ≡ false
-      → words (mark isHyphen) (between text at end) ≡ between text at (endIn noHyphen text at end) ∷ words (mark isHyphen) (between text (endIn noHyphen text at end) end)
+      → words (separator isHyphen) (between text at end) ≡ between text at (endIn noHyphen text at end) ∷ words (separator isHyphen) (between text (endIn noHyphen text at end) end)
   piece-first h l e =
       let here = between-first text at end h l in
-      let none : mark isHyphen (getD text at 0 ∷ between text (at + 1) end) ≡ 0 = rw e in
-      ap (words (mark isHyphen)) here
-      ∙ words-word (mark isHyphen) (getD text at 0) (between text (at + 1) end) none
-      ∙ ap (λ (s : List ℕ). take (stretch (mark isHyphen) s) s ∷ words (mark isHyphen) (drop (stretch (mark isHyphen) s) s)) (sym here)
-      ∙ ap (λ (k : ℕ). take k (between text at end) ∷ words (mark isHyphen) (drop k (between text at end))) (stretch-span (between text at end))
-      ∙ (λ j. run-between noHyphen text at end (omega arith) j ∷ words (mark isHyphen) (behind-between noHyphen text at end j))
+      let none : separator isHyphen (getD text at 0 ∷ between text (at + 1) end) ≡ 0 = rw e in
+      ap (words (separator isHyphen)) here
+      ∙ words-word (separator isHyphen) (getD text at 0) (between text (at + 1) end) none
+      ∙ ap (λ (s : List ℕ). take (stretch (separator isHyphen) s) s ∷ words (separator isHyphen) (drop (stretch (separator isHyphen) s) s)) (sym here)
+      ∙ ap (λ (k : ℕ). take k (between text at end) ∷ words (separator isHyphen) (drop k (between text at end))) (stretch-count-while (between text at end))
+      ∙ (λ j. run-between noHyphen text at end (omega arith) j ∷ words (separator isHyphen) (behind-between noHyphen text at end j))
 
 -- SYLLABLES
 -- the last piece of a word

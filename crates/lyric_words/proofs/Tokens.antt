@@ -15,7 +15,7 @@ use Rattle.laws.proofs.Lists.{eqText-length}
 use Rattle.laws.proofs.Parts.{length-between, getD-between, between-none, between-first, endIn-ge, endIn-le, endIn-more, endIn-stops}
 use Rattle.standard.specs.Bytes.{ascii, first, last}
 use Rattle.standard.specs.Lyrics.{Syllabic, single, begins, ends, middle, syllabicOf, Word, skip, hold, syllable, syllables, syllableText}
-use Rattle.reader.specs.Pieces.{words, mark, whiteAt}
+use Rattle.reader.specs.Pieces.{words, separator, whiteAt}
 use Rattle.reader.specs.Lyrics.{orSkip, wordOf, wordsOf, lyricWords}
 use Rattle.reader.specs.Codes.{syllabicCode}
 use Rattle.lyric_words.specs.declared.Token.{Token}
@@ -49,17 +49,17 @@ small-more a b (T.Syllable at end code) h s = (omega (arith, s .0), omega (arith
 -- behind the word no syllable is left
 pub word-done : (text : List ℕ) (c : Cursor) → c .word ≤ c .at → inWord text c ≡ []
 unfolding inWord syllables
-word-done text c h = ap (λ (l : List ℕ). syllables (c .led) (c .trailed) (words (mark isHyphen) l)) (between-none text (c .at) (c .word) h) ∙ ap (syllables (c .led) (c .trailed)) (words-none (mark isHyphen))
+word-done text c h = ap (λ (l : List ℕ). syllables (c .led) (c .trailed) (words (separator isHyphen) l)) (between-none text (c .at) (c .word) h) ∙ ap (syllables (c .led) (c .trailed)) (words-none (separator isHyphen))
 
 -- A SYLLABLE
 module _ (text : List ℕ) (at word : ℕ) (led trailed : Bool) (e q code : ℕ) (h : at < word) (l : word ≤ length text) (n : isHyphen (getD text at 0) ≡ false)
     (ee : e ≡ endIn noHyphen text at word) (qe : q ≡ endIn isHyphen text e word) where
   -- the piece, and those behind it
-  pieces-at : words (mark isHyphen) (between text at word) ≡ between text at e ∷ words (mark isHyphen) (between text q word)
+  pieces-at : words (separator isHyphen) (between text at word) ≡ between text at e ∷ words (separator isHyphen) (between text q word)
   pieces-at =
       piece-first text at word h l n
-      ∙ ap (λ (k : ℕ). between text at k ∷ words (mark isHyphen) (between text k word)) (sym ee)
-      ∙ ap (λ (r : List (List ℕ)). between text at e ∷ r) (hyphens-past text e word ∙ ap (λ (k : ℕ). words (mark isHyphen) (between text k word)) (sym qe))
+      ∙ ap (λ (k : ℕ). between text at k ∷ words (separator isHyphen) (between text k word)) (sym ee)
+      ∙ ap (λ (r : List (List ℕ)). between text at e ∷ r) (hyphens-past text e word ∙ ap (λ (k : ℕ). words (separator isHyphen) (between text k word)) (sym qe))
 
   past : at < e
   past = omega (arith, ee, endIn-more noHyphen text at word h l (ap not n), endIn-ge noHyphen text (at + 1) word)
@@ -92,8 +92,8 @@ module _ (text : List ℕ) (at word : ℕ) (led trailed : Bool) (e q code : ℕ)
   syllable-next r ce =
       let p = between text at e in
       let x = between text q (endIn noHyphen text q word) in
-      let ps = words (mark isHyphen) (between text (endIn noHyphen text q word) word) in
-      let more : words (mark isHyphen) (between text q word) ≡ x ∷ ps = piece-first text q word r l (at-piece r) in
+      let ps = words (separator isHyphen) (between text (endIn noHyphen text q word) word) in
+      let more : words (separator isHyphen) (between text q word) ≡ x ∷ ps = piece-first text q word r l (at-piece r) in
       let s : asSyllabic code ≡ syllabicOf led true = ap asSyllabic ce ∙ syllabic-back (syllabicOf led true) in
       record {
         says =
@@ -109,7 +109,7 @@ module _ (text : List ℕ) (at word : ℕ) (led trailed : Bool) (e q code : ℕ)
   unfolding said inWord
   syllable-last r ce =
       let p = between text at e in
-      let none : words (mark isHyphen) (between text q word) ≡ [] = ap (words (mark isHyphen)) (between-none text q word (omega arith)) ∙ words-none (mark isHyphen) in
+      let none : words (separator isHyphen) (between text q word) ≡ [] = ap (words (separator isHyphen)) (between-none text q word (omega arith)) ∙ words-none (separator isHyphen) in
       let s : asSyllabic code ≡ syllabicOf led trailed = ap asSyllabic ce ∙ syllabic-back (syllabicOf led trailed) in
       record {
         says =
@@ -130,7 +130,7 @@ module _ (text : List ℕ) (at word : ℕ) (h : at < word) (l : word ≤ length 
   unfolding plainOf said orSkip syllables
   plain-skip next e z =
       let w = between text at word in
-      let none : words (mark isHyphen) w ≡ [] = hyphens-past text at word ∙ ap (λ (k : ℕ). words (mark isHyphen) (between text k word)) (sym e ∙ z) ∙ ap (words (mark isHyphen)) (between-none text word word (omega arith)) ∙ words-none (mark isHyphen) in
+      let none : words (separator isHyphen) w ≡ [] = hyphens-past text at word ∙ ap (λ (k : ℕ). words (separator isHyphen) (between text k word)) (sym e ∙ z) ∙ ap (words (separator isHyphen)) (between-none text word word (omega arith)) ∙ words-none (separator isHyphen) in
       record {
         says =
             ap (λ (ps : List (List ℕ)). orSkip (syllables (isHyphen (first w)) (isHyphen (last w)) ps)) none
@@ -152,13 +152,13 @@ module _ (text : List ℕ) (at word : ℕ) (h : at < word) (l : word ≤ length 
       let k : at + (word - at - 1) ≡ word - 1 = omega arith in
       let f : first w ≡ getD text at 0 = getD-between text at word 0 (omega arith) ∙ ap (λ (x : ℕ). getD text x 0) j in
       let g : last w ≡ getD text (word - 1) 0 = ap (λ (x : ℕ). getD w (x - 1) 0) n ∙ getD-between text at word (word - at - 1) (omega arith) ∙ ap (λ (x : ℕ). getD text x 0) k in
-      let same : words (mark isHyphen) w ≡ words (mark isHyphen) (between text next word) = hyphens-past text at word ∙ ap (λ (x : ℕ). words (mark isHyphen) (between text x word)) (sym e) in
+      let same : words (separator isHyphen) w ≡ words (separator isHyphen) (between text next word) = hyphens-past text at word ∙ ap (λ (x : ℕ). words (separator isHyphen) (between text x word)) (sym e) in
       let some = piece-first text next word z l nh in
       let b = isHyphen (getD text at 0) in
       let a = isHyphen (getD text (word - 1) 0) in
       let here : plainOf w ≡ inWord text c =
       (λ i. orSkip (syllables (isHyphen (f i)) (isHyphen (g i)) ((same ∙ some) i)))
-      ∙ or-skip-some b a (between text next (endIn noHyphen text next word)) (words (mark isHyphen) (between text (endIn noHyphen text next word) word))
+      ∙ or-skip-some b a (between text next (endIn noHyphen text next word)) (words (separator isHyphen) (between text (endIn noHyphen text next word) word))
       ∙ ap (syllables b a) (sym some) in
       record {
         says = here ∙ s .says;

@@ -8,7 +8,7 @@ use lib.ListN.{length, getD}
 use Rattle.laws.specs.Bytes.{between}
 use Rattle.standard.specs.Bytes.{is, first, last}
 use Rattle.standard.specs.Lyrics.{Syllabic, single, begins, ends, middle, Word, skip, hold, syllable, syllables, syllableText}
-use Rattle.reader.specs.Pieces.{words, mark, whiteAt}
+use Rattle.reader.specs.Pieces.{words, separator, whiteAt}
 use Rattle.reader.specs.Lyrics.{orSkip, wordOf, lyricWords}
 use Rattle.lyric_words.specs.declared.Token.{Token}
 use Rattle.lyric_words.specs.declared.Token.the-variants as T
@@ -38,11 +38,11 @@ Small b (T.Syllable at end code) = (at ≤ b) × (end ≤ b) × (code < 4)
 
 -- the syllables still to come of the word at the cursor
 unfoldable pub inWord : List ℕ → Cursor → List Word
-inWord text c = syllables (c .led) (c .trailed) (words (mark isHyphen) (between text (c .at) (c .word)))
+inWord text c = syllables (c .led) (c .trailed) (words (separator isHyphen) (between text (c .at) (c .word)))
 
 -- a word that is no `|`, `*` or `_`
 unfoldable pub plainOf : List ℕ → List Word
-plainOf w = orSkip (syllables (isHyphen (first w)) (isHyphen (last w)) (words (mark isHyphen) w))
+plainOf w = orSkip (syllables (isHyphen (first w)) (isHyphen (last w)) (words (separator isHyphen) w))
 
 -- the words still to come of the line that ends at `end`
 unfoldable pub ahead : List ℕ → ℕ → Cursor → List Word

@@ -8,16 +8,16 @@ use native.Mathlib.Nat.{add-zero}
 use lib.Dec.{eqb}
 use lib.ListN.{length, getD, take, drop, replicate, getD-replicate}
 use borrow.Author.Tests.{eq-eqb, ne-eqb}
-use Rattle.laws.specs.Lists.{All, keep}
+use Rattle.laws.specs.Lists.{All, filter}
 use Rattle.laws.specs.Bytes.{part, between, splice, zeros, rows, u32At}
 use Rattle.laws.proofs.Bools.{and-no-left, and-no-right, and-both}
-use Rattle.laws.proofs.Lists.{map-append, keep-append, keep-yes, keep-no, sum-append, All-append}
+use Rattle.laws.proofs.Lists.{map-append, filter-append, filter-yes, filter-no, sum-append, All-append}
 use Rattle.laws.proofs.Parts.{getD-part, length-between, part-front}
 use Rattle.laws.proofs.Splices.{length-splice, length-zeros, take-splice, drop-splice-past, byte-same}
 use Rattle.laws.proofs.Numbers.{littleAt-part, littleAt-own, u32-sum}
 use Rattle.laws.proofs.Rows.{rows-more, rows-none, rows-front, length-rows}
 use Rattle.reader.specs.State as reader
-use Rattle.reader.specs.Scan.{Item, born, reset, headed, keyed, metered, sung, played}
+use Rattle.reader.specs.Scan.{Item, voiceDeclared, reset, keyInHeader, keyChange, meterChange, lyricLine, musicLine}
 use Rattle.reader.specs.Lyrics.{Syllable, sing, sungBy, lyricWords}
 use Rattle.scan_table.specs.declared.Row as items
 use Rattle.scan_table.specs.Rows.{decItem, itemsFrom, itemBytes, itemAs, itemIn, RowIs}
@@ -31,13 +31,13 @@ use Rattle.lyrics.proofs.Sheets.{outside-none, outside-next}
 -- AN ITEM
 -- the words of a lyric item
 wordsOfItem : Item → List ℕ
-wordsOfItem (born h) = []
+wordsOfItem (voiceDeclared h) = []
 wordsOfItem reset = []
-wordsOfItem headed = []
-wordsOfItem (keyed k) = []
-wordsOfItem (metered t) = []
-wordsOfItem (sung p t) = t
-wordsOfItem (played u t l) = []
+wordsOfItem keyInHeader = []
+wordsOfItem (keyChange k) = []
+wordsOfItem (meterChange t) = []
+wordsOfItem (lyricLine p t) = t
+wordsOfItem (musicLine u t l) = []
 
 words-five : (text : List ℕ) (r : items.Row) (k : ℕ) → k ≡ 5 → wordsOfItem (itemAs k text r) ≡ between text (r .at) (r .end)
 unfolding itemAs wordsOfItem
@@ -55,11 +55,11 @@ item-part text q r i = ap (λ (x : ℕ × Item). x .0) (i .item)
 
 no-line : (text : List ℕ) (p : ℕ) (q : items.Row) → isLine p q ≡ false → lineOf text p q ≡ []
 unfolding lineOf
-no-line text p q e = ap (map (lineIn text)) (keep-no (isLine p) q [] e)
+no-line text p q e = ap (map (lineIn text)) (filter-no (isLine p) q [] e)
 
 one-line : (text : List ℕ) (p : ℕ) (q : items.Row) → isLine p q ≡ true → lineOf text p q ≡ lineIn text q ∷ []
 unfolding lineOf
-one-line text p q e = ap (map (lineIn text)) (keep-yes (isLine p) q [] e)
+one-line text p q e = ap (map (lineIn text)) (filter-yes (isLine p) q [] e)
 
 rows-one : (l : reader.Sung) → rowsOf (l ∷ []) ≡ rowsFor (length (l .text))
 unfolding rowsOf
@@ -119,7 +119,7 @@ module _ (text s : List ℕ) (p i : ℕ) (h : Sheet) (r : items.Row) (is : RowIs
     line-item t n x =
         record {
           kept = x .kept;
-          sung =
+          lyricLine =
               x .sung
               ∙ (λ j. sing (f .start j) (f .verse j) 0 (lyricWords (same-text j)) (syllablesIn text s h))
               ∙ ap (λ (ls : List reader.Sung). sungBy ls (syllablesIn text s h)) (sym (one-line text p (itemAt s i) yes-line));
@@ -132,9 +132,9 @@ module _ (text s : List ℕ) (p i : ℕ) (h : Sheet) (r : items.Row) (is : RowIs
 pub lines-more : (text s : List ℕ) (p i : ℕ) → linesIn text s p (i + 1) ≡ linesIn text s p i ++ lineOf text p (itemAt s i)
 unfolding linesIn lineOf
 lines-more text s p i =
-    ap (λ (rs : List items.Row). map (lineIn text) (keep (isLine p) rs)) (rows-more decItem itemBytes s itemsFrom i)
-    ∙ ap (map (lineIn text)) (keep-append (isLine p) (rows decItem itemBytes s itemsFrom i) (itemAt s i ∷ []))
-    ∙ map-append (lineIn text) (keep (isLine p) (rows decItem itemBytes s itemsFrom i)) (keep (isLine p) (itemAt s i ∷ []))
+    ap (λ (rs : List items.Row). map (lineIn text) (filter (isLine p) rs)) (rows-more decItem itemBytes s itemsFrom i)
+    ∙ ap (map (lineIn text)) (filter-append (isLine p) (rows decItem itemBytes s itemsFrom i) (itemAt s i ∷ []))
+    ∙ map-append (lineIn text) (filter (isLine p) (rows decItem itemBytes s itemsFrom i)) (filter (isLine p) (itemAt s i ∷ []))
 
 rows-append : (xs ys : List reader.Sung) → rowsOf (xs ++ ys) ≡ rowsOf xs + rowsOf ys
 unfolding rowsOf
@@ -189,7 +189,7 @@ module _ (text s₀ : List ℕ) (n p : ℕ) (h : Sheet) (notes : List (List Syll
   applying-next t c x =
       record {
         kept = x .kept;
-        sung =
+        lyricLine =
             x .sung
             ∙ (λ j. sungBy (same-line j) (v .sung j))
             ∙ sym (sung-append (linesIn text s₀ p i) (lineOf text p (itemAt s₀ i)) notes)
@@ -211,7 +211,7 @@ applying-end text s₀ n p h notes s count i v l =
 
 no-lines : (text s : List ℕ) (p : ℕ) → linesIn text s p 0 ≡ []
 unfolding linesIn
-no-lines text s p = ap (λ (rs : List items.Row). map (lineIn text) (keep (isLine p) rs)) (rows-none decItem itemBytes s itemsFrom)
+no-lines text s p = ap (λ (rs : List items.Row). map (lineIn text) (filter (isLine p) rs)) (rows-none decItem itemBytes s itemsFrom)
 
 pub applying-start : (text s : List ℕ) (n p : ℕ) (h : Sheet) → Kept s (withCount h 0) → Applying text s n p h (syllablesIn text s (withCount h 0)) s 0 0
 unfolding sungBy
@@ -260,7 +260,7 @@ none-sung text s h =
 -- the lines are those that stand before the tables
 same-lines : (text s t : List ℕ) (n p lo : ℕ) → take lo t ≡ take lo s → itemsFrom + itemBytes * n ≤ lo → linesIn text t p n ≡ linesIn text s p n
 unfolding linesIn
-same-lines text s t n p lo e h = ap (λ (rs : List items.Row). map (lineIn text) (keep (isLine p) rs)) (rows-front decItem itemBytes s t lo itemsFrom n e h)
+same-lines text s t n p lo e h = ap (λ (rs : List items.Row). map (lineIn text) (filter (isLine p) rs)) (rows-front decItem itemBytes s t lo itemsFrom n e h)
 
 module _ (text s : List ℕ) (n p : ℕ) (h : Sheet) (fits : Fits text s n p h) (t : List ℕ) (e : t ≡ splice s (h .heads) (zeros (h .heads + 4 * h .sounded - h .heads))) where
   cleared : Outside s t (h .heads) (h .log + 16 * 0)

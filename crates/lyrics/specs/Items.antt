@@ -5,7 +5,7 @@ use mathlib.Core.Bool.{Bool, _&&_}
 use mathlib.Core.List.{List, [], _∷_, map}
 use lib.Dec.{eqb}
 use lib.ListN.{length}
-use Rattle.laws.specs.Lists.{keep, sum}
+use Rattle.laws.specs.Lists.{filter, sum}
 use Rattle.laws.specs.Bytes.{part, between, rows}
 use Rattle.reader.specs.State as reader
 use Rattle.reader.specs.Lyrics.{Syllable, sungBy}
@@ -30,11 +30,11 @@ itemAt s i = decItem (part s (itemsFrom + itemBytes * i) itemBytes)
 
 -- the line of an item, if it is one
 unfoldable pub lineOf : List ℕ → ℕ → items.Row → List reader.Sung
-lineOf text p r = map (lineIn text) (keep (isLine p) (r ∷ []))
+lineOf text p r = map (lineIn text) (filter (isLine p) (r ∷ []))
 
 -- those among the first n items
 unfoldable pub linesIn : List ℕ → List ℕ → ℕ → ℕ → List reader.Sung
-linesIn text s p n = map (lineIn text) (keep (isLine p) (rows decItem itemBytes s itemsFrom n))
+linesIn text s p n = map (lineIn text) (filter (isLine p) (rows decItem itemBytes s itemsFrom n))
 
 -- how many rows lines can need
 unfoldable pub rowsOf : List reader.Sung → ℕ

@@ -57,7 +57,7 @@ fn put_row(scratch: &mut [u8], at: usize, row: Row, next: u32)
 }
 
 // Adds a row to what is sung to a note; past the last note nothing. Answers how many rows are written.
-fn mark(scratch: &mut [u8], sheet: Sheet, note: usize, row: Row) -> usize
+fn append_row(scratch: &mut [u8], sheet: Sheet, note: usize, row: Row) -> usize
     requires { ⌜ (Room (now scratch) sheet) × (row .at < 2 ^ 32) × (row .end < 2 ^ 32) ⌝ }
     ensures { λ r. ⌜ Marked (now (scratch .entry)) (now (scratch .exit)) sheet note row r ⌝ }
 {
@@ -88,7 +88,7 @@ fn sing_hold(scratch: &mut [u8], sheet: Sheet, line: Line, taken: usize) -> Sung
         at: 0,
         end: 0,
     };
-    let count = mark(scratch, sheet, line.start + taken - 1, row);
+    let count = append_row(scratch, sheet, line.start + taken - 1, row);
     Sung {
         taken: taken + 1,
         count,
@@ -114,7 +114,7 @@ fn sing_syllable(
         at: at as u32,
         end: end as u32,
     };
-    let count = mark(scratch, sheet, line.start + taken, row);
+    let count = append_row(scratch, sheet, line.start + taken, row);
     Sung {
         taken: taken + 1,
         count,

@@ -10,10 +10,10 @@ use Rattle.laws.specs.Bytes.{splice, little, le32}
 use Rattle.standard.specs.Keys.{Key, keyAlter}
 use Rattle.standard.specs.Pitches.{Accidental, Written, Pitch, altered}
 use Rattle.reader.specs.Pitches.{Scope, remembered, orKey, soundBy, soundOf, scopeBy, scopeAfter}
-use Rattle.token_pitches.specs.declared.Mark.{Mark}
-use Rattle.token_pitches.specs.declared.Mark.the-variants as mark
+use Rattle.token_pitches.specs.declared.Sign.{Sign}
+use Rattle.token_pitches.specs.declared.Sign.the-variants as sign
 use Rattle.token_pitches.specs.declared.Pitch as code
-use Rattle.token_pitches.specs.Pitches.{markOf}
+use Rattle.token_pitches.specs.Pitches.{signOf}
 use Rattle.part_rows.specs.Table.{Table, Only}
 use Rattle.part_rows.specs.Encoded.{Remembered, scopeRow, pitchFor}
 use Rattle.part_rows.specs.declared.Sounded.{Sounded}
@@ -25,19 +25,19 @@ use Rattle.part_accidentals.specs.declared.Resolved.{Resolved}
 use Rattle.part_accidentals.specs.Resolving.{signs, writtenOf, entered, ResolvedAs}
 
 -- THE DEFINITION by the mark
-sound-marked : (k : Key) (sc : Scope) (w : Written) (a : Accidental) → w .mark ≡ some a → soundOf k sc w ≡ altered w a
+sound-marked : (k : Key) (sc : Scope) (w : Written) (a : Accidental) → w .sign ≡ some a → soundOf k sc w ≡ altered w a
 unfolding soundOf soundBy
 sound-marked k sc w a e = ap (soundBy k sc w) e
 
-scope-marked : (sc : Scope) (w : Written) (a : Accidental) → w .mark ≡ some a → altered w a ∷ sc ≡ scopeAfter sc w
+scope-marked : (sc : Scope) (w : Written) (a : Accidental) → w .sign ≡ some a → altered w a ∷ sc ≡ scopeAfter sc w
 unfolding scopeAfter scopeBy
 scope-marked sc w a e = sym (ap (scopeBy sc w) e)
 
-sound-unmarked : (k : Key) (sc : Scope) (w : Written) → w .mark ≡ none → soundOf k sc w ≡ orKey k w (remembered sc w)
+sound-unmarked : (k : Key) (sc : Scope) (w : Written) → w .sign ≡ none → soundOf k sc w ≡ orKey k w (remembered sc w)
 unfolding soundOf soundBy
 sound-unmarked k sc w e = ap (soundBy k sc w) e
 
-scope-unmarked : (sc : Scope) (w : Written) → w .mark ≡ none → scopeAfter sc w ≡ sc
+scope-unmarked : (sc : Scope) (w : Written) → w .sign ≡ none → scopeAfter sc w ≡ sc
 unfolding scopeAfter scopeBy
 scope-unmarked sc w e = ap (scopeBy sc w) e
 
@@ -59,14 +59,14 @@ module _ (s : List ℕ) (at count : ℕ) (state : AbcPartParseState) (voice : �
   pub found-inside : (h : Scopes s at count (state .scopes)) → 0 < found → found ≤ count
   found-inside h l = place-inside (h .scoped) voice in-four (writtenOf p) (record { alter = 0; cents = 0 }) found l (looked (h .scopes) (h .scoped))
 
-  module _ (alter cents : ℕ) (m : p .mark ≡ mark.Written alter cents) where
+  module _ (alter cents : ℕ) (m : p .sign ≡ sign.Written alter cents) where
     a : Accidental
     a = record { alter = alter; cents = cents }
 
-    marked : markOf (p .mark) ≡ some (record { alter = alter; cents = cents })
-    marked = ap markOf m
+    marked : signOf (p .sign) ≡ some (record { alter = alter; cents = cents })
+    marked = ap signOf m
 
-    one : signs (p .mark) ≡ 1
+    one : signs (p .sign) ≡ 1
     one = ap signs m
 
     -- its own accidental, for a step and octave that had one
@@ -75,7 +75,7 @@ module _ (s : List ℕ) (at count : ℕ) (state : AbcPartParseState) (voice : �
     unfolding altered
     by-revised h l s′ e =
         record {
-          only = only-splice at (at + 8 * (count + signs (p .mark))) s s′ (at + (8 * (found - 1) + 2)) (alter ∷ cents ∷ []) e (omega arith) (omega (arith, one, found-inside h l));
+          only = only-splice at (at + 8 * (count + signs (p .sign))) s s′ (at + (8 * (found - 1) + 2)) (alter ∷ cents ∷ []) e (omega arith) (omega (arith, one, found-inside h l));
           same-fifths = refl;
           same-minor = refl;
           rows-most = omega arith;
@@ -88,13 +88,13 @@ module _ (s : List ℕ) (at count : ℕ) (state : AbcPartParseState) (voice : �
 
     -- its own accidental, a new one
     pub by-new : (s′ : List ℕ) → s′ ≡ splice s (at + 8 * count) ((p .step ∷ p .octave ∷ alter ∷ cents ∷ []) ++ le32 (getD (state .scopes) voice 0))
-        → at + 8 * (count + signs (p .mark)) ≤ length s → count + signs (p .mark) < 2 ^ 32 → (t : AbcPartParseState) → t ≡ entered state voice (count + 1)
+        → at + 8 * (count + signs (p .sign)) ≤ length s → count + signs (p .sign) < 2 ^ 32 → (t : AbcPartParseState) → t ≡ entered state voice (count + 1)
         → ResolvedAs s at count state voice p s′ (record { sounded = soundedBy p alter cents; state = t; count = count + 1 })
     unfolding altered little
     by-new s′ e room small t d =
         record {
           only =
-              only-splice at (at + 8 * (count + signs (p .mark))) s s′ (at + 8 * count) ((p .step ∷ p .octave ∷ alter ∷ cents ∷ []) ++ le32 (getD (state .scopes) voice 0)) e (omega arith)
+              only-splice at (at + 8 * (count + signs (p .sign))) s s′ (at + 8 * count) ((p .step ∷ p .octave ∷ alter ∷ cents ∷ []) ++ le32 (getD (state .scopes) voice 0)) e (omega arith)
               (omega (arith, one));
           same-fifths = ap (λ (x : AbcPartParseState). x .fifths) d;
           same-minor = ap (λ (x : AbcPartParseState). x .minor) d;
@@ -107,16 +107,16 @@ module _ (s : List ℕ) (at count : ℕ) (state : AbcPartParseState) (voice : �
               (scoped-push sc voice in-four (altered (writtenOf p) (record { alter = alter; cents = cents })) s′ e (omega (arith, one)) (omega (arith, one))));
         }
 
-  module _ (m : p .mark ≡ mark.Nothing) where
-    unmarked : markOf (p .mark) ≡ none
-    unmarked = ap markOf m
+  module _ (m : p .sign ≡ sign.Nothing) where
+    unmarked : signOf (p .sign) ≡ none
+    unmarked = ap signOf m
 
     -- nothing is written
     kept : (r : Sounded) → ((k : Key) (scopes : List Scope) → k .fifths ≡ state .fifths → Scoped s at count (state .scopes) scopes → r ≡ pitchFor (soundOf k (getD scopes voice []) (writtenOf p)))
         → ResolvedAs s at count state voice p s (record { sounded = r; state = state; count = count })
     kept r e =
         record {
-          only = only-none at (at + 8 * (count + signs (p .mark))) s;
+          only = only-none at (at + 8 * (count + signs (p .sign))) s;
           same-fifths = refl;
           same-minor = refl;
           rows-most = omega arith;

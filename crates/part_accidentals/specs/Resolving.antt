@@ -7,10 +7,10 @@ use Rattle.laws.specs.Lists.{alterAt}
 use Rattle.standard.specs.Keys.{Key}
 use Rattle.standard.specs.Pitches.{Written}
 use Rattle.reader.specs.Pitches.{Scope, soundOf, scopeAfter}
-use Rattle.token_pitches.specs.declared.Mark.{Mark}
-use Rattle.token_pitches.specs.declared.Mark.the-variants as mark
+use Rattle.token_pitches.specs.declared.Sign.{Sign}
+use Rattle.token_pitches.specs.declared.Sign.the-variants as sign
 use Rattle.token_pitches.specs.declared.Pitch as code
-use Rattle.token_pitches.specs.Pitches.{markOf}
+use Rattle.token_pitches.specs.Pitches.{signOf}
 use Rattle.part_rows.specs.Table.{Only}
 use Rattle.part_rows.specs.Encoded.{pitchFor}
 use Rattle.part_chains.specs.Chains.{Scoped}
@@ -18,23 +18,23 @@ use Rattle.part_accidentals.specs.declared.AbcPartParseState.{AbcPartPar
 use Rattle.part_accidentals.specs.declared.Resolved.{Resolved}
 
 -- the rows that an accidental may take
-abbrev pub signs : Mark → ℕ
-signs mark.Nothing = 0
-signs (mark.Written a c) = 1
+abbrev pub signs : Sign → ℕ
+signs sign.Nothing = 0
+signs (sign.Written a c) = 1
 
 -- a pitch of the code as the definition's
 abbrev pub writtenOf : code.Pitch → Written
-writtenOf p = record { step = p .step; octave = p .octave; mark = markOf (p .mark) }
+writtenOf p = record { step = p .step; octave = p .octave; sign = signOf (p .sign) }
 
 abbrev pub entered : AbcPartParseState → ℕ → ℕ → AbcPartParseState
 entered t voice place = record { fifths = t .fifths; minor = t .minor; scopes = set (t .scopes) voice place }
 
 -- the pitch is the definition's, and the chains after it remember what its scopes remember
 pub record ResolvedAs (s : List ℕ) (at count : ℕ) (state : AbcPartParseState) (voice : ℕ) (p : code.Pitch) (s′ : List ℕ) (r : Resolved) : Type 0 where
-  pub only : Only at (at + 8 * (count + signs (p .mark))) s s′
+  pub only : Only at (at + 8 * (count + signs (p .sign))) s s′
   pub same-fifths : r .state .fifths ≡ state .fifths
   pub same-minor : r .state .minor ≡ state .minor
-  pub rows-most : r .count ≤ count + signs (p .mark)
+  pub rows-most : r .count ≤ count + signs (p .sign)
   pub sounds : (k : Key) (scopes : List Scope) → k .fifths ≡ state .fifths → Scoped s at count (state .scopes) scopes
       → r .sounded ≡ pitchFor (soundOf k (getD scopes voice []) (writtenOf p))
   pub keeps : (scopes : List Scope) → Scoped s at count (state .scopes) scopes

@@ -12,8 +12,8 @@ ghost use Rattle.part_rows.specs.Encoded.{Remembered, scopeRow};
 ghost use Rattle.part_chains.specs.Chains.{Chain, Chained, placeIn, Scopes};
 ghost use Rattle.part_accidentals.specs.Resolving.{ResolvedAs, signs, entered};
 use part_rows::Sounded;
-use token_pitches::Mark;
 use token_pitches::Pitch;
+use token_pitches::Sign;
 
 // What is kept of a voice: its key, fifths with 128 added, and for each overlay voice the place of the last accidental in scratch, counted from 1; 0 for none.
 pub struct AbcPartParseState {
@@ -146,15 +146,15 @@ pub fn resolve_abc_pitch(
     voice: usize,
     pitch: Pitch,
 ) -> Resolved
-    requires { ⌜ (voice < 4) × (pitch .step < 7) × (at + 8 * (count + signs (pitch .mark)) ≤ length (now store)) × (count + signs (pitch .mark) < 2 ^ 32) × Scopes (now store) at count (state .scopes) ⌝ }
+    requires { ⌜ (voice < 4) × (pitch .step < 7) × (at + 8 * (count + signs (pitch .sign)) ≤ length (now store)) × (count + signs (pitch .sign) < 2 ^ 32) × Scopes (now store) at count (state .scopes) ⌝ }
     ensures { λ r. ⌜ ResolvedAs (now (store .entry)) at count state voice pitch (now (store .exit)) r ⌝ }
 {
     let scopes = state.scopes;
     let place = scopes[voice];
     let found = find_accidental(store, at, place, pitch.step, pitch.octave);
-    let mark = pitch.mark;
-    match mark {
-        Mark::Written { alter, cents } => {
+    let sign = pitch.sign;
+    match sign {
+        Sign::Written { alter, cents } => {
             let sounded = Sounded {
                 step: pitch.step,
                 octave: pitch.octave,
@@ -177,7 +177,7 @@ pub fn resolve_abc_pitch(
                 count: next,
             }
         }
-        Mark::Nothing => {
+        Sign::Nothing => {
             if found != 0 {
                 return Resolved {
                     sounded: accidental_at(store, at, found),

@@ -11,7 +11,7 @@ use Rattle.part_rows.specs.Encoded.{rowBytes}
 use Rattle.part_registers.specs.declared.Tables.{Tables}
 use Rattle.part_registers.specs.declared.Registers.{Registers}
 use Rattle.part_registers.specs.Notes.{beams, groupedRow, beamedRow, halvedRow}
-use Rattle.part_invariant.specs.Held.{Room, Appendable, Appends}
+use Rattle.part_invariant.specs.Invariant.{Room, Appendable, Appends}
 use Rattle.part_invariant.specs.Appended.{beforeStore, appended}
 use Rattle.part_invariant.proofs.Appending.{append-small, appends}
 

@@ -2,7 +2,7 @@
 ghost use mathlib.Core.Path.{_≡_};
 ghost use Prim.Native.Nat.{_+_, _*_, _^_, _≤_, _<_};
 ghost use lib.ListN.{length};
-ghost use Rattle.part_invariant.specs.Held.{Room, Appendable, Appends};
+ghost use Rattle.part_invariant.specs.Invariant.{Room, Appendable, Appends};
 ghost use Rattle.part_invariant.specs.Appended.{beforeStore, placed, soundedOn, appended};
 ghost use Rattle.part_registers.specs.Notes.{halvedRow, beamedRow};
 use part_registers::Counts;
@@ -23,7 +23,7 @@ pub fn beam_before(store: &mut [u8], at: usize, place: u32, run: u8, kind: u8, v
     if run == 0 {
         return;
     }
-    if part_registers::can_beam(kind, value) {
+    if part_registers::abc_note_is_beamable(kind, value) {
         let i = (place - 1) as usize;
         if run == 1 {
             part_rows::set_note_beam(store, at, i, 1);

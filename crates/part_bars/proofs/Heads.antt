@@ -35,7 +35,7 @@ use Rattle.part_registers.specs.declared.Line.{Line}
 use Rattle.part_registers.specs.declared.Counts.{Counts}
 use Rattle.part_registers.specs.declared.Tables.{Tables}
 use Rattle.part_registers.specs.declared.Registers.{Registers}
-use Rattle.part_invariant.specs.Held.{Room, Stored, Held, Holding, pitchesIn, Grows, Does}
+use Rattle.part_invariant.specs.Invariant.{Room, Stored, Represents, RepresentedInLine, pitchesIn, Grows, Simulates}
 use Rattle.part_invariant.proofs.Stores.{withHeads, head-altered, head-only, head-pushed, head-pushed-only, scoped-behind}
 use Rattle.part_invariant.proofs.Logs.{last-head, count-most, counts-4}
 use Rattle.part_invariant.proofs.Appending.{someHead, room-same}
@@ -45,8 +45,8 @@ use Rattle.part_bars.specs.Bars.{codeOf, leftStore, nowhere, ended, open
 pub some-head : (l : LogState) → Standing l → 0 < length (l .heads)
 some-head l st = omega (arith, ap length (st .heads-are), length-append (st .older) (st .open-head ∷ []))
 
-pub held-heads : {t : Tables} {s : List ℕ} {r : Registers} → Holding t s r → 0 < r .counts .heads
-held-heads h = omega (arith, some-head (h .state) (h .standing), h .held .stored .heads-are)
+pub held-heads : {t : Tables} {s : List ℕ} {r : Registers} → RepresentedInLine t s r → 0 < r .counts .heads
+held-heads h = omega (arith, some-head (h .state) (h .standing), h .represents .stored .heads-are)
 
 -- ROOM FOR LESS
 pub room-less : (t : Tables) (c : Counts) (n h : ℕ) → Room t c n h 0 0 0 → Room t c n 0 0 0 0
@@ -55,7 +55,7 @@ room-less t c n h room =
 
 -- A WRITE INTO THE OPEN HEAD
 module _ {t : Tables} {s : List ℕ} {r : Registers} (room : Room t (r .counts) (length s) 0 0 0 0) (s′ : List ℕ) (f : ℕ) (bs : List ℕ) (e : s′ ≡ splice s (t .heads + 28 * (r .counts .heads - 1) + f) bs) (k : f + length bs ≤ 28)
-    (l : LogState) (some : 0 < length (l .heads)) (h : Held t s r [] l) where
+    (l : LogState) (some : 0 < length (l .heads)) (h : Represents t s r [] l) where
   at-last : r .counts .heads - 1 < length (l .heads)
   at-last = omega (arith, some, h .stored .heads-are)
 
@@ -70,7 +70,7 @@ module _ {t : Tables} {s : List ℕ} {r : Registers} (room : Room t (r .counts) 
   pub open-scoped : Scoped s′ (t .scopes) (r .counts .scopes) (r .key .scopes) (l .scopes)
   open-scoped = scoped-behind (h .scoped) s′ _ bs e (omega (arith, at-last, h .stored .heads-are, room .for-heads, room .for-notes, room .for-pitches))
 
-  pub open-held : (g : Head → Head) → splice (headRow (getD (l .heads) (r .counts .heads - 1) someHead)) f bs ≡ headRow (g (getD (l .heads) (r .counts .heads - 1) someHead)) → Held t s′ r [] (onOpen g l)
+  pub open-held : (g : Head → Head) → splice (headRow (getD (l .heads) (r .counts .heads - 1) someHead)) f bs ≡ headRow (g (getD (l .heads) (r .counts .heads - 1) someHead)) → Represents t s′ r [] (onOpen g l)
   unfolding onOpen
   open-held g q =
       record {
@@ -97,15 +97,15 @@ pub grows-none : (c : Counts) (h n p a : ℕ) → Grows c c h n p a
 grows-none c h n p a = record { more-heads = omega arith; more-notes = omega arith; more-pitches = omega arith; more-scopes = omega arith }
 
 -- registers by another name
-pub does-as : {t : Tables} {s s′ : List ℕ} {r r′ r″ : Registers} {h n p a : ℕ} {f : LogState → LogState} → r′ ≡ r″ → Does t s r s′ r″ h n p a f → Does t s r s′ r′ h n p a f
-does-as {t} {s} {s′} {r} {r′} {r″} {h} {n} {p} {a} {f} e d = subst (λ (x : Registers). Does t s r s′ x h n p a f) (sym e) d
+pub does-as : {t : Tables} {s s′ : List ℕ} {r r′ r″ : Registers} {h n p a : ℕ} {f : LogState → LogState} → r′ ≡ r″ → Simulates t s r s′ r″ h n p a f → Simulates t s r s′ r′ h n p a f
+does-as {t} {s} {s′} {r} {r′} {r″} {h} {n} {p} {a} {f} e d = subst (λ (x : Registers). Simulates t s r s′ x h n p a f) (sym e) d
 
 -- A STEP ON THE OPEN HEAD ALONE
-pub open-does : {t : Tables} {s : List ℕ} {r : Registers} → Room t (r .counts) (length s) 0 0 0 0 → Holding t s r → (s′ : List ℕ) (f : ℕ) (bs : List ℕ) → s′ ≡ splice s (t .heads + 28 * (r .counts .heads - 1) + f) bs
-    → f + length bs ≤ 28 → (g : Head → Head) → ((m : Head) → splice (headRow m) f bs ≡ headRow (g m)) → Does t s r s′ r 0 0 0 0 (onOpen g)
+pub open-does : {t : Tables} {s : List ℕ} {r : Registers} → Room t (r .counts) (length s) 0 0 0 0 → RepresentedInLine t s r → (s′ : List ℕ) (f : ℕ) (bs : List ℕ) → s′ ≡ splice s (t .heads + 28 * (r .counts .heads - 1) + f) bs
+    → f + length bs ≤ 28 → (g : Head → Head) → ((m : Head) → splice (headRow m) f bs ≡ headRow (g m)) → Simulates t s r s′ r 0 0 0 0 (onOpen g)
 open-does {t} {s} {r} room a s′ f bs e k g q =
     record {
-      only = open-only room s′ f bs e k (a .state) (some-head (a .state) (a .standing)) (a .held);
+      only = open-only room s′ f bs e k (a .state) (some-head (a .state) (a .standing)) (a .represents);
       grows = grows-none (r .counts) 0 0 0 0;
       holds = λ l st h. open-held room s′ f bs e k l (some-head l st) h g (q (getD (l .heads) (r .counts .heads - 1) someHead));
     }
@@ -115,9 +115,9 @@ bytes-4 : (v : ℕ) → length (le32 v) ≡ 4
 unfolding little
 bytes-4 v = refl
 
-pub volta-does : {t : Tables} {s : List ℕ} {r : Registers} → Room t (r .counts) (length s) 0 0 0 0 → Holding t s r → (s′ : List ℕ) (first passes : ℕ)
+pub volta-does : {t : Tables} {s : List ℕ} {r : Registers} → Room t (r .counts) (length s) 0 0 0 0 → RepresentedInLine t s r → (s′ : List ℕ) (first passes : ℕ)
     → s′ ≡ splice s (t .heads + 28 * (r .counts .heads - 1) + 22) ((1 ∷ first ∷ []) ++ le32 passes) → (ps : List ℕ) → first ≡ getD ps 0 0 → passes ≡ passBits ps
-    → Does t s r s′ r 0 0 0 0 (λ l. onToken l (token.volta ps))
+    → Simulates t s r s′ r 0 0 0 0 (λ l. onToken l (token.volta ps))
 unfolding onToken
 volta-does {t} {s} {r} room a s′ first passes e ps i j =
     open-does room a s′ 22 ((1 ∷ first ∷ []) ++ le32 passes) e (omega (arith, bytes-4 passes)) (withVolta voltaBegins ps)
@@ -125,7 +125,7 @@ volta-does {t} {s} {r} room a s′ first passes e ps i j =
 
 -- A METER
 module _ {t : Tables} {s : List ℕ} {r : Registers} (top bottom : ℕ) where
-  timed-held : (l : LogState) → Held t s r [] l → Held t s (timed r top bottom) [] (setLine (withTime (top, bottom) (l .line)) l)
+  timed-held : (l : LogState) → Represents t s r [] l → Represents t s (timed r top bottom) [] (setLine (withTime (top, bottom) (l .line)) l)
   timed-held l h =
       record {
         stored = h .stored;
@@ -142,12 +142,12 @@ module _ {t : Tables} {s : List ℕ} {r : Registers} (top bottom : ℕ) where
         verse-is = h .verse-is;
       }
 
-  pub meter-does : Room t (r .counts) (length s) 0 0 0 0 → Holding t s r → (s′ : List ℕ) → s′ ≡ splice s (t .heads + 28 * (r .counts .heads - 1) + 18) (top ∷ bottom ∷ [])
-      → Does t s r s′ (timed r top bottom) 0 0 0 0 (λ l. onToken l (token.meter (top, bottom)))
+  pub meter-does : Room t (r .counts) (length s) 0 0 0 0 → RepresentedInLine t s r → (s′ : List ℕ) → s′ ≡ splice s (t .heads + 28 * (r .counts .heads - 1) + 18) (top ∷ bottom ∷ [])
+      → Simulates t s r s′ (timed r top bottom) 0 0 0 0 (λ l. onToken l (token.meter (top, bottom)))
   unfolding onToken
   meter-does room a s′ e =
       record {
-        only = open-only room s′ 18 (top ∷ bottom ∷ []) e (omega arith) (a .state) (some-head (a .state) (a .standing)) (a .held);
+        only = open-only room s′ 18 (top ∷ bottom ∷ []) e (omega arith) (a .state) (some-head (a .state) (a .standing)) (a .represents);
         grows = grows-none (r .counts) 0 0 0 0;
         holds =
             λ l st h. open-held {r = timed r top bottom} room s′ 18 (top ∷ bottom ∷ []) e (omega arith) (setLine (withTime (top, bottom) (l .line)) l) (some-head l st) (timed-held l h) (withMeter (top, bottom))
@@ -192,7 +192,7 @@ open-empty (m ∷ n ∷ ms) d h =
     let e : suc (suc (length ms) - 1) ≡ suc (suc (length ms)) - 1 = omega arith in
     open-empty (n ∷ ms) d (omega arith) ∙ ap (λ (k : ℕ). isEmptyHead (getD (m ∷ n ∷ ms) k d)) e
 
-pub empty-is : {t : Tables} {s : List ℕ} {r : Registers} {h k : ℕ} → Room t (r .counts) (length s) h k 0 0 → (l : LogState) → Standing l → Held t s r [] l → noNotes s (t .heads + 28 * (r .counts .heads - 1)) ≡ openIsEmpty (l .heads)
+pub empty-is : {t : Tables} {s : List ℕ} {r : Registers} {h k : ℕ} → Room t (r .counts) (length s) h k 0 0 → (l : LogState) → Standing l → Represents t s r [] l → noNotes s (t .heads + 28 * (r .counts .heads - 1)) ≡ openIsEmpty (l .heads)
 empty-is {t} {s} {r} room l st h =
     let i = r .counts .heads - 1 in
     let at : i < length (l .heads) = omega (arith, some-head l st, h .stored .heads-are) in
@@ -215,9 +215,9 @@ endedWith r n places =
       verses = r .verses;
     }
 
-ends-held : {t : Tables} {s s′ : List ℕ} {r : Registers} (b : standard.Barline) (opens : Bool) (l : LogState) (n : ℕ) (places : List ℕ) (heads′ : List Head) → t .scopes ≤ length s′ → Held t s r [] l
+ends-held : {t : Tables} {s s′ : List ℕ} {r : Registers} (b : standard.Barline) (opens : Bool) (l : LogState) (n : ℕ) (places : List ℕ) (heads′ : List Head) → t .scopes ≤ length s′ → Represents t s r [] l
     → Stored t (endedWith r n places .counts) s′ heads′ (l .log) (pitchesIn (l .log) ++ []) → heads′ ≡ endedHeads b opens (l .line .meter) (l .heads) → places ≡ endedLast opens (l .heads) (l .last)
-    → Held t s′ (endedWith r n places) [] (onBarline b opens l)
+    → Represents t s′ (endedWith r n places) [] (onBarline b opens l)
 unfolding onBarline
 ends-held {t} {s} {s′} {r} b opens l n places heads′ room h q e f =
     record {
@@ -272,22 +272,22 @@ code-is repeatBoth = refl
 code-is double = refl
 code-is final = refl
 
-module _ {t : Tables} {s : List ℕ} {r : Registers} (room : Room t (r .counts) (length s) 1 0 0 0) (a : Holding t s r) (b : standard.Barline) (opens empty : Bool)
+module _ {t : Tables} {s : List ℕ} {r : Registers} (room : Room t (r .counts) (length s) 1 0 0 0) (a : RepresentedInLine t s r) (b : standard.Barline) (opens empty : Bool)
     (tested : empty ≡ noNotes s (t .heads + 28 * (r .counts .heads - 1))) where
   less : Room t (r .counts) (length s) 0 0 0 0
   less = room-less t (r .counts) (length s) 1 room
 
-  is-empty : (l : LogState) → Standing l → Held t s r [] l → empty ≡ openIsEmpty (l .heads)
+  is-empty : (l : LogState) → Standing l → Represents t s r [] l → empty ≡ openIsEmpty (l .heads)
   is-empty l st h = tested ∙ empty-is room l st h
 
   -- on a measure without notes
-  pub empty-does : empty ≡ true → (right : Barline) → right ≡ barlineFor b → (s′ : List ℕ) → s′ ≡ leftStore s (t .heads + 28 * (r .counts .heads - 1) + 16) right → Does t s r s′ (ended r) 1 0 0 0 (onBarline b opens)
+  pub empty-does : empty ≡ true → (right : Barline) → right ≡ barlineFor b → (s′ : List ℕ) → s′ ≡ leftStore s (t .heads + 28 * (r .counts .heads - 1) + 16) right → Simulates t s r s′ (ended r) 1 0 0 0 (onBarline b opens)
   unfolding endedHeads endedLast
   empty-does y right d s′ e =
       let at = t .heads + 28 * (r .counts .heads - 1) + 16 in
       let w = left-is s at b in
       let e′ : s′ ≡ splice s at (w .bytes) = e ∙ ap (leftStore s at) d ∙ w .written in
-      let o = open-only less s′ 16 (w .bytes) e′ (omega (arith, w .short)) (a .state) (some-head (a .state) (a .standing)) (a .held) in
+      let o = open-only less s′ 16 (w .bytes) e′ (omega (arith, w .short)) (a .state) (some-head (a .state) (a .standing)) (a .represents) in
       record {
         only = o;
         grows = record { more-heads = omega arith; more-notes = omega arith; more-pitches = omega arith; more-scopes = omega arith };
@@ -303,13 +303,13 @@ module _ {t : Tables} {s : List ℕ} {r : Registers} (room : Room t (r .counts) 
     right-set m = ap (λ (c : ℕ). splice (headRow m) 17 (c ∷ [])) (ec ∙ ap codeOf d ∙ code-is b) ∙ head-right m b
 
     only₁ : Only (t .heads) (t .end) s s₁
-    only₁ = open-only less s₁ 17 (code ∷ []) e₁ (omega arith) (a .state) (some-head (a .state) (a .standing)) (a .held)
+    only₁ = open-only less s₁ 17 (code ∷ []) e₁ (omega arith) (a .state) (some-head (a .state) (a .standing)) (a .represents)
 
-    stored₁ : (l : LogState) → Standing l → Held t s r [] l → Stored t (r .counts) s₁ (onLastHead (withRight b) (l .heads)) (l .log) (pitchesIn (l .log) ++ [])
+    stored₁ : (l : LogState) → Standing l → Represents t s r [] l → Stored t (r .counts) s₁ (onLastHead (withRight b) (l .heads)) (l .log) (pitchesIn (l .log) ++ [])
     stored₁ l st h = open-stored less s₁ 17 (code ∷ []) e₁ (omega arith) l (some-head l st) h (withRight b) (right-set (getD (l .heads) (r .counts .heads - 1) someHead))
 
     -- with `]` behind it
-    pub closed-does : opens ≡ false → Does t s r s₁ (ended r) 1 0 0 0 (onBarline b opens)
+    pub closed-does : opens ≡ false → Simulates t s r s₁ (ended r) 1 0 0 0 (onBarline b opens)
     unfolding endedHeads endedLast
     closed-does c =
         record {
@@ -324,15 +324,15 @@ module _ {t : Tables} {s : List ℕ} {r : Registers} (room : Room t (r .counts) 
 
     -- a new measure
     pub opens-does : opens ≡ true → (left : Barline) → left ≡ barlineFor (leftOf b) → (lcode : ℕ) → lcode ≡ codeOf left → (s₂ : List ℕ) → s₂ ≡ splice s₁ (t .heads + 28 * (r .counts .heads - 1 + 1)) (newRow lcode (r .line .top) (r .line .bottom))
-        → Does t s r s₂ (opened r) 1 0 0 0 (onBarline b opens)
+        → Simulates t s r s₂ (opened r) 1 0 0 0 (onBarline b opens)
     unfolding endedHeads endedLast
     opens-does c left f lcode el s₂ e₂ =
         let one : r .counts .heads - 1 + 1 ≡ r .counts .heads = omega (arith, held-heads a) in
-        let row : (l : LogState) → Held t s r [] l → newRow lcode (r .line .top) (r .line .bottom) ≡ headRow (newHead (l .line .meter) (leftOf b)) =
+        let row : (l : LogState) → Represents t s r [] l → newRow lcode (r .line .top) (r .line .bottom) ≡ headRow (newHead (l .line .meter) (leftOf b)) =
         λ l h. (λ i. newRow ((el ∙ ap codeOf f ∙ code-is (leftOf b)) i) (h .line-is i .top) (h .line-is i .bottom)) ∙ new-row (l .line .meter) (leftOf b) in
         let e₃ = e₂ ∙ ap (λ (k : ℕ). splice s₁ (t .heads + 28 * k) (newRow lcode (r .line .top) (r .line .bottom))) one in
         let room₁ : Room t (r .counts) (length s₁) 1 0 0 0 = room-same (only₁ .same-length) room in
-        let only₂ = head-pushed-only (stored₁ (a .state) (a .standing) (a .held)) s₂ room₁ (newHead (a .state .line .meter) (leftOf b)) (newRow lcode (r .line .top) (r .line .bottom)) (row (a .state) (a .held)) e₃ in
+        let only₂ = head-pushed-only (stored₁ (a .state) (a .standing) (a .represents)) s₂ room₁ (newHead (a .state .line .meter) (leftOf b)) (newRow lcode (r .line .top) (r .line .bottom)) (row (a .state) (a .represents)) e₃ in
         record {
           only = only-then only₁ only₂;
           grows = record { more-heads = omega arith; more-notes = omega arith; more-pitches = omega arith; more-scopes = omega arith };

@@ -11,7 +11,7 @@ ghost use Rattle.reader.specs.Barlines.{leftOf};
 ghost use Rattle.reader.specs.Token as token;
 ghost use Rattle.part_layout.specs.Log.{onBarline, onToken};
 ghost use Rattle.token_symbols.specs.Bars.{barlineFor};
-ghost use Rattle.part_invariant.specs.Held.{Room, Holding, Does};
+ghost use Rattle.part_invariant.specs.Invariant.{Room, RepresentedInLine, Simulates};
 ghost use Rattle.part_bars.specs.Bars.{codeOf, leftStore, cleared, ended, opened};
 use part_accidentals::AbcPartParseState;
 use part_registers::Counts;
@@ -115,8 +115,8 @@ pub fn on_barline(
     left: Barline,
     opens: bool,
 ) -> Registers
-    requires { ⌜ Room t (r .counts) (length (now store)) 1 0 0 0 × Holding t (now store) r ⌝ }
-    ensures { λ x. ⌜ ((b : standard.Barline) → right ≡ barlineFor b → left ≡ barlineFor (leftOf b) → Does t (now (store .entry)) r (now (store .exit)) x 1 0 0 0 (onBarline b opens)) ⌝ }
+    requires { ⌜ Room t (r .counts) (length (now store)) 1 0 0 0 × RepresentedInLine t (now store) r ⌝ }
+    ensures { λ x. ⌜ ((b : standard.Barline) → right ≡ barlineFor b → left ≡ barlineFor (leftOf b) → Simulates t (now (store .entry)) r (now (store .exit)) x 1 0 0 0 (onBarline b opens)) ⌝ }
 {
     let line = r.line;
     let i = (r.counts.heads - 1) as usize;
@@ -141,8 +141,8 @@ pub fn on_barline(
 
 // An ending that begins at the open measure.
 pub fn on_volta(store: &mut [u8], t: Tables, r: Registers, first: u8, passes: u32)
-    requires { ⌜ Room t (r .counts) (length (now store)) 0 0 0 0 × Holding t (now store) r ⌝ }
-    ensures { λ _. ⌜ ((ps : List ℕ) → first ≡ getD ps 0 0 → passes ≡ passBits ps → Does t (now (store .entry)) r (now (store .exit)) r 0 0 0 0 (λ l. onToken l (token.volta ps))) ⌝ }
+    requires { ⌜ Room t (r .counts) (length (now store)) 0 0 0 0 × RepresentedInLine t (now store) r ⌝ }
+    ensures { λ _. ⌜ ((ps : List ℕ) → first ≡ getD ps 0 0 → passes ≡ passBits ps → Simulates t (now (store .entry)) r (now (store .exit)) r 0 0 0 0 (λ l. onToken l (token.volta ps))) ⌝ }
 {
     let i = (r.counts.heads - 1) as usize;
     part_measures::set_volta(store, t.heads, i, first, passes);
@@ -150,8 +150,8 @@ pub fn on_volta(store: &mut [u8], t: Tables, r: Registers, first: u8, passes: u3
 
 // An inline M field.
 pub fn on_meter(store: &mut [u8], t: Tables, r: Registers, top: u8, bottom: u8) -> Registers
-    requires { ⌜ Room t (r .counts) (length (now store)) 0 0 0 0 × Holding t (now store) r ⌝ }
-    ensures { λ x. ⌜ Does t (now (store .entry)) r (now (store .exit)) x 0 0 0 0 (λ l. onToken l (token.meter (top, bottom))) ⌝ }
+    requires { ⌜ Room t (r .counts) (length (now store)) 0 0 0 0 × RepresentedInLine t (now store) r ⌝ }
+    ensures { λ x. ⌜ Simulates t (now (store .entry)) r (now (store .exit)) x 0 0 0 0 (λ l. onToken l (token.meter (top, bottom))) ⌝ }
 {
     let i = (r.counts.heads - 1) as usize;
     part_measures::set_meter(store, t.heads, i, top, bottom);

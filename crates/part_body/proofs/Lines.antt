@@ -14,34 +14,34 @@ use Rattle.part_layout.specs.Log.{LogState, onToken, lineBegins, onLine}
 use Rattle.part_layout.proofs.Lines.{InLine, in-line-begins, in-line-token, standing}
 use Rattle.bounds.proofs.TokenRanges.{token-fits}
 use Rattle.capacity.specs.Sizes.{bars, letters, rests, tones, signs}
-use Rattle.capacity.specs.Pays.{makes, Spends}
+use Rattle.capacity.specs.Covers.{makes, CoversBoth}
 use Rattle.capacity.proofs.Tokens.{token-spends}
 use Rattle.part_rows.specs.Table.{Only}
 use Rattle.part_rows.proofs.Tables.{only-none, only-then}
 use Rattle.part_registers.specs.declared.Tables.{Tables}
 use Rattle.part_registers.specs.declared.Counts.{Counts}
 use Rattle.part_registers.specs.declared.Registers.{Registers}
-use Rattle.part_invariant.specs.Held.{Room, Held, Holding, Does}
-use Rattle.part_invariant.specs.Lines.{Waits, Rest, Takes}
+use Rattle.part_invariant.specs.Invariant.{Room, Represents, RepresentedInLine, Simulates}
+use Rattle.part_invariant.specs.Lines.{RepresentedBetween, RoomForBytes, SimulatesItem}
 use Rattle.tokens.specs.declared.Tokenised.{Tokenised}
 use Rattle.tokens.specs.Tokens.{tokenisedFor}
 use Rattle.tokens.proofs.Chords.{chord-pitches}
 use Rattle.tokens.proofs.Past.{token-past}
-use Rattle.part_body.specs.Body.{Ready, Acts}
+use Rattle.part_body.specs.Body.{Ready, SimulatesToken}
 use Rattle.part_body.proofs.Tokens.{token-ready, token-does}
 
 -- a part is held in a line, with room for what these bytes can make
 pub record Begun (line : List ℕ) (t : Tables) (s : List ℕ) (r : Registers) : Type 0 where
-  pub room : Rest t (r .counts) (length s) line
+  pub room : RoomForBytes t (r .counts) (length s) line
   pub state : LogState
   pub in-line : InLine state
-  pub held : Held t s r [] state
+  pub represents : Represents t s r [] state
 
 -- the tokens from a position on lead to this part
 pub record Leads (line : List ℕ) (t : Tables) (s : List ℕ) (r : Registers) (at : ℕ) (end : LogState) : Type 0 where
   pub state : LogState
   pub in-line : InLine state
-  pub held : Held t s r [] state
+  pub represents : Represents t s r [] state
   pub rest : foldl onToken state (tokens 0 (drop at line)) ≡ end
 
 -- THE INVARIANT, from scratch and registers where the tokens begin to those at a position
@@ -52,11 +52,11 @@ pub record Going (line : List ℕ) (t : Tables) (s₀ : List ℕ) (r₀ : Regist
   pub notes-left : r .counts .notes + tones (drop at line) ≤ r₀ .counts .notes + tones line
   pub pitches-left : r .counts .pitches + letters (drop at line) ≤ r₀ .counts .pitches + letters line
   pub scopes-left : r .counts .scopes + signs (drop at line) ≤ r₀ .counts .scopes + signs line
-  pub holds : (l : LogState) → InLine l → Held t s₀ r₀ [] l → Leads line t s r at (foldl onToken l (tokens 0 line))
+  pub holds : (l : LogState) → InLine l → Represents t s₀ r₀ [] l → Leads line t s r at (foldl onToken l (tokens 0 line))
 
 -- BEFORE THE TOKENS
 -- less room
-pub rest-none : {t : Tables} {c : Counts} {n : ℕ} {line : List ℕ} → Rest t c n line → Rest t c n []
+pub rest-none : {t : Tables} {c : Counts} {n : ℕ} {line : List ℕ} → RoomForBytes t c n line → RoomForBytes t c n []
 unfolding bars letters rests signs
 rest-none h =
     record {
@@ -68,8 +68,8 @@ rest-none h =
       small = h .small;
     }
 
-module _ {t : Tables} {s s₁ : List ℕ} {r r₁ : Registers} (u : ℕ) (m : Meter) (b : Takes t s r s₁ r₁ [] (lineBegins u m)) where
-  pub begun : {line : List ℕ} → Rest t (r .counts) (length s) line → Waits t s r → Begun line t s₁ r₁
+module _ {t : Tables} {s s₁ : List ℕ} {r r₁ : Registers} (u : ℕ) (m : Meter) (b : SimulatesItem t s r s₁ r₁ [] (lineBegins u m)) where
+  pub begun : {line : List ℕ} → RoomForBytes t (r .counts) (length s) line → RepresentedBetween t s r → Begun line t s₁ r₁
   unfolding bars letters rests signs
   begun h w =
       let g = b .grows in
@@ -85,11 +85,11 @@ module _ {t : Tables} {s s₁ : List ℕ} {r r₁ : Registers} (u : ℕ) (m : Me
             };
         state = lineBegins u m (w .state);
         in-line = in-line-begins u m (w .state) (w .between);
-        held = b .holds (w .state) (w .between) (w .held);
+        represents = b .holds (w .state) (w .between) (w .represents);
       }
 
   -- AFTER THEM the line has done what it does
-  pub line-takes : {line s₂ : List ℕ} {r₂ : Registers} {at : ℕ} → Going line t s₁ r₁ s₂ r₂ at → length line ≤ at → Takes t s r s₂ r₂ line (onLine u m line)
+  pub line-takes : {line s₂ : List ℕ} {r₂ : Registers} {at : ℕ} → Going line t s₁ r₁ s₂ r₂ at → length line ≤ at → SimulatesItem t s r s₂ r₂ line (onLine u m line)
   unfolding onLine bars letters rests signs
   line-takes {line} {s₂} {r₂} {at} g h =
       let a = b .grows in
@@ -105,7 +105,7 @@ module _ {t : Tables} {s s₁ : List ℕ} {r r₁ : Registers} (u : ℕ) (m : Me
         holds =
             λ l w k.
             let e = g .holds (lineBegins u m l) (in-line-begins u m l w) (b .holds l w k) in
-            subst (λ (x : LogState). Held t s₂ r₂ [] x) (sym (fold-end onToken (e .state) line at h) ∙ e .rest) (e .held);
+            subst (λ (x : LogState). Represents t s₂ r₂ [] x) (sym (fold-end onToken (e .state) line at h) ∙ e .rest) (e .represents);
       }
 
 -- where they begin
@@ -118,7 +118,7 @@ going-start line t s r =
       notes-left = omega arith;
       pitches-left = omega arith;
       scopes-left = omega arith;
-      holds = λ l i h. record { state = l; in-line = i; held = h; rest = refl };
+      holds = λ l i h. record { state = l; in-line = i; represents = h; rest = refl };
     }
 
 -- ONE TOKEN
@@ -130,7 +130,7 @@ module _ {line : List ℕ} {t : Tables} {s₀ s : List ℕ} {r₀ r : Registers}
   abbrev used : ℕ
   used = tokenOf (drop at line) .used
 
-  pays : Spends tok (drop at line) (drop (at + used) line)
+  pays : CoversBoth tok (drop at line) (drop (at + used) line)
   pays = token-spends line at h
 
   room : Room t (r .counts) (length s) (makes tok .heads) (makes tok .notes) (makes tok .pitches) (makes tok .scopes)
@@ -146,10 +146,10 @@ module _ {line : List ℕ} {t : Tables} {s₀ s : List ℕ} {r₀ r : Registers}
       }
 
   -- some part is held
-  holding : Holding t s r
+  holding : RepresentedInLine t s r
   holding =
-      let e = g .holds (b .state) (b .in-line) (b .held) in
-      record { state = e .state; standing = standing (e .state) (e .in-line); held = e .held }
+      let e = g .holds (b .state) (b .in-line) (b .represents) in
+      record { state = e .state; standing = standing (e .state) (e .in-line); represents = e .represents }
 
   pub going-ready : Ready line t s r (e .token)
   going-ready =
@@ -159,11 +159,11 @@ module _ {line : List ℕ} {t : Tables} {s₀ s : List ℕ} {r₀ r : Registers}
   pub going-past : at < e .next
   going-past = rw k (token-past line at h)
 
-  pub going-turn : (s′ : List ℕ) (r′ : Registers) → Acts line t s r s′ r′ (e .token) → Going line t s₀ r₀ s′ r′ (e .next)
+  pub going-turn : (s′ : List ℕ) (r′ : Registers) → SimulatesToken line t s r s′ r′ (e .token) → Going line t s₀ r₀ s′ r′ (e .next)
   going-turn s′ r′ a = subst (λ (x : Tokenised). Going line t s₀ r₀ s′ r′ (x .next)) (sym k) turned
     where
-      does : Does t s r s′ r′ (makes tok .heads) (makes tok .notes) (makes tok .pitches) (makes tok .scopes) (λ l. onToken l tok)
-      does = token-does line at tok (chord-pitches line at) (subst (λ (x : Tokenised). Acts line t s r s′ r′ (x .token)) k a)
+      does : Simulates t s r s′ r′ (makes tok .heads) (makes tok .notes) (makes tok .pitches) (makes tok .scopes) (λ l. onToken l tok)
+      does = token-does line at tok (chord-pitches line at) (subst (λ (x : Tokenised). SimulatesToken line t s r s′ r′ (x .token)) k a)
 
       turned : Going line t s₀ r₀ s′ r′ (at + used)
       turned =
@@ -181,7 +181,7 @@ module _ {line : List ℕ} {t : Tables} {s₀ s : List ℕ} {r₀ r : Registers}
                 record {
                   state = onToken (p .state) tok;
                   in-line = in-line-token (p .state) tok (p .in-line);
-                  held = does .holds (p .state) (standing (p .state) (p .in-line)) (p .held);
+                  represents = does .holds (p .state) (standing (p .state) (p .in-line)) (p .represents);
                   rest = sym (fold-at onToken (p .state) line at h) ∙ p .rest;
                 };
           }

@@ -16,22 +16,22 @@ use Rattle.reader.specs.Part.{restNote}
 use Rattle.reader.specs.Token.{Token, space, overlay, quoted, broken, tuplet, slur, graceOpen, graceClose, decoration, barline, volta, unit, meter, key, field, chord, rest, note, nothing, skipped, refused}
 use Rattle.part_layout.specs.Log.{LogState, onToken, onSound}
 use Rattle.bounds.specs.Ranges.{TokenFits}
-use Rattle.capacity.specs.Pays.{marked, makes}
+use Rattle.capacity.specs.Covers.{signsIn, makes}
 use Rattle.token_lengths.specs.Values.{lengthAs}
-use Rattle.part_rows.specs.Encoded.{marksByte, rowFor}
+use Rattle.part_rows.specs.Encoded.{flagsByte, rowFor}
 use Rattle.part_rows.proofs.Tables.{only-none}
 use Rattle.part_registers.specs.declared.Line as declared
 use Rattle.part_registers.specs.declared.Tables.{Tables}
 use Rattle.part_registers.specs.declared.Registers.{Registers}
-use Rattle.part_invariant.specs.Held.{Room, Held, Holding, Grows, Does}
+use Rattle.part_invariant.specs.Invariant.{Room, Represents, RepresentedInLine, Grows, Simulates}
 use Rattle.part_sounds.specs.Sounds.{restRow}
 use Rattle.tokens.specs.Tokens.{restLength, tokenFor}
-use Rattle.part_chords.specs.Chords.{pitchesOr, chordIn, ChordsAs}
+use Rattle.part_chords.specs.Chords.{pitchesOr, chordIn, SimulatesChord}
 use Rattle.part_chords.proofs.Pushing.{written-back, signs-are}
-use Rattle.part_body.specs.Body.{Ready, Acts}
+use Rattle.part_body.specs.Body.{Ready, SimulatesToken}
 
 -- A TOKEN THAT DOES NOTHING
-pub does-nothing : (t : Tables) (s : List ℕ) (r : Registers) → Does t s r s r 0 0 0 0 (λ l. l)
+pub does-nothing : (t : Tables) (s : List ℕ) (r : Registers) → Simulates t s r s r 0 0 0 0 (λ l. l)
 does-nothing t s r =
     record {
       only = only-none (t .heads) (t .end) s;
@@ -40,7 +40,7 @@ does-nothing t s r =
     }
 
 -- THE UNIT in force is the part's
-unit-is : {t : Tables} {s : List ℕ} {r : Registers} (l : LogState) → Held t s r [] l → r .line .unit ≡ l .line .unit
+unit-is : {t : Tables} {s : List ℕ} {r : Registers} (l : LogState) → Represents t s r [] l → r .line .unit ≡ l .line .unit
 unit-is l h = ap (λ (x : declared.Line). x .unit) (h .line-is)
 
 -- a chord stands there
@@ -49,7 +49,7 @@ ChordStands line at tok = (ws : List Written) (l : Length) (b : Behind) → tok 
 
 -- A REST has the row of the definition's
 rest-row-is : (k : Notes.NoteKind) (u : ℕ) (l : Length) → restRow (kindCode k) (restLength u k l) ≡ rowFor (restNote k (valueOf u l))
-unfolding restLength restNote marksByte beamCode bit
+unfolding restLength restNote flagsByte beamCode bit
 rest-row-is Notes.sounded u l = refl
 rest-row-is Notes.rest u l = refl
 rest-row-is Notes.invisibleRest u l = refl
@@ -72,7 +72,7 @@ chord-is line at ws e = ap pitchesOr e
 module _ (line : List ℕ) (at : ℕ) {t : Tables} {s : List ℕ} {r : Registers} where
   -- what the code's token asks for
   pub token-ready : (tok : Token) → ChordStands line at tok → TokenFits tok
-      → Room t (r .counts) (length s) (makes tok .heads) (makes tok .notes) (makes tok .pitches) (makes tok .scopes) → Holding t s r → Ready line t s r (tokenFor at (r .line .unit) tok)
+      → Room t (r .counts) (length s) (makes tok .heads) (makes tok .notes) (makes tok .pitches) (makes tok .scopes) → RepresentedInLine t s r → Ready line t s r (tokenFor at (r .line .unit) tok)
   unfolding tokenFor Ready TokenFits
   token-ready space c f room h = (room, h)
   token-ready overlay c f room h = (room, h)
@@ -92,7 +92,7 @@ module _ (line : List ℕ) (at : ℕ) {t : Tables} {s : List ℕ} {r : Registers
   token-ready (chord ws l b) c f room h =
       let e = c ws l b refl in
       let w = chord-is line at ws e in (
-        subst (λ (x : List Written). Room t (r .counts) (length s) 0 1 (length x) (marked x)) (sym w) room,
+        subst (λ (x : List Written). Room t (r .counts) (length s) 0 1 (length x) (signsIn x)) (sym w) room,
         h,
         record { fine = e ∙ ap some (sym w); count-is = ap length (sym w) },
       )
@@ -104,7 +104,7 @@ module _ (line : List ℕ) (at : ℕ) {t : Tables} {s : List ℕ} {r : Registers
       standing = h .standing;
       row-is = rest-row-is k (r .line .unit) l;
       no-pitch = no-pitch k (valueOf (r .line .unit) l);
-      held = h .held;
+      represents = h .represents;
     },
   )
   token-ready (note w l b) c f room h =
@@ -114,9 +114,9 @@ module _ (line : List ℕ) (at : ℕ) {t : Tables} {s : List ℕ} {r : Registers
   token-ready (refused n) c f room h = (room, h)
 
   -- what it does is what the definition's token does
-  pub token-does : {s′ : List ℕ} {r′ : Registers} (tok : Token) → ChordStands line at tok → Acts line t s r s′ r′ (tokenFor at (r .line .unit) tok)
-      → Does t s r s′ r′ (makes tok .heads) (makes tok .notes) (makes tok .pitches) (makes tok .scopes) (λ l. onToken l tok)
-  unfolding tokenFor Acts onToken
+  pub token-does : {s′ : List ℕ} {r′ : Registers} (tok : Token) → ChordStands line at tok → SimulatesToken line t s r s′ r′ (tokenFor at (r .line .unit) tok)
+      → Simulates t s r s′ r′ (makes tok .heads) (makes tok .notes) (makes tok .pitches) (makes tok .scopes) (λ l. onToken l tok)
+  unfolding tokenFor SimulatesToken onToken
   token-does space c a = a
   token-does overlay c a = a
   token-does quoted c a = a
@@ -133,7 +133,7 @@ module _ (line : List ℕ) (at : ℕ) {t : Tables} {s : List ℕ} {r : Registers
   token-does (key k) c a = a
   token-does field c a = a
   token-does {s′} {r′} (chord ws l b) c a =
-      let d = subst (λ (x : List Written). ChordsAs t s r s′ r′ x (lengthAs (valueOf (r .line .unit) l)) (b .tie) (b .slur)) (chord-is line at ws (c ws l b refl)) a in
+      let d = subst (λ (x : List Written). SimulatesChord t s r s′ r′ x (lengthAs (valueOf (r .line .unit) l)) (b .tie) (b .slur)) (chord-is line at ws (c ws l b refl)) a in
       record { only = d .only; grows = d .grows; holds = λ x st h. d .holds x b l st refl refl (ap (λ (u : ℕ). valueOf u l) (unit-is x h)) h }
   token-does {s′} {r′} (rest k l) c a =
       record {
@@ -148,7 +148,7 @@ module _ (line : List ℕ) (at : ℕ) {t : Tables} {s : List ℕ} {r : Registers
         only = a .only;
         grows = subst (λ (n : ℕ). Grows (r .counts) (r′ .counts) 0 1 1 n) (signs-are w) (a .grows);
         holds =
-            λ x st h. subst (λ (v : Written). Held t s′ r′ [] (onSound (v ∷ []) l b x)) (written-back w)
+            λ x st h. subst (λ (v : Written). Represents t s′ r′ [] (onSound (v ∷ []) l b x)) (written-back w)
             (a .holds x b l st refl refl (ap (λ (u : ℕ). valueOf u l) (unit-is x h)) h);
       }
   token-does nothing c a = a

@@ -14,60 +14,60 @@ use Rattle.tokens.specs.declared.Token.{Token}
 use Rattle.tokens.specs.declared.Token.the-variants as as-token
 use Rattle.part_registers.specs.declared.Tables.{Tables}
 use Rattle.part_registers.specs.declared.Registers.{Registers}
-use Rattle.part_invariant.specs.Held.{Room, Holding, Does}
-use Rattle.part_sounds.specs.Sounds.{Restable, Rests, NotesAs}
-use Rattle.capacity.specs.Pays.{marked}
-use Rattle.part_chords.specs.Chords.{chordIn, ChordAt, ChordsAs}
+use Rattle.part_invariant.specs.Invariant.{Room, RepresentedInLine, Simulates}
+use Rattle.part_sounds.specs.Sounds.{Restable, SimulatesRest, SimulatesNote}
+use Rattle.capacity.specs.Covers.{signsIn}
+use Rattle.part_chords.specs.Chords.{chordIn, ChordAt, SimulatesChord}
 
 -- a part is held, with room for so many rows more
-abbrev pub HeldWith : Tables → List ℕ → Registers → ℕ → ℕ → ℕ → ℕ → Type 0
-HeldWith t s r heads notes pitches scopes = Room t (r .counts) (length s) heads notes pitches scopes × Holding t s r
+abbrev pub RepresentedWith : Tables → List ℕ → Registers → ℕ → ℕ → ℕ → ℕ → Type 0
+RepresentedWith t s r heads notes pitches scopes = Room t (r .counts) (length s) heads notes pitches scopes × RepresentedInLine t s r
 
 unfoldable pub Ready : List ℕ → Tables → List ℕ → Registers → Token → Type 0
-Ready line t s r as-token.Space = HeldWith t s r 0 0 0 0
-Ready line t s r as-token.Overlay = HeldWith t s r 0 0 0 0
-Ready line t s r as-token.Quoted = HeldWith t s r 0 0 0 0
-Ready line t s r (as-token.Broken up count) = HeldWith t s r 0 0 0 0
-Ready line t s r (as-token.Tuplet actual normal count) = HeldWith t s r 0 0 0 0
-Ready line t s r as-token.Slur = HeldWith t s r 0 0 0 0
-Ready line t s r as-token.GraceOpen = HeldWith t s r 0 0 0 0
-Ready line t s r as-token.GraceClose = HeldWith t s r 0 0 0 0
-Ready line t s r as-token.Decoration = HeldWith t s r 0 0 0 0
-Ready line t s r (as-token.Barline right left opens) = HeldWith t s r 1 0 0 0
-Ready line t s r (as-token.Volta first passes) = HeldWith t s r 0 0 0 0
-Ready line t s r (as-token.Unit unit) = HeldWith t s r 0 0 0 0
-Ready line t s r (as-token.Meter top bottom) = HeldWith t s r 0 0 0 0
-Ready line t s r (as-token.Key fifths minor) = HeldWith t s r 0 0 0 0
-Ready line t s r as-token.Field = HeldWith t s r 0 0 0 0
+Ready line t s r as-token.Space = RepresentedWith t s r 0 0 0 0
+Ready line t s r as-token.Overlay = RepresentedWith t s r 0 0 0 0
+Ready line t s r as-token.Quoted = RepresentedWith t s r 0 0 0 0
+Ready line t s r (as-token.Broken up count) = RepresentedWith t s r 0 0 0 0
+Ready line t s r (as-token.Tuplet actual normal count) = RepresentedWith t s r 0 0 0 0
+Ready line t s r as-token.Slur = RepresentedWith t s r 0 0 0 0
+Ready line t s r as-token.GraceOpen = RepresentedWith t s r 0 0 0 0
+Ready line t s r as-token.GraceClose = RepresentedWith t s r 0 0 0 0
+Ready line t s r as-token.Decoration = RepresentedWith t s r 0 0 0 0
+Ready line t s r (as-token.Barline right left opens) = RepresentedWith t s r 1 0 0 0
+Ready line t s r (as-token.Volta first passes) = RepresentedWith t s r 0 0 0 0
+Ready line t s r (as-token.Unit unit) = RepresentedWith t s r 0 0 0 0
+Ready line t s r (as-token.Meter top bottom) = RepresentedWith t s r 0 0 0 0
+Ready line t s r (as-token.Key fifths minor) = RepresentedWith t s r 0 0 0 0
+Ready line t s r as-token.Field = RepresentedWith t s r 0 0 0 0
 Ready line t s r (as-token.Chord place count written tie slur) =
-    Room t (r .counts) (length s) 0 1 (length (chordIn line place)) (marked (chordIn line place)) × Holding t s r × ChordAt line place count
+    Room t (r .counts) (length s) 0 1 (length (chordIn line place)) (signsIn (chordIn line place)) × RepresentedInLine t s r × ChordAt line place count
 Ready line t s r (as-token.Rest kind written) = Room t (r .counts) (length s) 0 1 0 0 × Restable t s r kind written
-Ready line t s r (as-token.Note pitch written tie slur) = Room t (r .counts) (length s) 0 1 1 (signs (pitch .mark)) × Holding t s r × (pitch .step < 7)
-Ready line t s r as-token.Nothing = HeldWith t s r 0 0 0 0
-Ready line t s r as-token.Skipped = HeldWith t s r 0 0 0 0
-Ready line t s r (as-token.Refused number) = HeldWith t s r 0 0 0 0
+Ready line t s r (as-token.Note pitch written tie slur) = Room t (r .counts) (length s) 0 1 1 (signs (pitch .mark)) × RepresentedInLine t s r × (pitch .step < 7)
+Ready line t s r as-token.Nothing = RepresentedWith t s r 0 0 0 0
+Ready line t s r as-token.Skipped = RepresentedWith t s r 0 0 0 0
+Ready line t s r (as-token.Refused number) = RepresentedWith t s r 0 0 0 0
 
-unfoldable pub Acts : List ℕ → Tables → List ℕ → Registers → List ℕ → Registers → Token → Type 0
-Acts line t s r s′ x as-token.Space = Does t s r s′ x 0 0 0 0 (λ l. onToken l token.space)
-Acts line t s r s′ x as-token.Overlay = Does t s r s′ x 0 0 0 0 (λ l. onToken l token.overlay)
-Acts line t s r s′ x as-token.Quoted = Does t s r s′ x 0 0 0 0 (λ l. l)
-Acts line t s r s′ x (as-token.Broken up count) = Does t s r s′ x 0 0 0 0 (λ l. onToken l (token.broken up count))
-Acts line t s r s′ x (as-token.Tuplet actual normal count) = Does t s r s′ x 0 0 0 0 (λ l. onToken l (token.tuplet (record { actual = actual; normal = normal; count = count })))
-Acts line t s r s′ x as-token.Slur = Does t s r s′ x 0 0 0 0 (λ l. onToken l token.slur)
-Acts line t s r s′ x as-token.GraceOpen = Does t s r s′ x 0 0 0 0 (λ l. onToken l token.graceOpen)
-Acts line t s r s′ x as-token.GraceClose = Does t s r s′ x 0 0 0 0 (λ l. onToken l token.graceClose)
-Acts line t s r s′ x as-token.Decoration = Does t s r s′ x 0 0 0 0 (λ l. l)
-Acts line t s r s′ x (as-token.Barline right left opens) =
-    ((b : standard.Barline) → right ≡ barlineFor b → left ≡ barlineFor (leftOf b) → Does t s r s′ x 1 0 0 0 (onBarline b opens))
-Acts line t s r s′ x (as-token.Volta first passes) =
-    ((ps : List ℕ) → first ≡ getD ps 0 0 → passes ≡ passBits ps → Does t s r s′ x 0 0 0 0 (λ l. onToken l (token.volta ps)))
-Acts line t s r s′ x (as-token.Unit unit) = Does t s r s′ x 0 0 0 0 (λ l. onToken l (token.unit unit))
-Acts line t s r s′ x (as-token.Meter top bottom) = Does t s r s′ x 0 0 0 0 (λ l. onToken l (token.meter (top, bottom)))
-Acts line t s r s′ x (as-token.Key fifths minor) = Does t s r s′ x 0 0 0 0 (λ l. onToken l (token.key (record { fifths = fifths; minor = minor })))
-Acts line t s r s′ x as-token.Field = Does t s r s′ x 0 0 0 0 (λ l. l)
-Acts line t s r s′ x (as-token.Chord place count written tie slur) = ChordsAs t s r s′ x (chordIn line place) written tie slur
-Acts line t s r s′ x (as-token.Rest kind written) = Rests t s r s′ x kind written
-Acts line t s r s′ x (as-token.Note pitch written tie slur) = NotesAs t s r s′ x pitch written tie slur
-Acts line t s r s′ x as-token.Nothing = Does t s r s′ x 0 0 0 0 (λ l. onToken l token.nothing)
-Acts line t s r s′ x as-token.Skipped = Does t s r s′ x 0 0 0 0 (λ l. l)
-Acts line t s r s′ x (as-token.Refused number) = Does t s r s′ x 0 0 0 0 (λ l. l)
+unfoldable pub SimulatesToken : List ℕ → Tables → List ℕ → Registers → List ℕ → Registers → Token → Type 0
+SimulatesToken line t s r s′ x as-token.Space = Simulates t s r s′ x 0 0 0 0 (λ l. onToken l token.space)
+SimulatesToken line t s r s′ x as-token.Overlay = Simulates t s r s′ x 0 0 0 0 (λ l. onToken l token.overlay)
+SimulatesToken line t s r s′ x as-token.Quoted = Simulates t s r s′ x 0 0 0 0 (λ l. l)
+SimulatesToken line t s r s′ x (as-token.Broken up count) = Simulates t s r s′ x 0 0 0 0 (λ l. onToken l (token.broken up count))
+SimulatesToken line t s r s′ x (as-token.Tuplet actual normal count) = Simulates t s r s′ x 0 0 0 0 (λ l. onToken l (token.tuplet (record { actual = actual; normal = normal; count = count })))
+SimulatesToken line t s r s′ x as-token.Slur = Simulates t s r s′ x 0 0 0 0 (λ l. onToken l token.slur)
+SimulatesToken line t s r s′ x as-token.GraceOpen = Simulates t s r s′ x 0 0 0 0 (λ l. onToken l token.graceOpen)
+SimulatesToken line t s r s′ x as-token.GraceClose = Simulates t s r s′ x 0 0 0 0 (λ l. onToken l token.graceClose)
+SimulatesToken line t s r s′ x as-token.Decoration = Simulates t s r s′ x 0 0 0 0 (λ l. l)
+SimulatesToken line t s r s′ x (as-token.Barline right left opens) =
+    ((b : standard.Barline) → right ≡ barlineFor b → left ≡ barlineFor (leftOf b) → Simulates t s r s′ x 1 0 0 0 (onBarline b opens))
+SimulatesToken line t s r s′ x (as-token.Volta first passes) =
+    ((ps : List ℕ) → first ≡ getD ps 0 0 → passes ≡ passBits ps → Simulates t s r s′ x 0 0 0 0 (λ l. onToken l (token.volta ps)))
+SimulatesToken line t s r s′ x (as-token.Unit unit) = Simulates t s r s′ x 0 0 0 0 (λ l. onToken l (token.unit unit))
+SimulatesToken line t s r s′ x (as-token.Meter top bottom) = Simulates t s r s′ x 0 0 0 0 (λ l. onToken l (token.meter (top, bottom)))
+SimulatesToken line t s r s′ x (as-token.Key fifths minor) = Simulates t s r s′ x 0 0 0 0 (λ l. onToken l (token.key (record { fifths = fifths; minor = minor })))
+SimulatesToken line t s r s′ x as-token.Field = Simulates t s r s′ x 0 0 0 0 (λ l. l)
+SimulatesToken line t s r s′ x (as-token.Chord place count written tie slur) = SimulatesChord t s r s′ x (chordIn line place) written tie slur
+SimulatesToken line t s r s′ x (as-token.Rest kind written) = SimulatesRest t s r s′ x kind written
+SimulatesToken line t s r s′ x (as-token.Note pitch written tie slur) = SimulatesNote t s r s′ x pitch written tie slur
+SimulatesToken line t s r s′ x as-token.Nothing = Simulates t s r s′ x 0 0 0 0 (λ l. onToken l token.nothing)
+SimulatesToken line t s r s′ x as-token.Skipped = Simulates t s r s′ x 0 0 0 0 (λ l. l)
+SimulatesToken line t s r s′ x (as-token.Refused number) = Simulates t s r s′ x 0 0 0 0 (λ l. l)

@@ -7,7 +7,7 @@ use lib.ListN.{length}
 use Rattle.standard.specs.Keys.{Key}
 use Rattle.standard.specs.Pitches.{Written, Pitch}
 use Rattle.reader.specs.Pitches.{Scope, soundOf, scopeAfter, soundsOf, scopeAfterAll}
-use Rattle.capacity.specs.Pays.{marked}
+use Rattle.capacity.specs.Covers.{signsIn}
 
 -- ONE MORE behind others
 pub sounds-more : (k : Key) (sc : Scope) (ws : List Written) (w : Written) → soundsOf k sc (ws ++ (w ∷ [])) ≡ soundsOf k sc ws ++ (soundOf k (scopeAfterAll sc ws) w ∷ [])
@@ -20,7 +20,7 @@ unfolding scopeAfterAll
 scope-more sc [] w = refl
 scope-more sc (v ∷ ws) w = scope-more (scopeAfter sc v) ws w
 
-pub marked-both : (vs ws : List Written) → marked (vs ++ ws) ≡ marked vs + marked ws
+pub marked-both : (vs ws : List Written) → signsIn (vs ++ ws) ≡ signsIn vs + signsIn ws
 marked-both [] ws = omega arith
 marked-both (v ∷ vs) ws = let e = marked-both vs ws in omega arith
 

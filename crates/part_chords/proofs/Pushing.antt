@@ -20,7 +20,7 @@ use Rattle.part_layout.proofs.Lines.{Standing}
 use Rattle.token_lengths.specs.declared.Length.{Length}
 use Rattle.token_pitches.specs.declared.Pitch.{Pitch}
 use Rattle.token_pitches.specs.declared.Met.the-variants as met-as
-use Rattle.token_pitches.specs.Pitches.{markFor, pitchFor}
+use Rattle.token_pitches.specs.Pitches.{signFor, pitchFor}
 use Rattle.token_pitches.specs.Chords.{pitchMet, metFor}
 use Rattle.token_pitches.proofs.Walk.{mark-back, next-pitch}
 use Rattle.part_rows.proofs.Tables.{only-none, only-then}
@@ -28,23 +28,23 @@ use Rattle.part_accidentals.specs.Resolving.{signs, writtenOf}
 use Rattle.part_registers.specs.declared.Counts.{Counts}
 use Rattle.part_registers.specs.declared.Tables.{Tables}
 use Rattle.part_registers.specs.declared.Registers.{Registers}
-use Rattle.part_invariant.specs.Held.{Room, Held, Holding}
-use Rattle.part_sounds.specs.Sounds.{soundLeft, Leaves, Pushable, Pushes, Soundable, Sounds}
-use Rattle.part_sounds.specs.declared.Left.{Left}
+use Rattle.part_invariant.specs.Invariant.{Room, Represents, RepresentedInLine}
+use Rattle.part_sounds.specs.Sounds.{deferredSound, OnceAppended, Pushable, SimulatesPitch, Soundable, SimulatesSound}
+use Rattle.part_sounds.specs.declared.Deferred.{Deferred}
 use Rattle.part_sounds.proofs.Sounding.{standing-scopes}
 use Rattle.part_sounds.proofs.Leaving.{sound-leaves}
-use Rattle.capacity.specs.Pays.{marks, marked}
-use Rattle.part_chords.specs.Chords.{chordIn, ChordAt, PushesAll, ChordsAs}
+use Rattle.capacity.specs.Covers.{flags, signsIn}
+use Rattle.part_chords.specs.Chords.{chordIn, ChordAt, SimulatesPitches, SimulatesChord}
 use Rattle.part_chords.proofs.Pitches.{sounds-more, scope-more, marked-both, length-sounds}
 
 -- A PITCH in the code's type, and back
 pub written-back : (w : Written) → writtenOf (pitchFor w) ≡ w
-written-back w = λ i. record { step = w .step; octave = w .octave; mark = mark-back (w .mark) i }
+written-back w = λ i. record { step = w .step; octave = w .octave; sign = mark-back (w .sign) i }
 
-pub signs-are : (w : Written) → signs (markFor (w .mark)) ≡ marks (w .mark)
-signs-are w = by (w .mark)
+pub signs-are : (w : Written) → signs (signFor (w .sign)) ≡ flags (w .sign)
+signs-are w = by (w .sign)
   where
-    by : (a : Option standard.Accidental) → signs (markFor a) ≡ marks a
+    by : (a : Option standard.Accidental) → signs (signFor a) ≡ flags a
     by none = refl
     by (some a) = refl
 
@@ -63,18 +63,18 @@ standing-after l ws st =
     standing-scopes l (scopesAfter l ws) (length-alterAt o (λ old. scopeAfterAll (getD (l .scopes) o []) ws) (l .scopes) ∙ st .scopes-4) st
 
 -- NONE YET
-pub pushed-none : (t : Tables) (s : List ℕ) (r : Registers) → PushesAll t s r s r []
+pub pushed-none : (t : Tables) (s : List ℕ) (r : Registers) → SimulatesPitches t s r s r []
 unfolding soundsOf scopeAfterAll
 pushed-none t s r =
     record {
       only = only-none (t .heads) (t .end) s;
       grows = record { more-heads = omega arith; more-notes = omega arith; more-pitches = omega arith; more-scopes = omega arith };
-      holds = λ l st h. subst (λ (c : List Scope). Held t s r [] (setScopes c l)) (sym (alter-none (l .line .overlay) (l .scopes))) h;
+      holds = λ l st h. subst (λ (c : List Scope). Represents t s r [] (setScopes c l)) (sym (alter-none (l .line .overlay) (l .scopes))) h;
     }
 
 -- ONE MORE
-module _ {t : Tables} {s s₁ s₂ : List ℕ} {r r₁ r₂ : Registers} {ws : List Written} (w : Written) (a : PushesAll t s r s₁ r₁ ws) (b : Pushes t s₁ r₁ s₂ r₂ (pitchFor w)) where
-  module _ (l : LogState) (st : Standing l) (h : Held t s r [] l) where
+module _ {t : Tables} {s s₁ s₂ : List ℕ} {r r₁ r₂ : Registers} {ws : List Written} (w : Written) (a : SimulatesPitches t s r s₁ r₁ ws) (b : SimulatesPitch t s₁ r₁ s₂ r₂ (pitchFor w)) where
+  module _ (l : LogState) (st : Standing l) (h : Represents t s r [] l) where
     there : getD (scopesAfter l ws) (l .line .overlay) [] ≡ scopeAfterAll (getD (l .scopes) (l .line .overlay) []) ws
     there =
         getD-alterAt (l .line .overlay) (λ old. scopeAfterAll (getD (l .scopes) (l .line .overlay) []) ws) (l .scopes) [] (omega (arith, st .overlay-4, st .scopes-4))
@@ -91,13 +91,13 @@ module _ {t : Tables} {s s₁ s₂ : List ℕ} {r r₁ r₂ : Registers} {ws : L
         ∙ (λ i. alterAt (l .line .overlay) (λ old. scopeAfter (scopeAfterAll (getD (l .scopes) (l .line .overlay) []) ws) (written-back w i)) (l .scopes))
         ∙ ap (λ (x : Scope). alterAt (l .line .overlay) (λ old. x) (l .scopes)) (sym (scope-more (getD (l .scopes) (l .line .overlay) []) ws w))
 
-    more-held : Held t s₂ r₂ (soundsOf (l .key) (getD (l .scopes) (l .line .overlay) []) (ws ++ (w ∷ []))) (setScopes (scopesAfter l (ws ++ (w ∷ []))) l)
+    more-held : Represents t s₂ r₂ (soundsOf (l .key) (getD (l .scopes) (l .line .overlay) []) (ws ++ (w ∷ []))) (setScopes (scopesAfter l (ws ++ (w ∷ []))) l)
     more-held =
-        subst (λ (c : List Scope). Held t s₂ r₂ (soundsOf (l .key) (getD (l .scopes) (l .line .overlay) []) (ws ++ (w ∷ []))) (setScopes c l)) scopes-are
-        (subst (λ (ps : List standard.Pitch). Held t s₂ r₂ ps (setScopes (alterAt (l .line .overlay) (λ old. scopeAfter old (writtenOf (pitchFor w))) (scopesAfter l ws)) l)) extra-is
+        subst (λ (c : List Scope). Represents t s₂ r₂ (soundsOf (l .key) (getD (l .scopes) (l .line .overlay) []) (ws ++ (w ∷ []))) (setScopes c l)) scopes-are
+        (subst (λ (ps : List standard.Pitch). Represents t s₂ r₂ ps (setScopes (alterAt (l .line .overlay) (λ old. scopeAfter old (writtenOf (pitchFor w))) (scopesAfter l ws)) l)) extra-is
         (b .holds (setScopes (scopesAfter l ws) l) (soundsOf (l .key) (getD (l .scopes) (l .line .overlay) []) ws) (st .overlay-4) (a .holds l st h)))
 
-  pub pushed-more : PushesAll t s r s₂ r₂ (ws ++ (w ∷ []))
+  pub pushed-more : SimulatesPitches t s r s₂ r₂ (ws ++ (w ∷ []))
   pushed-more =
       let f = a .grows in
       let g = b .grows in
@@ -117,7 +117,7 @@ pub record Pushing (line : List ℕ) (t : Tables) (s : List ℕ) (r : Registers)
   pub all-are : chordIn line place ≡ done ++ rest
   pub count-is : n ≡ length done
   pub to-come : chordOf 0 none (drop i line) ≡ some rest
-  pub pushed : PushesAll t s r s′ r′ done
+  pub pushed : SimulatesPitches t s r s′ r′ done
 
 pub pushing-start : (line : List ℕ) (t : Tables) (s : List ℕ) (r : Registers) (place count : ℕ) → ChordAt line place count → Pushing line t s r place s r place 0
 pushing-start line t s r place count c = record { done = []; rest = chordIn line place; all-are = refl; count-is = refl; to-come = c .fine; pushed = pushed-none t s r }
@@ -136,11 +136,11 @@ module _ {line : List ℕ} {t : Tables} {s s′ : List ℕ} {r r′ : Registers}
   left-are = c .count-is ∙ ap length (p .all-are) ∙ length-append (p .done) (p .rest) ∙ ap (λ (k : ℕ). k + length (p .rest)) (sym (p .count-is))
 
   -- all are pushed
-  pub pushing-end : count ≤ n → PushesAll t s r s′ r′ (chordIn line place)
+  pub pushing-end : count ≤ n → SimulatesPitches t s r s′ r′ (chordIn line place)
   pushing-end h = all-by (p .rest) left-are (p .all-are)
     where
-      all-by : (rest : List Written) → count ≡ n + length rest → chordIn line place ≡ p .done ++ rest → PushesAll t s r s′ r′ (chordIn line place)
-      all-by [] k e = subst (λ (ws : List Written). PushesAll t s r s′ r′ ws) (sym (e ∙ append-nil (p .done))) (p .pushed)
+      all-by : (rest : List Written) → count ≡ n + length rest → chordIn line place ≡ p .done ++ rest → SimulatesPitches t s r s′ r′ (chordIn line place)
+      all-by [] k e = subst (λ (ws : List Written). SimulatesPitches t s r s′ r′ ws) (sym (e ∙ append-nil (p .done))) (p .pushed)
       all-by (w ∷ ws) k e = absurd (omega (arith, h, k))
 
   module _ (h : n < count) where
@@ -180,12 +180,12 @@ module _ {line : List ℕ} {t : Tables} {s s′ : List ℕ} {r r′ : Registers}
     whole = p .all-are ∙ ap (λ (ws : List Written). p .done ++ ws) (u .rest-is)
 
     -- there is room for it
-    pub turn-room : Room t (r .counts) (length s) 0 0 (length (chordIn line place)) (marked (chordIn line place)) → Room t (r′ .counts) (length s′) 0 0 1 (signs (q .mark))
+    pub turn-room : Room t (r .counts) (length s) 0 0 (length (chordIn line place)) (signsIn (chordIn line place)) → Room t (r′ .counts) (length s′) 0 0 1 (signs (q .sign))
     turn-room room =
         let g = p .pushed .grows in
         let a : length (chordIn line place) ≡ length (p .done) + suc (length (u .behind)) = ap length whole ∙ length-append (p .done) (u .first ∷ u .behind) in
-        let b : marked (chordIn line place) ≡ marked (p .done) + (marks (u .first .mark) + marked (u .behind)) = ap marked whole ∙ marked-both (p .done) (u .first ∷ u .behind) in
-        let d : signs (q .mark) ≡ marks (u .first .mark) = ap (λ (x : Pitch). signs (x .mark)) (u .pitch-is) ∙ signs-are (u .first) in
+        let b : signsIn (chordIn line place) ≡ signsIn (p .done) + (flags (u .first .sign) + signsIn (u .behind)) = ap signsIn whole ∙ marked-both (p .done) (u .first ∷ u .behind) in
+        let d : signs (q .sign) ≡ flags (u .first .sign) = ap (λ (x : Pitch). signs (x .sign)) (u .pitch-is) ∙ signs-are (u .first) in
         record {
           for-heads = omega (arith, room .for-heads, g);
           for-notes = omega (arith, room .for-notes, g);
@@ -195,21 +195,21 @@ module _ {line : List ℕ} {t : Tables} {s s′ : List ℕ} {r r′ : Registers}
           small = room .small;
         }
 
-    pub turn-able : Holding t s r → Pushable t s′ r′
+    pub turn-able : RepresentedInLine t s r → Pushable t s′ r′
     turn-able h =
         let l = h .state in
         record {
           state = setScopes (scopesAfter l (p .done)) l;
           extra = soundsOf (l .key) (getD (l .scopes) (l .line .overlay) []) (p .done);
           overlay-4 = h .standing .overlay-4;
-          held = p .pushed .holds l (h .standing) (h .held);
+          represents = p .pushed .holds l (h .standing) (h .represents);
         }
 
     pub turn-low : q .step < 7
     turn-low = subst (λ (x : Pitch). x .step < 7) (sym (u .pitch-is)) (u .low)
 
     -- it is pushed
-    pub turn-done : {s₂ : List ℕ} {r₂ : Registers} → Pushes t s′ r′ s₂ r₂ q → Pushing line t s r place s₂ r₂ next (n + 1)
+    pub turn-done : {s₂ : List ℕ} {r₂ : Registers} → SimulatesPitch t s′ r′ s₂ r₂ q → Pushing line t s r place s₂ r₂ next (n + 1)
     turn-done {s₂} {r₂} b =
         record {
           done = p .done ++ (u .first ∷ []);
@@ -217,7 +217,7 @@ module _ {line : List ℕ} {t : Tables} {s s′ : List ℕ} {r r′ : Registers}
           all-are = whole ∙ sym (append-assoc (p .done) (u .first ∷ []) (u .behind));
           count-is = ap (λ (k : ℕ). k + 1) (p .count-is) ∙ sym (length-append (p .done) (u .first ∷ []));
           to-come = u .to-come;
-          pushed = pushed-more (u .first) (p .pushed) (subst (λ (x : Pitch). Pushes t s′ r′ s₂ r₂ x) (u .pitch-is) b);
+          pushed = pushed-more (u .first) (p .pushed) (subst (λ (x : Pitch). SimulatesPitch t s′ r′ s₂ r₂ x) (u .pitch-is) b);
         }
 
 -- THE CHORD'S ROW
@@ -226,9 +226,9 @@ pub pitches-room : {t : Tables} {c : Counts} {n k m : ℕ} → Room t c n 0 1 k 
 pitches-room room =
     record { for-heads = room .for-heads; for-notes = omega (arith, room .for-notes); for-pitches = room .for-pitches; for-scopes = room .for-scopes; ends = room .ends; small = room .small }
 
-module _ {t : Tables} {s s₁ : List ℕ} {r r₁ : Registers} {ws : List Written} (a : PushesAll t s r s₁ r₁ ws) where
+module _ {t : Tables} {s s₁ : List ℕ} {r r₁ : Registers} {ws : List Written} (a : SimulatesPitches t s r s₁ r₁ ws) where
   -- room for the row
-  chord-room : Room t (r .counts) (length s) 0 1 (length ws) (marked ws) → Room t (r₁ .counts) (length s₁) 0 1 0 0
+  chord-room : Room t (r .counts) (length s) 0 1 (length ws) (signsIn ws) → Room t (r₁ .counts) (length s₁) 0 1 0 0
   chord-room room =
       let g = a .grows in
       record {
@@ -240,7 +240,7 @@ module _ {t : Tables} {s s₁ : List ℕ} {r r₁ : Registers} {ws : List Writte
         small = room .small;
       }
 
-  chord-able : {count : ℕ} → count ≡ length ws → Holding t s r → Soundable t s₁ r₁ count
+  chord-able : {count : ℕ} → count ≡ length ws → RepresentedInLine t s r → Soundable t s₁ r₁ count
   chord-able e h =
       let l = h .state in
       let sc = getD (l .scopes) (l .line .overlay) [] in
@@ -249,10 +249,10 @@ module _ {t : Tables} {s s₁ : List ℕ} {r r₁ : Registers} {ws : List Writte
         pitches = soundsOf (l .key) sc ws;
         standing = standing-after l ws (h .standing);
         count-is = e ∙ sym (length-sounds (l .key) sc ws);
-        held = a .holds l (h .standing) (h .held);
+        represents = a .holds l (h .standing) (h .represents);
       }
 
-  chords-as : {s₂ : List ℕ} {r₂ : Registers} {w : Length} {tie slur : Bool} {count : ℕ} → count ≡ length ws → Sounds t s₁ r₁ s₂ r₂ w tie slur count → ChordsAs t s r s₂ r₂ ws w tie slur
+  chords-as : {s₂ : List ℕ} {r₂ : Registers} {w : Length} {tie slur : Bool} {count : ℕ} → count ≡ length ws → SimulatesSound t s₁ r₁ s₂ r₂ w tie slur count → SimulatesChord t s r s₂ r₂ ws w tie slur
   unfolding onSound
   chords-as {s₂} {r₂} k b =
       record {
@@ -265,12 +265,12 @@ module _ {t : Tables} {s s₁ : List ℕ} {r r₁ : Registers} {ws : List Writte
             λ l e len st i j v h.
             let sc = getD (l .scopes) (l .line .overlay) [] in
             let ps = soundsOf (l .key) sc ws in
-            subst (λ (u : Value). Held t s₂ r₂ [] (append (soundNote u (l .pending) e ps) (setScopes (scopesAfter l ws) (setPending (pendingAfter (l .pending) e) l)))) v
+            subst (λ (u : Value). Represents t s₂ r₂ [] (append (soundNote u (l .pending) e ps) (setScopes (scopesAfter l ws) (setPending (pendingAfter (l .pending) e) l)))) v
             (b .holds (setScopes (scopesAfter l ws) l) e ps (standing-after l ws st) i j (k ∙ sym (length-sounds (l .key) sc ws)) (a .holds l st h));
       }
 
-  pub chord-leaves : {left : Left} {w : Length} {tie slur : Bool} {count : ℕ} → left ≡ soundLeft r₁ w tie slur count → count ≡ length ws
-      → Room t (r .counts) (length s) 0 1 (length ws) (marked ws) → Holding t s r → Leaves t s₁ left (λ s₂ r₂. ChordsAs t s r s₂ r₂ ws w tie slur)
+  pub chord-leaves : {left : Deferred} {w : Length} {tie slur : Bool} {count : ℕ} → left ≡ deferredSound r₁ w tie slur count → count ≡ length ws
+      → Room t (r .counts) (length s) 0 1 (length ws) (signsIn ws) → RepresentedInLine t s r → OnceAppended t s₁ left (λ s₂ r₂. SimulatesChord t s r s₂ r₂ ws w tie slur)
   chord-leaves e k room h =
       let b = sound-leaves e (chord-room room) (chord-able k h) in
       record { able = b .able; done = λ s₂ r₂ f. chords-as k (b .done s₂ r₂ f) }

@@ -15,11 +15,11 @@ use Rattle.part_layout.specs.Log.{LogState, setScopes, onSound}
 use Rattle.part_layout.proofs.Lines.{Standing}
 use Rattle.token_lengths.specs.declared.Length.{Length}
 use Rattle.token_lengths.specs.Values.{asValue}
-use Rattle.capacity.specs.Pays.{marked}
+use Rattle.capacity.specs.Covers.{signsIn}
 use Rattle.part_rows.specs.Table.{Only}
 use Rattle.part_registers.specs.declared.Tables.{Tables}
 use Rattle.part_registers.specs.declared.Registers.{Registers}
-use Rattle.part_invariant.specs.Held.{Held, Grows}
+use Rattle.part_invariant.specs.Invariant.{Represents, Grows}
 
 -- none where one is refused
 unfoldable pub pitchesOr : Option (List Written) → List Written
@@ -36,16 +36,16 @@ pub record ChordAt (line : List ℕ) (place count : ℕ) : Type 0 where
   pub count-is : count ≡ length (chordIn line place)
 
 -- PITCHES PUSHED, each resolved after the ones before it
-pub record PushesAll (t : Tables) (s : List ℕ) (r : Registers) (s′ : List ℕ) (r′ : Registers) (ws : List Written) : Type 0 where
+pub record SimulatesPitches (t : Tables) (s : List ℕ) (r : Registers) (s′ : List ℕ) (r′ : Registers) (ws : List Written) : Type 0 where
   pub only : Only (t .heads) (t .end) s s′
-  pub grows : Grows (r .counts) (r′ .counts) 0 0 (length ws) (marked ws)
-  pub holds : (l : LogState) → Standing l → Held t s r [] l
-      → Held t s′ r′ (soundsOf (l .key) (getD (l .scopes) (l .line .overlay) []) ws)
+  pub grows : Grows (r .counts) (r′ .counts) 0 0 (length ws) (signsIn ws)
+  pub holds : (l : LogState) → Standing l → Represents t s r [] l
+      → Represents t s′ r′ (soundsOf (l .key) (getD (l .scopes) (l .line .overlay) []) ws)
       (setScopes (alterAt (l .line .overlay) (λ old. scopeAfterAll (getD (l .scopes) (l .line .overlay) []) ws) (l .scopes)) l)
 
 -- A CHORD
-pub record ChordsAs (t : Tables) (s : List ℕ) (r : Registers) (s′ : List ℕ) (r′ : Registers) (ws : List Written) (written : Length) (tie slur : Bool) : Type 0 where
+pub record SimulatesChord (t : Tables) (s : List ℕ) (r : Registers) (s′ : List ℕ) (r′ : Registers) (ws : List Written) (written : Length) (tie slur : Bool) : Type 0 where
   pub only : Only (t .heads) (t .end) s s′
-  pub grows : Grows (r .counts) (r′ .counts) 0 1 (length ws) (marked ws)
-  pub holds : (l : LogState) (b : Behind) (len : reader.Length) → Standing l → b .tie ≡ tie → b .slur ≡ slur → asValue written ≡ valueOf (l .line .unit) len → Held t s r [] l
-      → Held t s′ r′ [] (onSound ws len b l)
+  pub grows : Grows (r .counts) (r′ .counts) 0 1 (length ws) (signsIn ws)
+  pub holds : (l : LogState) (b : Behind) (len : reader.Length) → Standing l → b .tie ≡ tie → b .slur ≡ slur → asValue written ≡ valueOf (l .line .unit) len → Represents t s r [] l
+      → Represents t s′ r′ [] (onSound ws len b l)

@@ -1,12 +1,12 @@
 // Chords: the pitches, read again from the line, are pushed one by one; the chord's row is left to be appended.
 ghost use lib.ListN.{length};
-ghost use Rattle.part_invariant.specs.Held.{Room, Holding};
-ghost use Rattle.capacity.specs.Pays.{marked};
-ghost use Rattle.part_sounds.specs.Sounds.{Leaves};
-ghost use Rattle.part_chords.specs.Chords.{chordIn, ChordAt, PushesAll, ChordsAs};
+ghost use Rattle.part_invariant.specs.Invariant.{Room, RepresentedInLine};
+ghost use Rattle.capacity.specs.Covers.{signsIn};
+ghost use Rattle.part_sounds.specs.Sounds.{OnceAppended};
+ghost use Rattle.part_chords.specs.Chords.{chordIn, ChordAt, SimulatesPitches, SimulatesChord};
 use part_registers::Registers;
 use part_registers::Tables;
-use part_sounds::Left;
+use part_sounds::Deferred;
 use token_lengths::Length;
 use token_pitches::Met;
 
@@ -19,8 +19,8 @@ fn push_pitches(
     place: usize,
     count: usize,
 ) -> Registers
-    requires { ⌜ Room t (r .counts) (length (now store)) 0 0 (length (chordIn (now line) place)) (marked (chordIn (now line) place)) × Holding t (now store) r × ChordAt (now line) place count ⌝ }
-    ensures { λ x. ⌜ PushesAll t (now (store .entry)) r (now (store .exit)) x (chordIn (now (line .entry)) place) ⌝ }
+    requires { ⌜ Room t (r .counts) (length (now store)) 0 0 (length (chordIn (now line) place)) (signsIn (chordIn (now line) place)) × RepresentedInLine t (now store) r × ChordAt (now line) place count ⌝ }
+    ensures { λ x. ⌜ SimulatesPitches t (now (store .entry)) r (now (store .exit)) x (chordIn (now (line .entry)) place) ⌝ }
 {
     let mut x = r;
     let mut i = place;
@@ -37,7 +37,7 @@ fn push_pitches(
 }
 
 // A chord of `count` pitches, whose `[` stands before `place`.
-pub fn append_chord(
+pub fn append_abc_chord_note(
     line: &[u8],
     store: &mut [u8],
     t: Tables,
@@ -47,9 +47,9 @@ pub fn append_chord(
     written: Length,
     tie: bool,
     slur: bool,
-) -> Left
-    requires { ⌜ Room t (r .counts) (length (now store)) 0 1 (length (chordIn (now line) place)) (marked (chordIn (now line) place)) × Holding t (now store) r × ChordAt (now line) place count ⌝ }
-    ensures { λ left. ⌜ Leaves t (now (store .exit)) left (λ s x. ChordsAs t (now (store .entry)) r s x (chordIn (now (line .entry)) place) written tie slur) ⌝ }
+) -> Deferred
+    requires { ⌜ Room t (r .counts) (length (now store)) 0 1 (length (chordIn (now line) place)) (signsIn (chordIn (now line) place)) × RepresentedInLine t (now store) r × ChordAt (now line) place count ⌝ }
+    ensures { λ left. ⌜ OnceAppended t (now (store .exit)) left (λ s x. SimulatesChord t (now (store .entry)) r s x (chordIn (now (line .entry)) place) written tie slur) ⌝ }
 {
     let x = push_pitches(line, store, t, r, place, count);
     part_sounds::append_sound(x, written, tie, slur, count as u32)

@@ -19,8 +19,8 @@ use Rattle.standard.specs.Keys.{Key}
 use Rattle.reader.specs.State.{Note, Volta, noVolta, voltaBegins, voltaEnds, voltaAlone}
 use Rattle.reader.specs.Voltas.{isStart}
 use Rattle.reader.specs.Codes.{barlineCode, voltaCode, modeCode}
-use Rattle.reader.specs.Records.{markBytes, passBits, signed8}
-use Rattle.part_layout.specs.Log.{Head, withVolta, withMark, isEmptyHead}
+use Rattle.reader.specs.Records.{keyMarkBytes, passBits, signed8}
+use Rattle.part_layout.specs.Log.{Head, withVolta, withKeyMark, isEmptyHead}
 use Rattle.part_layout.specs.Ends.{dropped, starts, lastThere, endsAt, close, markedBy, marked}
 use Rattle.part_layout.specs.Sections.{notesIn}
 use Rattle.part_layout.proofs.Counts.{Fits}
@@ -36,34 +36,34 @@ pub right-byte : (m : Head) → getD (headRow m) 17 0 ≡ barlineCode (m .right)
 unfolding headRow little
 right-byte m = refl
 
-mark-by : (m : Head) (o : Option Key) → m .key ≡ o → getD (headRow m) 20 0 ≡ getD (markBytes o) 0 0
-unfolding headRow little markBytes
-mark-by m none e = rw (e, markBytes)
-mark-by m (some k) e = rw (e, markBytes)
+mark-by : (m : Head) (o : Option Key) → m .key ≡ o → getD (headRow m) 20 0 ≡ getD (keyMarkBytes o) 0 0
+unfolding headRow little keyMarkBytes
+mark-by m none e = rw (e, keyMarkBytes)
+mark-by m (some k) e = rw (e, keyMarkBytes)
 
-pub mark-byte : (m : Head) → getD (headRow m) 20 0 ≡ getD (markBytes (m .key)) 0 0
+pub mark-byte : (m : Head) → getD (headRow m) 20 0 ≡ getD (keyMarkBytes (m .key)) 0 0
 mark-byte m = mark-by m (m .key) refl
 
 volta-by : (m : Head) (o : Option Key) → m .key ≡ o → getD (headRow m) 22 0 ≡ voltaCode (m .volta)
-unfolding headRow little markBytes
-volta-by m none e = rw (e, markBytes)
-volta-by m (some k) e = rw (e, markBytes)
+unfolding headRow little keyMarkBytes
+volta-by m none e = rw (e, keyMarkBytes)
+volta-by m (some k) e = rw (e, keyMarkBytes)
 
 pub volta-byte : (m : Head) → getD (headRow m) 22 0 ≡ voltaCode (m .volta)
 volta-byte m = volta-by m (m .key) refl
 
 first-by : (m : Head) (o : Option Key) → m .key ≡ o → getD (headRow m) 23 0 ≡ getD (m .passes) 0 0
-unfolding headRow little markBytes
-first-by m none e = rw (e, markBytes)
-first-by m (some k) e = rw (e, markBytes)
+unfolding headRow little keyMarkBytes
+first-by m none e = rw (e, keyMarkBytes)
+first-by m (some k) e = rw (e, keyMarkBytes)
 
 pub first-byte : (m : Head) → getD (headRow m) 23 0 ≡ getD (m .passes) 0 0
 first-byte m = first-by m (m .key) refl
 
 passes-by : (m : Head) (o : Option Key) → m .key ≡ o → part (headRow m) 24 4 ≡ le32 (passBits (m .passes))
-unfolding headRow little markBytes part
-passes-by m none e = rw (e, markBytes)
-passes-by m (some k) e = rw (e, markBytes)
+unfolding headRow little keyMarkBytes part
+passes-by m none e = rw (e, keyMarkBytes)
+passes-by m (some k) e = rw (e, keyMarkBytes)
 
 -- bytes, and 0 past them
 byte-or : (l : List ℕ) → All (λ b. b < 256) l → (i : ℕ) → getD l i 0 < 256
@@ -83,17 +83,17 @@ passes-again m p e = ap le32 (e ∙ littleAt-own 4 (headRow m) 24 ∙ ap (λ (l 
 
 -- BYTES WRITTEN
 alone-by : (m : Head) (o : Option Key) → m .key ≡ o → splice (headRow m) 22 (3 ∷ []) ≡ headRow (withVolta voltaAlone (m .passes) m)
-unfolding headRow splice little markBytes voltaCode
-alone-by m none e = rw (e, markBytes)
-alone-by m (some k) e = rw (e, markBytes)
+unfolding headRow splice little keyMarkBytes voltaCode
+alone-by m none e = rw (e, keyMarkBytes)
+alone-by m (some k) e = rw (e, keyMarkBytes)
 
 pub head-alone : (m : Head) → splice (headRow m) 22 (3 ∷ []) ≡ headRow (withVolta voltaAlone (m .passes) m)
 head-alone m = alone-by m (m .key) refl
 
 ends-by : (m : Head) (ps : List ℕ) (o : Option Key) → m .key ≡ o → splice (headRow m) 22 ((2 ∷ getD ps 0 0 ∷ []) ++ le32 (passBits ps)) ≡ headRow (withVolta voltaEnds ps m)
-unfolding headRow splice little markBytes voltaCode
-ends-by m ps none e = rw (e, markBytes)
-ends-by m ps (some k) e = rw (e, markBytes)
+unfolding headRow splice little keyMarkBytes voltaCode
+ends-by m ps none e = rw (e, keyMarkBytes)
+ends-by m ps (some k) e = rw (e, keyMarkBytes)
 
 pub head-ends : (m : Head) (ps : List ℕ) → splice (headRow m) 22 ((2 ∷ getD ps 0 0 ∷ []) ++ le32 (passBits ps)) ≡ headRow (withVolta voltaEnds ps m)
 head-ends m ps = ends-by m ps (m .key) refl
@@ -265,13 +265,13 @@ going-end g l = end-by g (g .rest) refl l
 first-of : {s : List ℕ} {at n : ℕ} (m : Head) (b : List Head) → Table headRow 28 s at (m ∷ b) → length (m ∷ b) ≡ n → Stands s at n 0 [] m b
 first-of m b t h = record { table = t; here = refl; all = omega arith }
 
-has-mark : (o : Option Key) (c : ℕ) → c ≡ getD (markBytes o) 0 0 → (c ≡ 0 → ⊥) → (header : Key) (m : Head) → markedBy header m o ≡ m
-unfolding markBytes markedBy
+has-mark : (o : Option Key) (c : ℕ) → c ≡ getD (keyMarkBytes o) 0 0 → (c ≡ 0 → ⊥) → (header : Key) (m : Head) → markedBy header m o ≡ m
+unfolding keyMarkBytes markedBy
 has-mark none c e h header m = absurd (h e)
 has-mark (some k) c e h header m = refl
 
-no-mark : (o : Option Key) (c : ℕ) → c ≡ getD (markBytes o) 0 0 → c ≡ 0 → (header : Key) (m : Head) → markedBy header m o ≡ withMark header m
-unfolding markBytes markedBy modeCode
+no-mark : (o : Option Key) (c : ℕ) → c ≡ getD (keyMarkBytes o) 0 0 → c ≡ 0 → (header : Key) (m : Head) → markedBy header m o ≡ withKeyMark header m
+unfolding keyMarkBytes markedBy modeCode
 no-mark none c e h header m = refl
 no-mark (some k) c e h header m = absurd (by-test (k .minor) (λ q. let z = rw q at e in omega arith) (λ q. let z = rw q at e in omega arith))
 
@@ -296,7 +296,7 @@ module _ (header : Key) {s : List ℕ} {at n : ℕ} where
       let place : at + 20 ≡ at + 28 * 0 + 20 = omega arith in
       let f = first-of m b t h in
       rw (no-mark (m .key) _ (ap (λ (k : ℕ). getD s k 0) place ∙ byte-of f 20 (omega arith) ∙ mark-byte m) k header m)
-      (set-of f u 20 (modeCode (header .minor) ∷ signed8 (header .fifths) ∷ []) (withMark header m) (rw (p, q) at w) (omega arith) (head-mark m header))
+      (set-of f u 20 (modeCode (header .minor) ∷ signed8 (header .fifths) ∷ []) (withKeyMark header m) (rw (p, q) at w) (omega arith) (head-mark m header))
 
 -- THE EMPTY MEASURE AT THE END
 few : (heads : List Head) → length heads < 2 → dropped heads ≡ heads

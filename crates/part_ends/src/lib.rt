@@ -153,7 +153,7 @@ pub fn close_abc_volta_spans(store: &mut [u8], at: usize, n: usize)
 // THE FIRST MEASURE'S KEY
 
 // The header's key on the first head, if that has none.
-pub fn mark_first(store: &mut [u8], at: usize, n: usize, fifths: u8, minor: bool)
+pub fn mark_first_key(store: &mut [u8], at: usize, n: usize, fifths: u8, minor: bool)
     requires { ⌜ at + 28 * n ≤ length (now store) ⌝ }
     ensures { λ _. ⌜ Only at (at + 28 * n) (now (store .entry)) (now (store .exit)) ⌝ }
     ensures { λ _. ⌜ ((heads : List Head) → Table headRow 28 (now (store .entry)) at heads → length heads ≡ n → Table headRow 28 (now (store .exit)) at (marked (record { fifths = fifths; minor = minor }) heads)) ⌝ }
@@ -164,7 +164,7 @@ pub fn mark_first(store: &mut [u8], at: usize, n: usize, fifths: u8, minor: bool
     if store[at + 20] != 0 {
         return;
     }
-    part_measures::set_mark(store, at, 0, mode_code(minor), part_rows::signed(fifths));
+    part_measures::set_key_mark(store, at, 0, mode_code(minor), part_rows::signed(fifths));
 }
 
 // A mode, by number.
@@ -182,6 +182,6 @@ pub fn end_part(store: &mut [u8], at: usize, n: usize, fifths: u8, minor: bool) 
 {
     let left = drop_empty(store, at, n);
     close_abc_volta_spans(store, at, left);
-    mark_first(store, at, left, fifths, minor);
+    mark_first_key(store, at, left, fifths, minor);
     left
 }

@@ -39,7 +39,7 @@ use Rattle.part_registers.specs.declared.Registers.{Registers}
 use Rattle.part_registers.specs.Notes.{beams, runAgain, fewer, groupedRow, beamedRow, halvedRow}
 use Rattle.part_registers.specs.States.{halfFor, runningFor, lineFor}
 use Rattle.part_registers.proofs.Notes.{beams-is, run-is, fewer-is, grouped-is, beamed-is, half-is}
-use Rattle.part_invariant.specs.Held.{Room, Stored, pitchesIn, Held, Grows, Appendable, Appends}
+use Rattle.part_invariant.specs.Invariant.{Room, Stored, pitchesIn, Represents, Grows, Appendable, Appends}
 use Rattle.part_invariant.specs.Appended.{beforeStore, ranOn, soundedOn, appended}
 use Rattle.part_invariant.proofs.Stores.{withNotes, head-altered, head-only, note-altered, note-pushed, note-pushed-only, scoped-behind}
 use Rattle.part_invariant.proofs.Logs.{last-head, count-most, counts-4, place-same, place-at, place-pitches, more-pitches, before-pitches, final-pitches}
@@ -131,7 +131,7 @@ sounded-le true n = omega arith
 sounded-le false n = omega arith
 
 -- APPENDED
-module _ {t : Tables} {s : List ℕ} {r : Registers} (room : Room t (r .counts) (length s) 0 1 0 0) (l : LogState) (n : Note) (st : Standing l) (h : Held t s r (n .pitches) l) where
+module _ {t : Tables} {s : List ℕ} {r : Registers} (room : Room t (r .counts) (length s) 0 1 0 0) (l : LogState) (n : Note) (st : Standing l) (h : Represents t s r (n .pitches) l) where
   -- where the voice's last note stands
   pub place-is : getD (r .last .places) (r .line .overlay) 0 ≡ lastPlace l
   unfolding lastPlace
@@ -228,7 +228,7 @@ module _ {t : Tables} {s : List ℕ} {r : Registers} (room : Room t (r .counts) 
           (only-then (note-pushed-only (B .stored) s₂ (room-same length₁ room) (l .line .overlay, afterHalf (l .line .half) (beamedNew (l .line .run) (grouped (l .line .tuplet) n))) (rowBytes row (l .line .overlay)) (ap (λ (q : NoteRow). rowBytes q (l .line .overlay)) row-is) e₂)
           (only-splice (t .heads) (t .end) s₂ s₃ _ _ e₃ (omega arith) (omega (arith, i-in, h .stored .heads-are, st .overlay-4, bytes-4 (suc (u32At s₂ (t .heads + 28 * (r .counts .heads - 1) + 4 * l .line .overlay))), room .for-heads, room .for-notes, room .for-pitches, room .for-scopes))))
 
-      pub append-held : Held t s₃ (appended r (kindCode (grouped (l .line .tuplet) n .kind)) (grouped (l .line .tuplet) n .value)) [] (append n l)
+      pub append-held : Represents t s₃ (appended r (kindCode (grouped (l .line .tuplet) n .kind)) (grouped (l .line .tuplet) n .value)) [] (append n l)
       unfolding append onOpen soundedOn
       append-held =
           let v = counted-fields (l .line .overlay) (grouped (l .line .tuplet) n) (l .verses) in
@@ -267,7 +267,7 @@ inTuplet r n = groupedRow (r .group .running) n
 abbrev pub asWritten : Registers → NoteRow → NoteRow
 asWritten r n = halvedRow (r .waiting .half) (beamedRow (r .line .run) (inTuplet r n))
 
-module _ {t : Tables} {s : List ℕ} {r : Registers} {n : NoteRow} (l : LogState) (m : Note) (e : n ≡ rowFor m) (h : Held t s r (m .pitches) l) where
+module _ {t : Tables} {s : List ℕ} {r : Registers} {n : NoteRow} (l : LogState) (m : Note) (e : n ≡ rowFor m) (h : Represents t s r (m .pitches) l) where
   tuplet-row : inTuplet r n ≡ rowFor (grouped (l .line .tuplet) m)
   tuplet-row = (λ i. groupedRow (h .running-is i) (e i)) ∙ grouped-is (l .line .tuplet) m
 
@@ -287,38 +287,38 @@ module _ {t : Tables} {s : List ℕ} {r : Registers} {n : NoteRow} (room : Room 
   module _ (a : Appendable t s r n) where
     -- what the code asks on the way
     pub append-overlay : r .line .overlay < 4
-    append-overlay = omega (arith, a .standing .overlay-4, overlay-row (a .state) (a .note) (a .row-is) (a .held))
+    append-overlay = omega (arith, a .standing .overlay-4, overlay-row (a .state) (a .note) (a .row-is) (a .represents))
 
     pub append-place : getD (r .last .places) (r .line .overlay) 0 ≤ r .counts .notes
-    append-place = omega (arith, place-is room (a .state) (a .note) (a .standing) (a .held), place-most room (a .state) (a .note) (a .standing) (a .held), a .held .stored .notes-are)
+    append-place = omega (arith, place-is room (a .state) (a .note) (a .standing) (a .represents), place-most room (a .state) (a .note) (a .standing) (a .represents), a .represents .stored .notes-are)
 
     pub append-some : 0 < r .line .run → 0 < getD (r .last .places) (r .line .overlay) 0
     append-some u =
-        let k : 0 < a .state .line .run = omega (arith, run-row (a .state) (a .note) (a .row-is) (a .held)) in
-        omega (arith, place-is room (a .state) (a .note) (a .standing) (a .held), a .standing .run-has-note k)
+        let k : 0 < a .state .line .run = omega (arith, run-row (a .state) (a .note) (a .row-is) (a .represents)) in
+        omega (arith, place-is room (a .state) (a .note) (a .standing) (a .represents), a .standing .run-has-note k)
 
     pub append-head : 0 < r .counts .heads
-    append-head = omega (arith, heads-some room (a .state) (a .note) (a .standing) (a .held), a .held .stored .heads-are)
+    append-head = omega (arith, heads-some room (a .state) (a .note) (a .standing) (a .represents), a .represents .stored .heads-are)
 
   module _ (s₁ s₂ : List ℕ) (e₁ : s₁ ≡ beforeStore s (t .notes) (getD (r .last .places) (r .line .overlay) 0) (r .line .run) (inTuplet r n .kind) (inTuplet r n .value))
       (e₂ : s₂ ≡ splice s₁ (t .notes + 16 * r .counts .notes) (rowBytes (asWritten r n) (r .line .overlay))) where
-    to₁ : (l : LogState) (m : Note) → Standing l → n ≡ rowFor m → Held t s r (m .pitches) l
+    to₁ : (l : LogState) (m : Note) → Standing l → n ≡ rowFor m → Represents t s r (m .pitches) l
         → s₁ ≡ beforeStore s (t .notes) (lastPlace l) (min 2 (l .line .run)) (kindCode (grouped (l .line .tuplet) m .kind)) (grouped (l .line .tuplet) m .value)
     to₁ l m st e h =
         e₁ ∙ (λ i. beforeStore s (t .notes) (place-is room l m st h i) (run-row l m e h i) (tuplet-row l m e h i .kind) (tuplet-row l m e h i .value))
 
-    to₂ : (l : LogState) (m : Note) → n ≡ rowFor m → Held t s r (m .pitches) l → s₂ ≡ splice s₁ (t .notes + 16 * r .counts .notes) (rowBytes (asWritten r n) (l .line .overlay))
+    to₂ : (l : LogState) (m : Note) → n ≡ rowFor m → Represents t s r (m .pitches) l → s₂ ≡ splice s₁ (t .notes + 16 * r .counts .notes) (rowBytes (asWritten r n) (l .line .overlay))
     to₂ l m e h = e₂ ∙ ap (λ (k : ℕ). splice s₁ (t .notes + 16 * r .counts .notes) (rowBytes (asWritten r n) k)) (overlay-row l m e h)
 
     pub append-small : Appendable t s r n → u32At s₂ (t .heads + 28 * (r .counts .heads - 1) + 4 * r .line .overlay) + 1 < 2 ^ 32
     append-small a =
-        subst (λ (k : ℕ). u32At s₂ (t .heads + 28 * (r .counts .heads - 1) + 4 * k) + 1 < 2 ^ 32) (sym (overlay-row (a .state) (a .note) (a .row-is) (a .held)))
-        (count-small room (a .state) (a .note) (a .standing) (a .held) s₁ s₂ (to₁ (a .state) (a .note) (a .standing) (a .row-is) (a .held)) (asWritten r n) (written-row (a .state) (a .note) (a .row-is) (a .held))
-        (to₂ (a .state) (a .note) (a .row-is) (a .held)))
+        subst (λ (k : ℕ). u32At s₂ (t .heads + 28 * (r .counts .heads - 1) + 4 * k) + 1 < 2 ^ 32) (sym (overlay-row (a .state) (a .note) (a .row-is) (a .represents)))
+        (count-small room (a .state) (a .note) (a .standing) (a .represents) s₁ s₂ (to₁ (a .state) (a .note) (a .standing) (a .row-is) (a .represents)) (asWritten r n) (written-row (a .state) (a .note) (a .row-is) (a .represents))
+        (to₂ (a .state) (a .note) (a .row-is) (a .represents)))
 
     module _ (s₃ : List ℕ)
         (e₃ : s₃ ≡ splice s₂ (t .heads + 28 * (r .counts .heads - 1) + 4 * r .line .overlay) (le32 (suc (u32At s₂ (t .heads + 28 * (r .counts .heads - 1) + 4 * r .line .overlay))))) where
-      to₃ : (l : LogState) (m : Note) → n ≡ rowFor m → Held t s r (m .pitches) l
+      to₃ : (l : LogState) (m : Note) → n ≡ rowFor m → Represents t s r (m .pitches) l
           → s₃ ≡ splice s₂ (t .heads + 28 * (r .counts .heads - 1) + 4 * l .line .overlay) (le32 (suc (u32At s₂ (t .heads + 28 * (r .counts .heads - 1) + 4 * l .line .overlay))))
       to₃ l m e h =
           e₃ ∙ ap (λ (k : ℕ). splice s₂ (t .heads + 28 * (r .counts .heads - 1) + 4 * k) (le32 (suc (u32At s₂ (t .heads + 28 * (r .counts .heads - 1) + 4 * k))))) (overlay-row l m e h)
@@ -327,8 +327,8 @@ module _ {t : Tables} {s : List ℕ} {r : Registers} {n : NoteRow} (room : Room 
       appends a r′ d =
           record {
             only =
-                append-only room (a .state) (a .note) (a .standing) (a .held) s₁ s₂ (to₁ (a .state) (a .note) (a .standing) (a .row-is) (a .held)) (asWritten r n)
-                (written-row (a .state) (a .note) (a .row-is) (a .held)) (to₂ (a .state) (a .note) (a .row-is) (a .held)) s₃ (to₃ (a .state) (a .note) (a .row-is) (a .held));
+                append-only room (a .state) (a .note) (a .standing) (a .represents) s₁ s₂ (to₁ (a .state) (a .note) (a .standing) (a .row-is) (a .represents)) (asWritten r n)
+                (written-row (a .state) (a .note) (a .row-is) (a .represents)) (to₂ (a .state) (a .note) (a .row-is) (a .represents)) s₃ (to₃ (a .state) (a .note) (a .row-is) (a .represents));
             grows =
                 record {
                   more-heads = omega (arith, ap (λ (x : Registers). x .counts .heads) d);
@@ -337,6 +337,6 @@ module _ {t : Tables} {s : List ℕ} {r : Registers} {n : NoteRow} (room : Room 
                   more-scopes = omega (arith, ap (λ (x : Registers). x .counts .scopes) d);
                 };
             holds =
-                λ l m st e h. subst (λ (x : Registers). Held t s₃ x [] (append m l)) (sym (d ∙ (λ i. appended r (tuplet-row l m e h i .kind) (tuplet-row l m e h i .value))))
+                λ l m st e h. subst (λ (x : Registers). Represents t s₃ x [] (append m l)) (sym (d ∙ (λ i. appended r (tuplet-row l m e h i .kind) (tuplet-row l m e h i .value))))
                 (append-held room l m st h s₁ s₂ (to₁ l m st e h) (asWritten r n) (written-row l m e h) (to₂ l m e h) s₃ (to₃ l m e h));
           }

@@ -8,9 +8,9 @@ use native.Mathlib.Nat.{not-suc-le-zero, le-of-suc-le-suc}
 use native.Mathlib.Omega.{arith}
 use lib.Dec.{eqb}
 use lib.ListN.{length, getD}
-use Rattle.laws.specs.Lists.{alterAt, cat, sum}
+use Rattle.laws.specs.Lists.{alterAt, concat, sum}
 use Rattle.laws.proofs.Bools.{by-test}
-use Rattle.laws.proofs.Lists.{map-append, cat-append, All-getD, getD-sum}
+use Rattle.laws.proofs.Lists.{map-append, concat-append, All-getD, getD-sum}
 use Rattle.standard.specs.Pitches.{Pitch}
 use Rattle.standard.specs.Notes as Notes
 use Rattle.reader.specs.State as State
@@ -20,7 +20,7 @@ use Rattle.part_layout.specs.Log.{Head, LogState, onLastHead, atPlace, beamedNe
 use Rattle.part_layout.specs.Sections.{notesIn}
 use Rattle.part_layout.proofs.Counts.{Fits}
 use Rattle.part_layout.proofs.Lines.{Standing}
-use Rattle.part_invariant.specs.Held.{pitchesIn}
+use Rattle.part_invariant.specs.Invariant.{pitchesIn}
 
 -- THE OPEN HEAD is the last one
 pub last-head : (f : Head → Head) (hs : List Head) → 0 < length hs → onLastHead f hs ≡ alterAt (length hs - 1) f hs
@@ -75,7 +75,7 @@ place-pitches (suc i) f e log = alter-pitches i f e log
 
 pub more-pitches : (log : List (ℕ × Note)) (x : ℕ × Note) → pitchesIn (log ++ (x ∷ [])) ≡ pitchesIn log ++ x .1 .pitches
 more-pitches log x =
-    ap cat (map-append (λ (y : ℕ × Note). y .1 .pitches) log (x ∷ [])) ∙ cat-append (map (λ (y : ℕ × Note). y .1 .pitches) log) (x .1 .pitches ∷ [])
+    ap concat (map-append (λ (y : ℕ × Note). y .1 .pitches) log (x ∷ [])) ∙ concat-append (map (λ (y : ℕ × Note). y .1 .pitches) log) (x .1 .pitches ∷ [])
     ∙ ap (λ (l : List Pitch). pitchesIn log ++ l) (append-nil (x .1 .pitches))
 
 pub before-pitches : (r : ℕ) (n x : Note) → beamedBefore r n x .pitches ≡ x .pitches

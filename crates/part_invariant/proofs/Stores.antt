@@ -22,7 +22,7 @@ use Rattle.part_measures.proofs.Heads.{length-head}
 use Rattle.part_chains.specs.Chains.{Scoped}
 use Rattle.part_registers.specs.declared.Tables.{Tables}
 use Rattle.part_registers.specs.declared.Counts.{Counts}
-use Rattle.part_invariant.specs.Held.{Room, Stored}
+use Rattle.part_invariant.specs.Invariant.{Room, Stored}
 
 -- other counts
 abbrev pub withHeads : Counts → ℕ → Counts

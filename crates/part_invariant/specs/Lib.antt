@@ -1,3 +1,3 @@
-pub mod Held
+pub mod Invariant
 pub mod Appended
 pub mod Lines

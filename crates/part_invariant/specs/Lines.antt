@@ -8,16 +8,16 @@ use Rattle.capacity.specs.Sizes.{bars, letters, tones, signs}
 use Rattle.part_registers.specs.declared.Tables.{Tables}
 use Rattle.part_registers.specs.declared.Counts.{Counts}
 use Rattle.part_registers.specs.declared.Registers.{Registers}
-use Rattle.part_invariant.specs.Held.{Held}
+use Rattle.part_invariant.specs.Invariant.{Represents}
 
 -- a part is held
-pub record Waits (t : Tables) (s : List ℕ) (r : Registers) : Type 0 where
+pub record RepresentedBetween (t : Tables) (s : List ℕ) (r : Registers) : Type 0 where
   pub state : LogState
   pub between : Between state
-  pub held : Held t s r [] state
+  pub represents : Represents t s r [] state
 
 -- there is room in each table for what these bytes of music can make, and for a first measure
-pub record Rest (t : Tables) (c : Counts) (size : ℕ) (bytes : List ℕ) : Type 0 where
+pub record RoomForBytes (t : Tables) (c : Counts) (size : ℕ) (bytes : List ℕ) : Type 0 where
   pub for-heads : t .heads + 28 * (max 1 (c .heads) + bars bytes) ≤ t .notes
   pub for-notes : t .notes + 16 * (c .notes + tones bytes) ≤ t .pitches
   pub for-pitches : t .pitches + 5 * (c .pitches + letters bytes) ≤ t .scopes
@@ -33,7 +33,7 @@ pub record GrowsBy (c c′ : Counts) (bytes : List ℕ) : Type 0 where
   pub more-scopes : c′ .scopes ≤ c .scopes + signs bytes
 
 -- A LINE OR ANOTHER ITEM, with these bytes of music: scratch and registers do what f does to every part that they hold between lines
-pub record Takes (t : Tables) (s : List ℕ) (r : Registers) (s′ : List ℕ) (r′ : Registers) (bytes : List ℕ) (f : LogState → LogState) : Type 0 where
+pub record SimulatesItem (t : Tables) (s : List ℕ) (r : Registers) (s′ : List ℕ) (r′ : Registers) (bytes : List ℕ) (f : LogState → LogState) : Type 0 where
   pub only : Only (t .heads) (t .end) s s′
   pub grows : GrowsBy (r .counts) (r′ .counts) bytes
-  pub holds : (l : LogState) → Between l → Held t s r [] l → Held t s′ r′ [] (f l)
+  pub holds : (l : LogState) → Between l → Represents t s r [] l → Represents t s′ r′ [] (f l)

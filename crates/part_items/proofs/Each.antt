@@ -15,12 +15,12 @@ use Rattle.standard.specs.Keys.{Key, plainKey}
 use Rattle.standard.specs.Notes.{isSounded}
 use Rattle.reader.specs.Codes.{modeCode}
 use Rattle.reader.specs.Records.{signed8}
-use Rattle.reader.specs.Scan.{Item, born, reset, headed, keyed, metered, sung, played}
+use Rattle.reader.specs.Scan.{Item, voiceDeclared, reset, keyInHeader, keyChange, meterChange, lyricLine, musicLine}
 use Rattle.reader.specs.Part.{firstKey, countedIn}
 use Rattle.reader.specs.State.{Note, Sung, Verses, newLine}
 use Rattle.reader.specs.Token.{Token, space, overlay, quoted, broken, tuplet, slur, graceOpen, graceClose, decoration, barline, volta, unit, meter, key, field, chord, rest, note, nothing, skipped, refused}
 use Rattle.reader.specs.Tokens.{tokens}
-use Rattle.part_layout.specs.Log.{Head, LogState, setKey, setHeads, withMark, withMeter, newLog, onLastHead, onOpen, hears, lastPlace, noteAt, onBroken, onNothing, append, onSound, onBarline, onToken, lineBegins, onLine}
+use Rattle.part_layout.specs.Log.{Head, LogState, setKey, setHeads, withKeyMark, withMeter, newLog, onLastHead, onOpen, hears, lastPlace, noteAt, onBroken, onNothing, append, onSound, onBarline, onToken, lineBegins, onLine}
 use Rattle.part_layout.specs.Ends.{onLyric, onKey, onItem}
 use Rattle.part_rows.specs.Encoded.{noteRow}
 use Rattle.reader.specs.Records.{pitchBytes}
@@ -30,8 +30,8 @@ use Rattle.part_measures.proofs.Heads.{head-mark, head-meter}
 use Rattle.part_registers.specs.declared.Tables.{Tables}
 use Rattle.part_registers.specs.declared.Counts.{Counts}
 use Rattle.part_registers.specs.declared.Registers.{Registers}
-use Rattle.part_invariant.specs.Held.{Held}
-use Rattle.part_invariant.specs.Lines.{Rest, Waits, GrowsBy, Takes}
+use Rattle.part_invariant.specs.Invariant.{Represents}
+use Rattle.part_invariant.specs.Lines.{RoomForBytes, RepresentedBetween, GrowsBy, SimulatesItem}
 use Rattle.part_invariant.proofs.Appending.{someHead}
 use Rattle.part_bars.proofs.Heads.{open-held, open-only, no-scopes, stored-as}
 use Rattle.part_steps.specs.Steps.{hearing}
@@ -39,7 +39,7 @@ use Rattle.part_items.specs.Items.{begun, keyedAs}
 use Rattle.part_items.proofs.Music.{grows-none, rest-room}
 
 -- THE BEGINNING
-pub begun-held : (t : Tables) (s : List ℕ) → t .scopes ≤ length s → Held t s begun [] newLog
+pub begun-held : (t : Tables) (s : List ℕ) → t .scopes ≤ length s → Represents t s begun [] newLog
 unfolding newLog plainKey newLine
 begun-held t s h =
     record {
@@ -66,15 +66,15 @@ begun-held t s h =
     }
 
 -- registers by another name
-pub takes-as : {t : Tables} {s s′ : List ℕ} {r r′ r″ : Registers} {bs : List ℕ} {f : LogState → LogState} → r′ ≡ r″ → Takes t s r s′ r″ bs f → Takes t s r s′ r′ bs f
-takes-as {t} {s} {s′} {r} {r′} {r″} {bs} {f} e d = subst (λ (x : Registers). Takes t s r s′ x bs f) (sym e) d
+pub takes-as : {t : Tables} {s s′ : List ℕ} {r r′ r″ : Registers} {bs : List ℕ} {f : LogState → LogState} → r′ ≡ r″ → SimulatesItem t s r s′ r″ bs f → SimulatesItem t s r s′ r′ bs f
+takes-as {t} {s} {s′} {r} {r′} {r″} {bs} {f} e d = subst (λ (x : Registers). SimulatesItem t s r s′ x bs f) (sym e) d
 
 -- nothing is written
-takes-none : {t : Tables} {s : List ℕ} {r r′ : Registers} {f : LogState → LogState} → r′ .counts ≡ r .counts → ((l : LogState) → Held t s r [] l → Held t s r′ [] (f l)) → Takes t s r s r′ [] f
+takes-none : {t : Tables} {s : List ℕ} {r r′ : Registers} {f : LogState → LogState} → r′ .counts ≡ r .counts → ((l : LogState) → Represents t s r [] l → Represents t s r′ [] (f l)) → SimulatesItem t s r s r′ [] f
 takes-none {t} {s} {r} e h = record { only = only-none (t .heads) (t .end) s; grows = rw e (grows-none (r .counts) []); holds = λ l b. h l }
 
 -- A KEY, whose accidentals stay
-keyed-held : {t : Tables} {s : List ℕ} {r : Registers} (k : Key) (l : LogState) → Held t s r [] l → Held t s (keyedAs r (k .fifths) (k .minor)) [] (setKey k l)
+keyed-held : {t : Tables} {s : List ℕ} {r : Registers} (k : Key) (l : LogState) → Represents t s r [] l → Represents t s (keyedAs r (k .fifths) (k .minor)) [] (setKey k l)
 keyed-held k l h =
     record {
       stored = h .stored;
@@ -92,15 +92,15 @@ keyed-held k l h =
     }
 
 module _ {t : Tables} {s : List ℕ} {r : Registers} (header : Key) where
-  pub born-takes : (b : Bool) → b ≡ true → Takes t s r s (keyedAs r 128 false) [] (λ l. onItem header l (born b))
+  pub born-takes : (b : Bool) → b ≡ true → SimulatesItem t s r s (keyedAs r 128 false) [] (λ l. onItem header l (voiceDeclared b))
   unfolding onItem firstKey plainKey
   born-takes b e = takes-none refl (λ l h. rw e (keyed-held plainKey l h))
 
-  pub late-takes : (b : Bool) → b ≡ false → Takes t s r s (keyedAs r (header .fifths) (header .minor)) [] (λ l. onItem header l (born b))
+  pub late-takes : (b : Bool) → b ≡ false → SimulatesItem t s r s (keyedAs r (header .fifths) (header .minor)) [] (λ l. onItem header l (voiceDeclared b))
   unfolding onItem firstKey
   late-takes b e = takes-none refl (λ l h. rw e (keyed-held header l h))
 
-  pub headed-takes : Takes t s r s (keyedAs r (header .fifths) (header .minor)) [] (λ l. onItem header l headed)
+  pub headed-takes : SimulatesItem t s r s (keyedAs r (header .fifths) (header .minor)) [] (λ l. onItem header l keyInHeader)
   unfolding onItem
   headed-takes = takes-none refl (λ l h. keyed-held header l h)
 
@@ -118,7 +118,7 @@ unpending r =
       verses = r .verses;
     }
 
-pub reset-takes : {t : Tables} {s : List ℕ} {r : Registers} (header : Key) → Takes t s r s (unpending r) [] (λ l. onItem header l reset)
+pub reset-takes : {t : Tables} {s : List ℕ} {r : Registers} (header : Key) → SimulatesItem t s r s (unpending r) [] (λ l. onItem header l reset)
 unfolding onItem
 reset-takes header =
     takes-none refl
@@ -138,7 +138,7 @@ reset-takes header =
     })
 
 -- A K LINE: a key is heard
-hears-held : {t : Tables} {s : List ℕ} {r : Registers} (k : Key) (l : LogState) → t .scopes ≤ length s → Held t s r [] l → Held t s (hearing r (k .fifths) (k .minor)) [] (hears k l)
+hears-held : {t : Tables} {s : List ℕ} {r : Registers} (k : Key) (l : LogState) → t .scopes ≤ length s → Represents t s r [] l → Represents t s (hearing r (k .fifths) (k .minor)) [] (hears k l)
 unfolding hears
 hears-held {t} {s} k l room h =
     record {
@@ -161,7 +161,7 @@ unfolding onKey
 key-unmeasured header k [] l e = refl
 key-unmeasured header k (m ∷ ms) l e = absurd (omega (arith, e))
 
-key-measured : (header k : Key) (hs : List Head) (l : LogState) → 0 < length hs → hears k (onOpen (withMark k) l) ≡ onKey header k hs l
+key-measured : (header k : Key) (hs : List Head) (l : LogState) → 0 < length hs → hears k (onOpen (withKeyMark k) l) ≡ onKey header k hs l
 unfolding onKey hears onOpen
 key-measured header k [] l h = absurd (not-suc-le-zero h)
 key-measured header k (m ∷ ms) l h = refl
@@ -169,49 +169,49 @@ key-measured header k (m ∷ ms) l h = refl
 hearing-grows : (r : Registers) (k : Key) → GrowsBy (r .counts) (hearing r (k .fifths) (k .minor) .counts) []
 hearing-grows r k = record { more-heads = omega arith; more-notes = omega arith; more-pitches = omega arith; more-scopes = omega arith }
 
-scopes-inside : {t : Tables} {c : Counts} {size : ℕ} {bs : List ℕ} → Rest t c size bs → t .scopes ≤ size
+scopes-inside : {t : Tables} {c : Counts} {size : ℕ} {bs : List ℕ} → RoomForBytes t c size bs → t .scopes ≤ size
 scopes-inside room = omega (arith, room .for-scopes, room .ends)
 
-module _ {t : Tables} {s : List ℕ} {r : Registers} (room : Rest t (r .counts) (length s) []) (header k : Key) where
+module _ {t : Tables} {s : List ℕ} {r : Registers} (room : RoomForBytes t (r .counts) (length s) []) (header k : Key) where
   -- where there is no measure
-  pub key-none : r .counts .heads ≡ 0 → Takes t s r s (hearing r (header .fifths) (header .minor)) [] (λ l. onItem header l (keyed k))
+  pub key-none : r .counts .heads ≡ 0 → SimulatesItem t s r s (hearing r (header .fifths) (header .minor)) [] (λ l. onItem header l (keyChange k))
   unfolding onItem
   key-none e =
       record {
         only = only-none (t .heads) (t .end) s;
         grows = hearing-grows r header;
         holds =
-            λ l b h. subst (λ (x : LogState). Held t s (hearing r (header .fifths) (header .minor)) [] x) (key-unmeasured header k (l .heads) l (sym (h .stored .heads-are) ∙ e)) (hears-held header l (scopes-inside room) h);
+            λ l b h. subst (λ (x : LogState). Represents t s (hearing r (header .fifths) (header .minor)) [] x) (key-unmeasured header k (l .heads) l (sym (h .stored .heads-are) ∙ e)) (hears-held header l (scopes-inside room) h);
       }
 
-  module _ (some : 0 < r .counts .heads) (w : Waits t s r) (s′ : List ℕ) where
+  module _ (some : 0 < r .counts .heads) (w : RepresentedBetween t s r) (s′ : List ℕ) where
     -- a write into the open head
-    open-takes : (f : ℕ) (bs : List ℕ) → s′ ≡ splice s (t .heads + 28 * (r .counts .heads - 1) + f) bs → f + length bs ≤ 28 → (g : Head → Head) → ((m : Head) → splice (headRow m) f bs ≡ headRow (g m)) → Takes t s r s′ r [] (onOpen g)
+    open-takes : (f : ℕ) (bs : List ℕ) → s′ ≡ splice s (t .heads + 28 * (r .counts .heads - 1) + f) bs → f + length bs ≤ 28 → (g : Head → Head) → ((m : Head) → splice (headRow m) f bs ≡ headRow (g m)) → SimulatesItem t s r s′ r [] (onOpen g)
     open-takes f bs e q g m =
-        let there : (l : LogState) → Held t s r [] l → 0 < length (l .heads) = λ l h. omega (arith, some, h .stored .heads-are) in
+        let there : (l : LogState) → Represents t s r [] l → 0 < length (l .heads) = λ l h. omega (arith, some, h .stored .heads-are) in
         record {
-          only = open-only (rest-room room) s′ f bs e q (w .state) (there (w .state) (w .held)) (w .held);
+          only = open-only (rest-room room) s′ f bs e q (w .state) (there (w .state) (w .represents)) (w .represents);
           grows = grows-none (r .counts) [];
           holds = λ l b h. open-held (rest-room room) s′ f bs e q l (there l h) h g (m (getD (l .heads) (r .counts .heads - 1) someHead));
         }
 
     -- where there is one
     pub key-some : (mode fifths : ℕ) → mode ≡ modeCode (k .minor) → fifths ≡ signed8 (k .fifths) → s′ ≡ splice s (t .heads + 28 * (r .counts .heads - 1) + 20) (mode ∷ fifths ∷ [])
-        → Takes t s r s′ (hearing r (k .fifths) (k .minor)) [] (λ l. onItem header l (keyed k))
+        → SimulatesItem t s r s′ (hearing r (k .fifths) (k .minor)) [] (λ l. onItem header l (keyChange k))
     unfolding onItem
     key-some mode fifths em ef e =
-        let marks : (m : Head) → splice (headRow m) 20 (mode ∷ fifths ∷ []) ≡ headRow (withMark k m) = λ m. (λ i. splice (headRow m) 20 (em i ∷ ef i ∷ [])) ∙ head-mark m k in
-        let o = open-takes 20 (mode ∷ fifths ∷ []) e (omega arith) (withMark k) marks in
+        let flags : (m : Head) → splice (headRow m) 20 (mode ∷ fifths ∷ []) ≡ headRow (withKeyMark k m) = λ m. (λ i. splice (headRow m) 20 (em i ∷ ef i ∷ [])) ∙ head-mark m k in
+        let o = open-takes 20 (mode ∷ fifths ∷ []) e (omega arith) (withKeyMark k) flags in
         record {
           only = o .only;
           grows = hearing-grows r k;
           holds =
-              λ l b h. subst (λ (x : LogState). Held t s′ (hearing r (k .fifths) (k .minor)) [] x) (key-measured header k (l .heads) l (omega (arith, some, h .stored .heads-are)))
-              (hears-held k (onOpen (withMark k) l) (omega (arith, scopes-inside room, o .only .same-length)) (o .holds l b h));
+              λ l b h. subst (λ (x : LogState). Represents t s′ (hearing r (k .fifths) (k .minor)) [] x) (key-measured header k (l .heads) l (omega (arith, some, h .stored .heads-are)))
+              (hears-held k (onOpen (withKeyMark k) l) (omega (arith, scopes-inside room, o .only .same-length)) (o .holds l b h));
         }
 
     -- AN M LINE on the open measure
-    pub meter-some : (top bottom : ℕ) → s′ ≡ splice s (t .heads + 28 * (r .counts .heads - 1) + 18) (top ∷ bottom ∷ []) → Takes t s r s′ r [] (λ l. onItem header l (metered (top, bottom)))
+    pub meter-some : (top bottom : ℕ) → s′ ≡ splice s (t .heads + 28 * (r .counts .heads - 1) + 18) (top ∷ bottom ∷ []) → SimulatesItem t s r s′ r [] (λ l. onItem header l (meterChange (top, bottom)))
     unfolding onItem
     meter-some top bottom e = open-takes 18 (top ∷ bottom ∷ []) e (omega arith) (withMeter (top, bottom)) (λ m. head-meter m (top, bottom))
 
@@ -225,10 +225,10 @@ open-none : (g : Head → Head) (l : LogState) → length (l .heads) ≡ 0 → l
 unfolding onOpen
 open-none g l e = ap (λ (hs : List Head). setHeads hs l) (none-changed g (l .heads) e)
 
-pub meter-none : {t : Tables} {s : List ℕ} {r : Registers} (header : Key) (top bottom : ℕ) → r .counts .heads ≡ 0 → Takes t s r s r [] (λ l. onItem header l (metered (top, bottom)))
+pub meter-none : {t : Tables} {s : List ℕ} {r : Registers} (header : Key) (top bottom : ℕ) → r .counts .heads ≡ 0 → SimulatesItem t s r s r [] (λ l. onItem header l (meterChange (top, bottom)))
 unfolding onItem
 meter-none {t} {s} {r} header top bottom e =
-    takes-none refl (λ l h. subst (λ (x : LogState). Held t s r [] x) (open-none (withMeter (top, bottom)) l (sym (h .stored .heads-are) ∙ e)) h)
+    takes-none refl (λ l h. subst (λ (x : LogState). Represents t s r [] x) (open-none (withMeter (top, bottom)) l (sym (h .stored .heads-are) ∙ e)) h)
 
 -- LINES: only a lyric line adds one
 counted-lines : (o : ℕ) (n : Note) (v : Verses) → countedIn o n v .lines ≡ v .lines
@@ -284,20 +284,20 @@ key-lines header k (m ∷ ms) l = refl
 
 -- an item adds these
 unfoldable pub addedBy : LogState → Item → List Sung
-addedBy l (born b) = []
+addedBy l (voiceDeclared b) = []
 addedBy l reset = []
-addedBy l headed = []
-addedBy l (keyed k) = []
-addedBy l (metered t) = []
-addedBy l (sung p t) = record { start = l .verses .start; verse = l .verses .verse; text = t } ∷ []
-addedBy l (played u t b) = []
+addedBy l keyInHeader = []
+addedBy l (keyChange k) = []
+addedBy l (meterChange t) = []
+addedBy l (lyricLine p t) = record { start = l .verses .start; verse = l .verses .verse; text = t } ∷ []
+addedBy l (musicLine u t b) = []
 
 pub item-lines : (header : Key) (l : LogState) (x : Item) → onItem header l x .verses .lines ≡ addedBy l x ++ l .verses .lines
 unfolding onItem addedBy onLyric onLine onOpen lineBegins
-item-lines header l (born b) = refl
+item-lines header l (voiceDeclared b) = refl
 item-lines header l reset = refl
-item-lines header l headed = refl
-item-lines header l (keyed k) = key-lines header k (l .heads) l
-item-lines header l (metered t) = refl
-item-lines header l (sung p t) = refl
-item-lines header l (played u t b) = tokens-lines (tokens 0 b) (lineBegins u t l)
+item-lines header l keyInHeader = refl
+item-lines header l (keyChange k) = key-lines header k (l .heads) l
+item-lines header l (meterChange t) = refl
+item-lines header l (lyricLine p t) = refl
+item-lines header l (musicLine u t b) = tokens-lines (tokens 0 b) (lineBegins u t l)

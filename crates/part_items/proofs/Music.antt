@@ -4,31 +4,31 @@ use mathlib.Core.Path.{_≡_, refl, ap, _∙_}
 use mathlib.Core.List.{List, [], _∷_, _++_, map}
 use native.Mathlib.Omega.{arith}
 use lib.Dec.{eqb}
-use Rattle.laws.specs.Lists.{cat}
+use Rattle.laws.specs.Lists.{concat}
 use Rattle.laws.proofs.Bools.{by-test}
-use Rattle.laws.proofs.Lists.{map-append, cat-append}
+use Rattle.laws.proofs.Lists.{map-append, concat-append}
 use Rattle.reader.specs.Scan.{Item}
-use Rattle.reader.specs.Steps.{mine}
+use Rattle.reader.specs.Steps.{itemsOf}
 use Rattle.capacity.specs.Music.{musicIn, musicOf}
 use Rattle.capacity.proofs.Tokens.{bars-both, letters-both, rests-both, signs-both}
 use Rattle.part_registers.specs.declared.Tables.{Tables}
 use Rattle.part_registers.specs.declared.Counts.{Counts}
-use Rattle.part_invariant.specs.Held.{Room}
-use Rattle.part_invariant.specs.Lines.{Rest, GrowsBy}
+use Rattle.part_invariant.specs.Invariant.{Room}
+use Rattle.part_invariant.specs.Lines.{RoomForBytes, GrowsBy}
 
 -- the music of two lists of items
 pub music-append : (xs ys : List Item) → musicOf (xs ++ ys) ≡ musicOf xs ++ musicOf ys
-music-append xs ys = ap cat (map-append musicIn xs ys) ∙ cat-append (map musicIn xs) (map musicIn ys)
+music-append xs ys = ap concat (map-append musicIn xs ys) ∙ concat-append (map musicIn xs) (map musicIn ys)
 
 -- the part's own of two lists
-pub mine-append : (p : ℕ) (xs ys : List (ℕ × Item)) → mine p (xs ++ ys) ≡ mine p xs ++ mine p ys
+pub mine-append : (p : ℕ) (xs ys : List (ℕ × Item)) → itemsOf p (xs ++ ys) ≡ itemsOf p xs ++ itemsOf p ys
 mine-append p [] ys = refl
 mine-append p (x ∷ xs) ys = by-test (eqb (x .0) p) (λ e. rw e (ap (λ (l : List Item). x .1 ∷ l) (mine-append p xs ys))) (λ e. rw e (mine-append p xs ys))
 
 -- ROOM
-module _ {t : Tables} {c : Counts} {size : ℕ} (a b : List ℕ) (r : Rest t c size (a ++ b)) where
+module _ {t : Tables} {c : Counts} {size : ℕ} (a b : List ℕ) (r : RoomForBytes t c size (a ++ b)) where
   -- for the first of two runs
-  pub rest-first : Rest t c size a
+  pub rest-first : RoomForBytes t c size a
   rest-first =
       record {
         for-heads = omega (arith, r .for-heads, bars-both a b);
@@ -40,7 +40,7 @@ module _ {t : Tables} {c : Counts} {size : ℕ} (a b : List ℕ) (r : Rest t c s
       }
 
   -- for the second, once the first was read
-  pub rest-then : (c′ : Counts) (size′ : ℕ) → size′ ≡ size → GrowsBy c c′ a → Rest t c′ size′ b
+  pub rest-then : (c′ : Counts) (size′ : ℕ) → size′ ≡ size → GrowsBy c c′ a → RoomForBytes t c′ size′ b
   rest-then c′ size′ e g =
       record {
         for-heads = omega (arith, r .for-heads, bars-both a b, g .more-heads);
@@ -52,11 +52,11 @@ module _ {t : Tables} {c : Counts} {size : ℕ} (a b : List ℕ) (r : Rest t c s
       }
 
 -- a run by another name
-pub rest-as : {t : Tables} {c : Counts} {size : ℕ} {a b : List ℕ} → a ≡ b → Rest t c size a → Rest t c size b
+pub rest-as : {t : Tables} {c : Counts} {size : ℕ} {a b : List ℕ} → a ≡ b → RoomForBytes t c size a → RoomForBytes t c size b
 rest-as e r = rw e at r
 
 -- in each table, for no row more
-pub rest-room : {t : Tables} {c : Counts} {size : ℕ} {a : List ℕ} → Rest t c size a → Room t c size 0 0 0 0
+pub rest-room : {t : Tables} {c : Counts} {size : ℕ} {a : List ℕ} → RoomForBytes t c size a → Room t c size 0 0 0 0
 rest-room r =
     record {
       for-heads = omega (arith, r .for-heads);

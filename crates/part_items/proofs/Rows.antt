@@ -16,7 +16,7 @@ use Rattle.part_rows.specs.Table.{Only}
 use Rattle.part_rows.proofs.Tables.{table-behind, only-splice, only-then}
 use Rattle.part_registers.specs.declared.Tables.{Tables}
 use Rattle.part_registers.specs.declared.Registers.{Registers}
-use Rattle.part_invariant.specs.Held.{Room, Held}
+use Rattle.part_invariant.specs.Invariant.{Room, Represents}
 use Rattle.part_invariant.proofs.Stores.{scoped-behind}
 use Rattle.part_items.specs.Items.{rowFrom, lined}
 
@@ -55,7 +55,7 @@ only-lined s i verse start =
 
 -- A WRITE BEFORE THE TABLES leaves a part held
 module _ {t : Tables} {s : List ℕ} {r : Registers} (room : Room t (r .counts) (length s) 0 0 0 0) (s′ : List ℕ) (k : ℕ) (bs : List ℕ) (e : s′ ≡ splice s k bs) (q : k + length bs ≤ t .heads) where
-  pub held-behind : (l : LogState) → Held t s r [] l → Held t s′ r [] l
+  pub held-behind : (l : LogState) → Represents t s r [] l → Represents t s′ r [] l
   held-behind l h =
       record {
         stored =

@@ -8,10 +8,10 @@ use native.Mathlib.Omega.{arith}
 use lib.Dec.{eqb}
 use lib.ListN.{length, take, drop}
 use borrow.Author.Tests.{eq-eqb, ne-eqb, eqb-true, eqb-false}
-use Rattle.laws.specs.Lists.{foldl, keep}
+use Rattle.laws.specs.Lists.{foldl, filter}
 use Rattle.laws.specs.Bytes.{part, between, splice, le32, rows}
 use Rattle.laws.proofs.Bools.{by-test, and-no-left, and-no-right, and-both, cond-true, cond-false}
-use Rattle.laws.proofs.Lists.{foldl-append, map-append, keep-yes, keep-no, drop-next}
+use Rattle.laws.proofs.Lists.{foldl-append, map-append, filter-yes, filter-no, drop-next}
 use Rattle.laws.proofs.Parts.{part-front, part-back}
 use Rattle.laws.proofs.Rows.{rows-none, rows-more, rows-front}
 use Rattle.laws.proofs.Splices.{length-splice}
@@ -19,8 +19,8 @@ use Rattle.laws.proofs.Numbers.{length-little}
 use Rattle.standard.specs.Keys.{Key}
 use Rattle.standard.specs.Lyrics.{nextVerse}
 use Rattle.reader.specs.State.{Sung}
-use Rattle.reader.specs.Scan.{Item, born, reset, headed, keyed, metered, sung, played}
-use Rattle.reader.specs.Steps.{mine}
+use Rattle.reader.specs.Scan.{Item, voiceDeclared, reset, keyInHeader, keyChange, meterChange, lyricLine, musicLine}
+use Rattle.reader.specs.Steps.{itemsOf}
 use Rattle.part_layout.specs.Log.{LogState, newLog, onLine}
 use Rattle.part_layout.specs.Ends.{onLyric, onItem}
 use Rattle.part_layout.proofs.Lines.{between-items}
@@ -34,9 +34,9 @@ use Rattle.part_rows.specs.Table.{Only}
 use Rattle.part_rows.proofs.Tables.{only-none, only-then, only-wider}
 use Rattle.part_registers.specs.declared.Tables.{Tables}
 use Rattle.part_registers.specs.declared.Registers.{Registers}
-use Rattle.part_invariant.specs.Held.{Held}
+use Rattle.part_invariant.specs.Invariant.{Represents}
 use Rattle.part_invariant.proofs.Appending.{room-same}
-use Rattle.part_invariant.specs.Lines.{Rest, Waits, GrowsBy, Takes}
+use Rattle.part_invariant.specs.Lines.{RoomForBytes, RepresentedBetween, GrowsBy, SimulatesItem}
 use Rattle.capacity.specs.Music.{musicIn, musicOf}
 use Rattle.part_items.specs.Items.{begun, versed, rowFrom, lined, ownAt, Ready, Taken, after, Built}
 use Rattle.part_items.proofs.Music.{music-append, mine-append, rest-first, rest-then, rest-as, rest-room, grows-none}
@@ -45,10 +45,10 @@ use Rattle.part_items.proofs.Rows.{withLine, row-lined, only-lined, hel
 
 -- ONE ITEM
 -- whose it is
-own-yes : (p : ℕ) (x : ℕ × Item) → x .0 ≡ p → mine p (x ∷ []) ≡ x .1 ∷ []
+own-yes : (p : ℕ) (x : ℕ × Item) → x .0 ≡ p → itemsOf p (x ∷ []) ≡ x .1 ∷ []
 own-yes p x e = cond-true (eqb (x .0) p) (x .1 ∷ []) [] (eq-eqb (x .0) p e)
 
-own-no : (p : ℕ) (x : ℕ × Item) → (x .0 ≡ p → ⊥) → mine p (x ∷ []) ≡ []
+own-no : (p : ℕ) (x : ℕ × Item) → (x .0 ≡ p → ⊥) → itemsOf p (x ∷ []) ≡ []
 own-no p x n = cond-false (eqb (x .0) p) (x .1 ∷ []) [] (ne-eqb (x .0) p n)
 
 music-one : (x : Item) → musicOf (x ∷ []) ≡ musicIn x
@@ -60,14 +60,14 @@ reverse-one x xs = reverse-back (x ∷ xs) ∙ ap (λ (l : List Sung). l ++ (x �
 -- its lyric line
 no-line : (text : List ℕ) (p : ℕ) (q : Row) → isLine p q ≡ false → lineOf text p q ≡ []
 unfolding lineOf
-no-line text p q e = ap (map (lineIn text)) (keep-no (isLine p) q [] e)
+no-line text p q e = ap (map (lineIn text)) (filter-no (isLine p) q [] e)
 
 one-line : (text : List ℕ) (p : ℕ) (q : Row) → isLine p q ≡ true → lineOf text p q ≡ lineIn text q ∷ []
 unfolding lineOf
-one-line text p q e = ap (map (lineIn text)) (keep-yes (isLine p) q [] e)
+one-line text p q e = ap (map (lineIn text)) (filter-yes (isLine p) q [] e)
 
 -- A KIND past the lyric lines' is a music line
-played-kind : (k : ℕ) (text : List ℕ) (q : Row) → (k ≡ 0 → ⊥) → (k ≡ 1 → ⊥) → (k ≡ 2 → ⊥) → (k ≡ 3 → ⊥) → (k ≡ 4 → ⊥) → (k ≡ 5 → ⊥) → itemAs k text q ≡ played (q .unit) (q .a, q .b) (between text (q .at) (q .end))
+played-kind : (k : ℕ) (text : List ℕ) (q : Row) → (k ≡ 0 → ⊥) → (k ≡ 1 → ⊥) → (k ≡ 2 → ⊥) → (k ≡ 3 → ⊥) → (k ≡ 4 → ⊥) → (k ≡ 5 → ⊥) → itemAs k text q ≡ musicLine (q .unit) (q .a, q .b) (between text (q .at) (q .end))
 unfolding itemAs
 played-kind zero text q a b c d e f = absurd (a refl)
 played-kind (suc zero) text q a b c d e f = absurd (b refl)
@@ -83,7 +83,7 @@ unfolding itemAs
 same-sung k text q verse start e = ap (λ (j : ℕ). itemAs j text (withLine q verse start)) e ∙ sym (ap (λ (j : ℕ). itemAs j text q) e)
 
 -- WHAT A LYRIC LINE NEEDS of a part that is held: the next verse
-versed-held : {t : Tables} {s : List ℕ} {r : Registers} (header : Key) (placed : Bool) (words : List ℕ) (l : LogState) → Held t s r [] l → Held t s (versed r placed) [] (onItem header l (sung placed words))
+versed-held : {t : Tables} {s : List ℕ} {r : Registers} (header : Key) (placed : Bool) (words : List ℕ) (l : LogState) → Represents t s r [] l → Represents t s (versed r placed) [] (onItem header l (lyricLine placed words))
 unfolding onItem onLyric
 versed-held header placed words l h =
     record {
@@ -141,7 +141,7 @@ module _ (text : List ℕ) (t : Tables) (header : Key) (i : ℕ) (s : List ℕ) 
   own-music : (x : Item) → itemAs (row .kind) text row ≡ x → musicOf (ownAt text (row .part) s i) ≡ musicIn x
   own-music x e = ap musicOf (own-is x e) ∙ music-one x
 
-  held-lined : Ready text t (row .part) i s r → (l : LogState) → Held t s r [] l → Held t (lined s i (r .verses .verse) (r .verses .start)) r [] l
+  held-lined : Ready text t (row .part) i s r → (l : LogState) → Represents t s r [] l → Represents t (lined s i (r .verses .verse) (r .verses .start)) r [] l
   held-lined ready l h =
       let m = splice s (rowFrom i + 3) (r .verses .verse ∷ []) in
       let room = rest-room (ready .room) in
@@ -149,7 +149,7 @@ module _ (text : List ℕ) (t : Tables) (header : Key) (i : ℕ) (s : List ℕ) 
       (held-behind room m (rowFrom i + 3) (r .verses .verse ∷ []) refl (omega (arith, ready .before)) l h)
 
   -- none but a lyric line
-  pub taken-plain : (x : Item) → itemAs (row .kind) text row ≡ x → (row .kind ≡ 5 → ⊥) → ((l : LogState) → addedBy l x ≡ []) → {s′ : List ℕ} {r′ : Registers} {bs : List ℕ} → musicIn x ≡ bs → Takes t s r s′ r′ bs (λ l. onItem header l x)
+  pub taken-plain : (x : Item) → itemAs (row .kind) text row ≡ x → (row .kind ≡ 5 → ⊥) → ((l : LogState) → addedBy l x ≡ []) → {s′ : List ℕ} {r′ : Registers} {bs : List ℕ} → musicIn x ≡ bs → SimulatesItem t s r s′ r′ bs (λ l. onItem header l x)
       → Taken text t header (row .part) i s r s′ r′
   unfolding isLine
   taken-plain x e n a {s′} {r′} {bs} m k =
@@ -160,7 +160,7 @@ module _ (text : List ℕ) (t : Tables) (header : Key) (i : ℕ) (s : List ℕ) 
         tables = k .only;
         same-item = refl;
         grows = subst (λ (b : List ℕ). GrowsBy (r .counts) (r′ .counts) b) (sym (own-music x e ∙ m)) (k .grows);
-        holds = λ l b h. subst (λ (xs : List Item). Held t s′ r′ [] (foldl (onItem header) l xs)) (sym o) (k .holds l b h);
+        holds = λ l b h. subst (λ (xs : List Item). Represents t s′ r′ [] (foldl (onItem header) l xs)) (sym o) (k .holds l b h);
         lines =
             λ l h. ap (λ (xs : List Item). reverse (foldl (onItem header) l xs .verses .lines)) o ∙ ap reverse (item-lines header l x ∙ ap (λ (ls : List Sung). ls ++ l .verses .lines) (a l))
             ∙ sym (append-nil (reverse (l .verses .lines)))
@@ -168,25 +168,25 @@ module _ (text : List ℕ) (t : Tables) (header : Key) (i : ℕ) (s : List ℕ) 
       }
 
   -- each kind of them
-  pub taken-born : {r′ : Registers} → row .kind ≡ 0 → Takes t s r s r′ [] (λ l. onItem header l (born (eqb (row .a) 1))) → Taken text t header (row .part) i s r s r′
+  pub taken-born : {r′ : Registers} → row .kind ≡ 0 → SimulatesItem t s r s r′ [] (λ l. onItem header l (voiceDeclared (eqb (row .a) 1))) → Taken text t header (row .part) i s r s r′
   unfolding itemAs addedBy musicIn
-  taken-born e k = taken-plain (born (eqb (row .a) 1)) (ap (λ (j : ℕ). itemAs j text row) e) (λ f. omega (arith, e, f)) (λ l. refl) refl k
+  taken-born e k = taken-plain (voiceDeclared (eqb (row .a) 1)) (ap (λ (j : ℕ). itemAs j text row) e) (λ f. omega (arith, e, f)) (λ l. refl) refl k
 
-  pub taken-reset : {r′ : Registers} → row .kind ≡ 1 → Takes t s r s r′ [] (λ l. onItem header l reset) → Taken text t header (row .part) i s r s r′
+  pub taken-reset : {r′ : Registers} → row .kind ≡ 1 → SimulatesItem t s r s r′ [] (λ l. onItem header l reset) → Taken text t header (row .part) i s r s r′
   unfolding itemAs addedBy musicIn
   taken-reset e k = taken-plain reset (ap (λ (j : ℕ). itemAs j text row) e) (λ f. omega (arith, e, f)) (λ l. refl) refl k
 
-  pub taken-headed : {r′ : Registers} → row .kind ≡ 2 → Takes t s r s r′ [] (λ l. onItem header l headed) → Taken text t header (row .part) i s r s r′
+  pub taken-headed : {r′ : Registers} → row .kind ≡ 2 → SimulatesItem t s r s r′ [] (λ l. onItem header l keyInHeader) → Taken text t header (row .part) i s r s r′
   unfolding itemAs addedBy musicIn
-  taken-headed e k = taken-plain headed (ap (λ (j : ℕ). itemAs j text row) e) (λ f. omega (arith, e, f)) (λ l. refl) refl k
+  taken-headed e k = taken-plain keyInHeader (ap (λ (j : ℕ). itemAs j text row) e) (λ f. omega (arith, e, f)) (λ l. refl) refl k
 
-  pub taken-keyed : {s′ : List ℕ} {r′ : Registers} → row .kind ≡ 3 → Takes t s r s′ r′ [] (λ l. onItem header l (keyed (record { fifths = row .a; minor = eqb (row .b) 1 }))) → Taken text t header (row .part) i s r s′ r′
+  pub taken-keyed : {s′ : List ℕ} {r′ : Registers} → row .kind ≡ 3 → SimulatesItem t s r s′ r′ [] (λ l. onItem header l (keyChange (record { fifths = row .a; minor = eqb (row .b) 1 }))) → Taken text t header (row .part) i s r s′ r′
   unfolding itemAs addedBy musicIn
-  taken-keyed e k = taken-plain (keyed (record { fifths = row .a; minor = eqb (row .b) 1 })) (ap (λ (j : ℕ). itemAs j text row) e) (λ f. omega (arith, e, f)) (λ l. refl) refl k
+  taken-keyed e k = taken-plain (keyChange (record { fifths = row .a; minor = eqb (row .b) 1 })) (ap (λ (j : ℕ). itemAs j text row) e) (λ f. omega (arith, e, f)) (λ l. refl) refl k
 
-  pub taken-metered : {s′ : List ℕ} {r′ : Registers} → row .kind ≡ 4 → Takes t s r s′ r′ [] (λ l. onItem header l (metered (row .a, row .b))) → Taken text t header (row .part) i s r s′ r′
+  pub taken-metered : {s′ : List ℕ} {r′ : Registers} → row .kind ≡ 4 → SimulatesItem t s r s′ r′ [] (λ l. onItem header l (meterChange (row .a, row .b))) → Taken text t header (row .part) i s r s′ r′
   unfolding itemAs addedBy musicIn
-  taken-metered e k = taken-plain (metered (row .a, row .b)) (ap (λ (j : ℕ). itemAs j text row) e) (λ f. omega (arith, e, f)) (λ l. refl) refl k
+  taken-metered e k = taken-plain (meterChange (row .a, row .b)) (ap (λ (j : ℕ). itemAs j text row) e) (λ f. omega (arith, e, f)) (λ l. refl) refl k
 
   -- a lyric line
   pub taken-sung : row .kind ≡ 5 → Ready text t (row .part) i s r → (s′ : List ℕ) (r′ : Registers) → r′ ≡ versed r (eqb (row .a) 1) → r .verses .start < 2 ^ 32 → s′ ≡ lined s i (r .verses .verse) (r .verses .start)
@@ -194,7 +194,7 @@ module _ (text : List ℕ) (t : Tables) (header : Key) (i : ℕ) (s : List ℕ) 
   unfolding itemIn isLine lineIn addedBy itemAs musicIn
   taken-sung e ready s′ r′ er small es =
       let words = between text (row .at) (row .end) in
-      let x : Item = sung (eqb (row .a) 1) words in
+      let x : Item = lyricLine (eqb (row .a) 1) words in
       let a : itemAs (row .kind) text row ≡ x = ap (λ (j : ℕ). itemAs j text row) e in
       let o = own-is x a in
       let q = itemAt s i in
@@ -215,7 +215,7 @@ module _ (text : List ℕ) (t : Tables) (header : Key) (i : ℕ) (s : List ℕ) 
         holds =
             λ l b h.
             let w = held-lined ready l h in
-            subst (λ (xs : List Item). Held t s′ r′ [] (foldl (onItem header) l xs)) (sym o) (subst (λ (u : List ℕ). Held t u r′ [] (onItem header l x)) (sym es) (subst (λ (u : Registers). Held t m u [] (onItem header l x)) (sym er) (versed-held header (eqb (row .a) 1) words l w)));
+            subst (λ (xs : List Item). Represents t s′ r′ [] (foldl (onItem header) l xs)) (sym o) (subst (λ (u : List ℕ). Represents t u r′ [] (onItem header l x)) (sym es) (subst (λ (u : Registers). Represents t m u [] (onItem header l x)) (sym er) (versed-held header (eqb (row .a) 1) words l w)));
         lines =
             λ l h. ap (λ (xs : List Item). reverse (foldl (onItem header) l xs .verses .lines)) o ∙ ap reverse (item-lines header l x)
             ∙ reverse-one (record { start = l .verses .start; verse = l .verses .verse; text = words }) (l .verses .lines)
@@ -225,21 +225,21 @@ module _ (text : List ℕ) (t : Tables) (header : Key) (i : ℕ) (s : List ℕ) 
 
   -- a music line
   module _ (n0 : row .kind ≡ 0 → ⊥) (n1 : row .kind ≡ 1 → ⊥) (n2 : row .kind ≡ 2 → ⊥) (n3 : row .kind ≡ 3 → ⊥) (n4 : row .kind ≡ 4 → ⊥) (n5 : row .kind ≡ 5 → ⊥) where
-    is-played : itemAs (row .kind) text row ≡ played (row .unit) (row .a, row .b) (between text (row .at) (row .end))
+    is-played : itemAs (row .kind) text row ≡ musicLine (row .unit) (row .a, row .b) (between text (row .at) (row .end))
     is-played = played-kind (row .kind) text row n0 n1 n2 n3 n4 n5
 
-    pub played-room : Ready text t (row .part) i s r → (line : List ℕ) → line ≡ between text (row .at) (row .end) → Rest t (r .counts) (length s) line × Waits t s r
+    pub played-room : Ready text t (row .part) i s r → (line : List ℕ) → line ≡ between text (row .at) (row .end) → RoomForBytes t (r .counts) (length s) line × RepresentedBetween t s r
     unfolding musicIn
-    played-room ready line e = (rest-as (own-music (played (row .unit) (row .a, row .b) (between text (row .at) (row .end))) is-played ∙ sym e) (ready .room), ready .waits)
+    played-room ready line e = (rest-as (own-music (musicLine (row .unit) (row .a, row .b) (between text (row .at) (row .end))) is-played ∙ sym e) (ready .room), ready .waits)
 
-    pub taken-played : {s′ : List ℕ} {r′ : Registers} (line : List ℕ) → line ≡ between text (row .at) (row .end) → Takes t s r s′ r′ line (onLine (row .unit) (row .a, row .b) line) → Taken text t header (row .part) i s r s′ r′
+    pub taken-played : {s′ : List ℕ} {r′ : Registers} (line : List ℕ) → line ≡ between text (row .at) (row .end) → SimulatesItem t s r s′ r′ line (onLine (row .unit) (row .a, row .b) line) → Taken text t header (row .part) i s r s′ r′
     unfolding addedBy musicIn onItem
     taken-played {s′} {r′} line e k =
-        taken-plain (played (row .unit) (row .a, row .b) (between text (row .at) (row .end))) is-played n5 (λ l. refl) refl
-        (subst (λ (b : List ℕ). Takes t s r s′ r′ b (onLine (row .unit) (row .a, row .b) b)) e k)
+        taken-plain (musicLine (row .unit) (row .a, row .b) (between text (row .at) (row .end))) is-played n5 (λ l. refl) refl
+        (subst (λ (b : List ℕ). SimulatesItem t s r s′ r′ b (onLine (row .unit) (row .a, row .b) b)) e k)
 
 -- what the other kinds need
-pub plain-room : {text : List ℕ} {t : Tables} {p i : ℕ} {s : List ℕ} {r : Registers} → Ready text t p i s r → Rest t (r .counts) (length s) [] × Waits t s r
+pub plain-room : {text : List ℕ} {t : Tables} {p i : ℕ} {s : List ℕ} {r : Registers} → Ready text t p i s r → RoomForBytes t (r .counts) (length s) [] × RepresentedBetween t s r
 plain-room {text} {t} {p} {i} {s} ready = (rest-first [] (musicOf (ownAt text p s i)) (ready .room), ready .waits)
 
 -- THE LOOP over the items: those before i are taken, those from i on are as they were
@@ -249,8 +249,8 @@ pub record Going (text : List ℕ) (t : Tables) (header : Key) (p n : ℕ) (s₀
   pub ahead : (j : ℕ) → i ≤ j → j < n → itemAt s j ≡ itemAt s₀ j
   pub behind : (j : ℕ) → j < i → itemIn text (itemAt s j) ≡ itemIn text (itemAt s₀ j)
   pub lines : linesIn text s p i ≡ reverse (after header text s₀ p i .verses .lines)
-  pub held : Held t s r [] (after header text s₀ p i)
-  pub room : Rest t (r .counts) (length s) (musicOf (mine p (drop i (itemsIn text s₀ n))))
+  pub represents : Represents t s r [] (after header text s₀ p i)
+  pub room : RoomForBytes t (r .counts) (length s) (musicOf (itemsOf p (drop i (itemsIn text s₀ n))))
 
 -- items of rows
 items-as : (text s s₀ : List ℕ) (n : ℕ) → ((j : ℕ) → j < n → itemIn text (itemAt s j) ≡ itemIn text (itemAt s₀ j)) → itemsIn text s n ≡ itemsIn text s₀ n
@@ -268,9 +268,9 @@ items-more text s i = ap (map (itemIn text)) (rows-more decItem itemBytes s item
 -- the part after one item more
 after-more : (header : Key) (text s : List ℕ) (p i : ℕ) → after header text s p (i + 1) ≡ foldl (onItem header) (after header text s p i) (ownAt text p s i)
 after-more header text s p i =
-    ap (λ (xs : List (ℕ × Item)). foldl (onItem header) newLog (mine p xs)) (items-more text s i)
+    ap (λ (xs : List (ℕ × Item)). foldl (onItem header) newLog (itemsOf p xs)) (items-more text s i)
     ∙ ap (foldl (onItem header) newLog) (mine-append p (itemsIn text s i) (itemIn text (itemAt s i) ∷ []))
-    ∙ foldl-append (onItem header) newLog (mine p (itemsIn text s i)) (ownAt text p s i)
+    ∙ foldl-append (onItem header) newLog (itemsOf p (itemsIn text s i)) (ownAt text p s i)
 
 -- what stands before a place that is not written
 pub items-front : (text s s′ : List ℕ) (n m : ℕ) → take m s′ ≡ take m s → itemsFrom + itemBytes * n ≤ m → itemsIn text s′ n ≡ itemsIn text s n
@@ -279,10 +279,10 @@ items-front text s s′ n m e h = ap (map (itemIn text)) (rows-front decItem ite
 
 pub lines-front : (text s s′ : List ℕ) (p i m : ℕ) → take m s′ ≡ take m s → itemsFrom + itemBytes * i ≤ m → linesIn text s′ p i ≡ linesIn text s p i
 unfolding linesIn
-lines-front text s s′ p i m e h = ap (λ (rs : List Row). map (lineIn text) (keep (isLine p) rs)) (rows-front decItem itemBytes s s′ m itemsFrom i e h)
+lines-front text s s′ p i m e h = ap (λ (rs : List Row). map (lineIn text) (filter (isLine p) rs)) (rows-front decItem itemBytes s s′ m itemsFrom i e h)
 
 module _ (text : List ℕ) (t : Tables) (header : Key) (p n : ℕ) (s₀ : List ℕ) (before : itemsFrom + itemBytes * n ≤ t .heads) where
-  pub going-start : Rest t (begun .counts) (length s₀) (musicOf (mine p (itemsIn text s₀ n))) → (r : Registers) → r ≡ begun → Going text t header p n s₀ s₀ r 0
+  pub going-start : RoomForBytes t (begun .counts) (length s₀) (musicOf (itemsOf p (itemsIn text s₀ n))) → (r : Registers) → r ≡ begun → Going text t header p n s₀ s₀ r 0
   unfolding linesIn newLog
   going-start room r e =
       let none = items-none text s₀ in
@@ -292,32 +292,32 @@ module _ (text : List ℕ) (t : Tables) (header : Key) (p n : ℕ) (s₀ : List 
         ahead = λ j l h. refl;
         behind = λ j l. absurd (not-suc-le-zero l);
         lines =
-            ap (λ (rs : List Row). map (lineIn text) (keep (isLine p) rs)) (rows-none decItem itemBytes s₀ itemsFrom)
-            ∙ sym (ap (λ (xs : List (ℕ × Item)). reverse (foldl (onItem header) newLog (mine p xs) .verses .lines)) none);
-        held = rw (none, e) (begun-held t s₀ (omega (arith, room .for-scopes, room .ends)));
+            ap (λ (rs : List Row). map (lineIn text) (filter (isLine p) rs)) (rows-none decItem itemBytes s₀ itemsFrom)
+            ∙ sym (ap (λ (xs : List (ℕ × Item)). reverse (foldl (onItem header) newLog (itemsOf p xs) .verses .lines)) none);
+        represents = rw (none, e) (begun-held t s₀ (omega (arith, room .for-scopes, room .ends)));
         room = rw e room;
       }
 
   module _ (s : List ℕ) (r : Registers) (i : ℕ) (g : Going text t header p n s₀ s r i) (l : i < n) where
     same-own : ownAt text p s i ≡ ownAt text p s₀ i
-    same-own = ap (λ (q : Row). mine p (itemIn text q ∷ [])) (g .ahead i (omega arith) l)
+    same-own = ap (λ (q : Row). itemsOf p (itemIn text q ∷ [])) (g .ahead i (omega arith) l)
 
     -- the music to come begins with this item's
-    music-next : musicOf (mine p (drop i (itemsIn text s₀ n))) ≡ musicOf (ownAt text p s i) ++ musicOf (mine p (drop (i + 1) (itemsIn text s₀ n)))
+    music-next : musicOf (itemsOf p (drop i (itemsIn text s₀ n))) ≡ musicOf (ownAt text p s i) ++ musicOf (itemsOf p (drop (i + 1) (itemsIn text s₀ n)))
     music-next =
         let xs = itemsIn text s₀ n in
         let x = itemIn text (itemAt s₀ i) in
-        ap (λ (ys : List (ℕ × Item)). musicOf (mine p ys))
+        ap (λ (ys : List (ℕ × Item)). musicOf (itemsOf p ys))
         (drop-next xs i (itemIn text (itemAt s₀ i)) (omega (arith, l, length-items text s₀ n)) ∙ ap (λ (y : ℕ × Item). y ∷ drop (i + 1) xs) (items-get text s₀ n i (itemAt s₀ i) l))
         ∙ ap musicOf (mine-append p (x ∷ []) (drop (i + 1) xs))
-        ∙ music-append (ownAt text p s₀ i) (mine p (drop (i + 1) xs))
-        ∙ ap (λ (ys : List Item). musicOf ys ++ musicOf (mine p (drop (i + 1) xs))) (sym same-own)
+        ∙ music-append (ownAt text p s₀ i) (itemsOf p (drop (i + 1) xs))
+        ∙ ap (λ (ys : List Item). musicOf ys ++ musicOf (itemsOf p (drop (i + 1) xs))) (sym same-own)
 
     pub going-ready : Ready text t p i s r
     going-ready =
         record {
-          room = rest-first (musicOf (ownAt text p s i)) (musicOf (mine p (drop (i + 1) (itemsIn text s₀ n)))) (rest-as music-next (g .room));
-          waits = record { state = after header text s₀ p i; between = between-items header (mine p (itemsIn text s₀ i)); held = g .held };
+          room = rest-first (musicOf (ownAt text p s i)) (musicOf (itemsOf p (drop (i + 1) (itemsIn text s₀ n)))) (rest-as music-next (g .room));
+          waits = record { state = after header text s₀ p i; between = between-items header (itemsOf p (itemsIn text s₀ i)); represents = g .represents };
           before = omega (arith, before, l);
         }
 
@@ -366,18 +366,18 @@ module _ (text : List ℕ) (t : Tables) (header : Key) (p n : ℕ) (s₀ : List 
             lines =
                 lines-more text s′ p i
                 ∙ (λ j. (lines-front text s s′ p i (rowFrom i) same-front (omega arith) ∙ g .lines) j ++ lineOf text p (row-now i l j))
-                ∙ sym (k .lines (after header text s₀ p i) (g .held))
+                ∙ sym (k .lines (after header text s₀ p i) (g .represents))
                 ∙ ap (λ (x : LogState). reverse (x .verses .lines)) after-now;
-            held = subst (λ (x : LogState). Held t s′ r′ [] x) after-now (k .holds (after header text s₀ p i) (between-items header (mine p (itemsIn text s₀ i))) (g .held));
-            room = rest-then (musicOf (ownAt text p s i)) (musicOf (mine p (drop (i + 1) (itemsIn text s₀ n)))) (rest-as music-next (g .room)) (r′ .counts) (length s′) (now-only .same-length) (k .grows);
+            represents = subst (λ (x : LogState). Represents t s′ r′ [] x) after-now (k .holds (after header text s₀ p i) (between-items header (itemsOf p (itemsIn text s₀ i))) (g .represents));
+            room = rest-then (musicOf (ownAt text p s i)) (musicOf (itemsOf p (drop (i + 1) (itemsIn text s₀ n)))) (rest-as music-next (g .room)) (r′ .counts) (length s′) (now-only .same-length) (k .grows);
           }
 
   pub going-end : (s : List ℕ) (r : Registers) (i : ℕ) → Going text t header p n s₀ s r i → n ≤ i → Built text t header p n s₀ s r
   going-end s r i g h =
       let e : i ≡ n = omega (arith, h, g .low) in
       record {
-        held = subst (λ (k : ℕ). Held t s r [] (after header text s₀ p k)) e (g .held);
-        room = rest-first [] (musicOf (mine p (drop i (itemsIn text s₀ n)))) (g .room);
+        represents = subst (λ (k : ℕ). Represents t s r [] (after header text s₀ p k)) e (g .represents);
+        room = rest-first [] (musicOf (itemsOf p (drop i (itemsIn text s₀ n)))) (g .room);
         same-items = items-as text s s₀ n (λ j l. g .behind j (omega (arith, l, h)));
         lines = subst (λ (k : ℕ). linesIn text s p k ≡ reverse (after header text s₀ p k .verses .lines)) e (g .lines);
         only = g .only;

@@ -9,7 +9,7 @@ use Rattle.laws.specs.Bytes.{splice, le32}
 use Rattle.standard.specs.Keys.{Key}
 use Rattle.standard.specs.Lyrics.{nextVerse}
 use Rattle.reader.specs.Scan.{Item}
-use Rattle.reader.specs.Steps.{mine}
+use Rattle.reader.specs.Steps.{itemsOf}
 use Rattle.part_layout.specs.Log.{LogState, newLog}
 use Rattle.part_layout.specs.Ends.{onItem}
 use Rattle.part_layout.proofs.Lines.{Between}
@@ -22,8 +22,8 @@ use Rattle.part_registers.specs.declared.Registers.{Registers}
 use Rattle.part_registers.specs.declared.Half.the-variants as half
 use Rattle.part_registers.specs.declared.Running.the-variants as running
 use Rattle.part_bars.specs.Bars.{nowhere}
-use Rattle.part_invariant.specs.Held.{Held}
-use Rattle.part_invariant.specs.Lines.{Rest, Waits, GrowsBy}
+use Rattle.part_invariant.specs.Invariant.{Represents}
+use Rattle.part_invariant.specs.Lines.{RoomForBytes, RepresentedBetween, GrowsBy}
 
 -- THE REGISTERS before the first item
 abbrev pub begun : Registers
@@ -81,12 +81,12 @@ lined s i verse start = splice (splice s (rowFrom i + 3) (verse ∷ [])) (rowFro
 
 -- item i, if it is the part's
 abbrev pub ownAt : List ℕ → ℕ → List ℕ → ℕ → List Item
-ownAt text p s i = mine p (itemIn text (itemAt s i) ∷ [])
+ownAt text p s i = itemsOf p (itemIn text (itemAt s i) ∷ [])
 
 -- ITEM i CAN BE TAKEN: a part is held, there is room, and the row stands before the tables
 pub record Ready (text : List ℕ) (t : Tables) (p i : ℕ) (s : List ℕ) (r : Registers) : Type 0 where
-  pub room : Rest t (r .counts) (length s) (musicOf (ownAt text p s i))
-  pub waits : Waits t s r
+  pub room : RoomForBytes t (r .counts) (length s) (musicOf (ownAt text p s i))
+  pub waits : RepresentedBetween t s r
   pub before : rowFrom i + itemBytes ≤ t .heads
 
 -- IT WAS TAKEN: at most its own row changed, which is the same item still, and then the tables
@@ -96,17 +96,17 @@ pub record Taken (text : List ℕ) (t : Tables) (header : Key) (p i : ℕ) (s : 
   pub tables : Only (t .heads) (t .end) middle s′
   pub same-item : itemIn text (itemAt middle i) ≡ itemIn text (itemAt s i)
   pub grows : GrowsBy (r .counts) (r′ .counts) (musicOf (ownAt text p s i))
-  pub holds : (l : LogState) → Between l → Held t s r [] l → Held t s′ r′ [] (foldl (onItem header) l (ownAt text p s i))
-  pub lines : (l : LogState) → Held t s r [] l → reverse (foldl (onItem header) l (ownAt text p s i) .verses .lines) ≡ reverse (l .verses .lines) ++ lineOf text p (itemAt middle i)
+  pub holds : (l : LogState) → Between l → Represents t s r [] l → Represents t s′ r′ [] (foldl (onItem header) l (ownAt text p s i))
+  pub lines : (l : LogState) → Represents t s r [] l → reverse (foldl (onItem header) l (ownAt text p s i) .verses .lines) ≡ reverse (l .verses .lines) ++ lineOf text p (itemAt middle i)
 
 -- a part after those of the first n items that are its own
 abbrev pub after : Key → List ℕ → List ℕ → ℕ → ℕ → LogState
-after header text s p n = foldl (onItem header) newLog (mine p (itemsIn text s n))
+after header text s p n = foldl (onItem header) newLog (itemsOf p (itemsIn text s n))
 
 -- ALL ITEMS were taken: the part is held, the line table is the same, and its lyric lines have their verses and first notes
 pub record Built (text : List ℕ) (t : Tables) (header : Key) (p n : ℕ) (s s′ : List ℕ) (r : Registers) : Type 0 where
-  pub held : Held t s′ r [] (after header text s p n)
-  pub room : Rest t (r .counts) (length s′) []
+  pub represents : Represents t s′ r [] (after header text s p n)
+  pub room : RoomForBytes t (r .counts) (length s′) []
   pub same-items : itemsIn text s′ n ≡ itemsIn text s n
   pub lines : linesIn text s′ p n ≡ reverse (after header text s p n .verses .lines)
   pub only : Only itemsFrom (t .end) s s′

@@ -7,12 +7,12 @@ ghost use lib.ListN.{length};
 ghost use Rattle.standard.specs.Keys.{Key};
 ghost use Rattle.standard.specs.Lyrics.{nextVerse};
 ghost use Rattle.reader.specs.Scan as scan;
-ghost use Rattle.reader.specs.Steps.{mine};
+ghost use Rattle.reader.specs.Steps.{itemsOf};
 ghost use Rattle.part_layout.specs.Ends.{onItem};
 ghost use Rattle.capacity.specs.Music.{musicOf};
 ghost use Rattle.scan_table.specs.Rows.{itemsIn, RowIs};
 ghost use Rattle.lyrics.specs.Items.{itemAt};
-ghost use Rattle.part_invariant.specs.Lines.{Rest, Waits, Takes};
+ghost use Rattle.part_invariant.specs.Lines.{RoomForBytes, RepresentedBetween, SimulatesItem};
 ghost use Rattle.part_items.specs.Items.{begun, keyedAs, versed, lined, Ready, Taken, Built};
 use part_accidentals::AbcPartParseState;
 use part_registers::Counts;
@@ -84,8 +84,8 @@ fn set_key(r: Registers, fifths: u8, minor: bool) -> Registers
 }
 
 // The part is named for the first time: in the header it begins with C major, else with the header's key.
-fn on_born(r: Registers, in_header: bool, fifths: u8, minor: bool) -> Registers
-    ensures { λ x. ⌜ ((t : Tables) (s : List ℕ) → Takes t s r s x [] (λ l. onItem (record { fifths = fifths; minor = minor }) l (scan.born in_header))) ⌝ }
+fn on_voice_declared(r: Registers, in_header: bool, fifths: u8, minor: bool) -> Registers
+    ensures { λ x. ⌜ ((t : Tables) (s : List ℕ) → SimulatesItem t s r s x [] (λ l. onItem (record { fifths = fifths; minor = minor }) l (scan.voiceDeclared in_header))) ⌝ }
 {
     if in_header {
         return set_key(r, 128, false);
@@ -94,15 +94,15 @@ fn on_born(r: Registers, in_header: bool, fifths: u8, minor: bool) -> Registers
 }
 
 // The part hears the header's key.
-fn on_headed(r: Registers, fifths: u8, minor: bool) -> Registers
-    ensures { λ x. ⌜ ((t : Tables) (s : List ℕ) → Takes t s r s x [] (λ l. onItem (record { fifths = fifths; minor = minor }) l scan.headed)) ⌝ }
+fn on_header_key(r: Registers, fifths: u8, minor: bool) -> Registers
+    ensures { λ x. ⌜ ((t : Tables) (s : List ℕ) → SimulatesItem t s r s x [] (λ l. onItem (record { fifths = fifths; minor = minor }) l scan.keyInHeader)) ⌝ }
 {
     set_key(r, fifths, minor)
 }
 
 // A V line: nothing waits any more.
 fn on_reset(r: Registers) -> Registers
-    ensures { λ x. ⌜ ((t : Tables) (s : List ℕ) (header : Key) → Takes t s r s x [] (λ l. onItem header l scan.reset)) ⌝ }
+    ensures { λ x. ⌜ ((t : Tables) (s : List ℕ) (header : Key) → SimulatesItem t s r s x [] (λ l. onItem header l scan.reset)) ⌝ }
 {
     let none = Pending {
         tie: false,
@@ -124,15 +124,15 @@ fn on_key(
     sharps: u8,
     mode: bool,
 ) -> Registers
-    requires { ⌜ Rest t (r .counts) (length (now store)) [] × Waits t (now store) r ⌝ }
-    ensures { λ x. ⌜ Takes t (now (store .entry)) r (now (store .exit)) x [] (λ l. onItem (record { fifths = fifths; minor = minor }) l (scan.keyed (record { fifths = sharps; minor = mode }))) ⌝ }
+    requires { ⌜ RoomForBytes t (r .counts) (length (now store)) [] × RepresentedBetween t (now store) r ⌝ }
+    ensures { λ x. ⌜ SimulatesItem t (now (store .entry)) r (now (store .exit)) x [] (λ l. onItem (record { fifths = fifths; minor = minor }) l (scan.keyChange (record { fifths = sharps; minor = mode }))) ⌝ }
 {
     let counts = r.counts;
     if counts.heads == 0 {
         return part_steps::hear(r, fifths, minor);
     }
     let i = (counts.heads - 1) as usize;
-    part_measures::set_mark(
+    part_measures::set_key_mark(
         store,
         t.heads,
         i,
@@ -144,8 +144,8 @@ fn on_key(
 
 // An M line of the body, on the open measure, if there is one.
 fn on_meter(store: &mut [u8], t: Tables, r: Registers, top: u8, bottom: u8)
-    requires { ⌜ Rest t (r .counts) (length (now store)) [] × Waits t (now store) r ⌝ }
-    ensures { λ _. ⌜ ((header : Key) → Takes t (now (store .entry)) r (now (store .exit)) r [] (λ l. onItem header l (scan.metered (top, bottom)))) ⌝ }
+    requires { ⌜ RoomForBytes t (r .counts) (length (now store)) [] × RepresentedBetween t (now store) r ⌝ }
+    ensures { λ _. ⌜ ((header : Key) → SimulatesItem t (now (store .entry)) r (now (store .exit)) r [] (λ l. onItem header l (scan.meterChange (top, bottom)))) ⌝ }
 {
     let counts = r.counts;
     if counts.heads == 0 {
@@ -200,13 +200,13 @@ fn on_item(
 {
     let kind = row.kind;
     if kind == 0 {
-        return on_born(r, row.a == 1, fifths, minor);
+        return on_voice_declared(r, row.a == 1, fifths, minor);
     }
     if kind == 1 {
         return on_reset(r);
     }
     if kind == 2 {
-        return on_headed(r, fifths, minor);
+        return on_header_key(r, fifths, minor);
     }
     if kind == 3 {
         return on_key(store, t, r, fifths, minor, row.a, row.b == 1);
@@ -254,7 +254,7 @@ pub fn build_items(
     fifths: u8,
     minor: bool,
 ) -> Registers
-    requires { ⌜ (256 + 16 * n ≤ t .heads) × Rest t (begun .counts) (length (now scratch)) (musicOf (mine part (itemsIn (now text) (now scratch) n))) ⌝ }
+    requires { ⌜ (256 + 16 * n ≤ t .heads) × RoomForBytes t (begun .counts) (length (now scratch)) (musicOf (itemsOf part (itemsIn (now text) (now scratch) n))) ⌝ }
     ensures { λ r. ⌜ Built (now (text .entry)) t (record { fifths = fifths; minor = minor }) part n (now (scratch .entry)) (now (scratch .exit)) r ⌝ }
 {
     let mut r = begin_part();

@@ -5,9 +5,9 @@ use mathlib.Core.Bool.{Bool, true, false, cond, _||_}
 use mathlib.Core.Option.{Option, none, some}
 use mathlib.Core.List.{List, [], _∷_, _++_, map, reverse}
 use native.Mathlib.Omega.{arith}
-use Rattle.laws.specs.Lists.{All, cat, isNil}
+use Rattle.laws.specs.Lists.{All, concat, isNil}
 use Rattle.laws.proofs.Bools.{by-test, and-no-right, cond-ap, both-true}
-use Rattle.laws.proofs.Lists.{map-append, map-map, cat-snoc}
+use Rattle.laws.proofs.Lists.{map-append, map-map, concat-snoc}
 use Rattle.standard.specs.Keys.{Key}
 use Rattle.standard.specs.Bars.{endsEnding}
 use Rattle.reader.specs.State
@@ -112,11 +112,11 @@ abbrev pub finalOf : Bar → Measure
 finalOf b = inOrder (measureOf b)
 
 -- the log is the notes of the measures, one after the other
-pub log-chunks : (bars : List Bar) → logOf bars ≡ cat (map chunk (back [] bars))
+pub log-chunks : (bars : List Bar) → logOf bars ≡ concat (map chunk (back [] bars))
 log-chunks [] = refl
 log-chunks (b ∷ bs) =
-    back-append (logOf bs) (b .notes) ∙ ap (λ (l : List (ℕ × Note)). l ++ chunk b) (log-chunks bs) ∙ sym (cat-snoc (map chunk (back [] bs)) (chunk b))
-    ∙ ap cat (sym (map-append chunk (back [] bs) (b ∷ [])))
+    back-append (logOf bs) (b .notes) ∙ ap (λ (l : List (ℕ × Note)). l ++ chunk b) (log-chunks bs) ∙ sym (concat-snoc (map chunk (back [] bs)) (chunk b))
+    ∙ ap concat (sym (map-append chunk (back [] bs) (b ∷ [])))
 
 -- the plain measures in order
 order-measures : (bars : List Bar) → map inOrder (reverse (measuresOf bars)) ≡ map finalOf (back [] bars)
@@ -266,7 +266,7 @@ pub record Final (header : Key) (l : LogState) (p : PartState) : Type 0 where
   pub bars : List Bar
   pub heads-are : map headOf bars ≡ Ends.finished header l .heads
   pub measures-are : map finalOf bars ≡ Part.finished header p .measures
-  pub log-is : cat (map chunk bars) ≡ l .log
+  pub log-is : concat (map chunk bars) ≡ l .log
   pub voices-below : All Below bars
 
 -- a property of what f gives of each
@@ -299,8 +299,8 @@ final-of header s g =
           ∙ ap (λ (ms : List Measure). Part.marked header (Voltas.close none ms))
           (sym (ap (λ (ms : List Measure). map inOrder (reverse ms)) (drop-measures (s .bars) (g .older)) ∙ order-measures ds));
       log-is =
-          ap cat (sym (map-map notesIn (back []) (m .bars))) ∙ ap (λ (ns : List (List (ℕ × Note))). cat (map (back []) ns)) notes-are
-          ∙ ap cat (map-map notesIn (back []) cs) ∙ sym (log-chunks ds) ∙ drop-log (s .bars) (g .below);
+          ap concat (sym (map-map notesIn (back []) (m .bars))) ∙ ap (λ (ns : List (List (ℕ × Note))). concat (map (back []) ns)) notes-are
+          ∙ ap concat (map-map notesIn (back []) cs) ∙ sym (log-chunks ds) ∙ drop-log (s .bars) (g .below);
       voices-below =
           under (All (λ (x : ℕ × Note). x .0 < 4)) notesIn (m .bars)
           (subst (All (All (λ (x : ℕ × Note). x .0 < 4))) (sym notes-are) (over (All (λ (x : ℕ × Note). x .0 < 4)) notesIn cs (All-back Below [] ds tt (drop-below (s .bars) (g .below)))));

@@ -6,7 +6,7 @@ use mathlib.Core.List.{List, [], _∷_, map}
 use native.Mathlib.Omega.{arith}
 use lib.ListN.{length, take, drop, length-map, length-append}
 use lib.Seq.{take-at, drop-at}
-use Rattle.laws.specs.Lists.{foldl, All, cat, sum}
+use Rattle.laws.specs.Lists.{foldl, All, concat, sum}
 use Rattle.laws.proofs.Lists.{All-append}
 use Rattle.standard.specs.Keys.{Key}
 use Rattle.reader.specs.Scan.{Item}
@@ -43,10 +43,10 @@ voice-count v xs =
     sym (ap length (voice-order v xs) ∙ length-map (back [] (voice v xs)) (λ n. (v, n)) ∙ length-back [] (voice v xs) ∙ omega arith)
 
 -- each head counts the notes that stand for it
-counted-bars : (bars : List Bar) → All Below bars → Counted (map headOf bars) (cat (map chunk bars))
+counted-bars : (bars : List Bar) → All Below bars → Counted (map headOf bars) (concat (map chunk bars))
 counted-bars [] h = refl
 counted-bars (b ∷ bs) h =
-    let r = cat (map chunk bs) in
+    let r = concat (map chunk bs) in
     let n = notesIn (headOf b) in
     let e : length (chunk b) ≡ n = count-chunk b (h .0) in
     let count : List (ℕ × Note) → List ℕ = λ l. four (λ v. length (ofVoice v l)) in (
@@ -60,22 +60,22 @@ four-bars [] = tt
 four-bars (b ∷ bs) = (refl, four-bars bs)
 
 -- together they count the whole log
-all-bars : (bars : List Bar) → All Below bars → sum notesIn (map headOf bars) ≡ length (cat (map chunk bars))
+all-bars : (bars : List Bar) → All Below bars → sum notesIn (map headOf bars) ≡ length (concat (map chunk bars))
 all-bars [] h = refl
-all-bars (b ∷ bs) h = omega (arith, all-bars bs (h .1), count-chunk b (h .0), length-append (chunk b) (cat (map chunk bs)))
+all-bars (b ∷ bs) h = omega (arith, all-bars bs (h .1), count-chunk b (h .0), length-append (chunk b) (concat (map chunk bs)))
 
 -- all voices are below four
-below-bars : (bars : List Bar) → All Below bars → All (λ (x : ℕ × Note). x .0 < 4) (cat (map chunk bars))
+below-bars : (bars : List Bar) → All Below bars → All (λ (x : ℕ × Note). x .0 < 4) (concat (map chunk bars))
 below-bars [] h = tt
-below-bars (b ∷ bs) h = All-append _ (chunk b) (cat (map chunk bs)) (All-back _ [] (b .notes) tt (h .0)) (below-bars bs (h .1))
+below-bars (b ∷ bs) h = All-append _ (chunk b) (concat (map chunk bs)) (All-back _ [] (b .notes) tt (h .0)) (below-bars bs (h .1))
 
 -- so the heads fit the log
-pub fits-bars : (bars : List Bar) → All Below bars → Fits (map headOf bars) (cat (map chunk bars))
+pub fits-bars : (bars : List Bar) → All Below bars → Fits (map headOf bars) (concat (map chunk bars))
 fits-bars bars h = record { four-counts = four-bars bars; counted = counted-bars bars h; all-notes = all-bars bars h; voices-below = below-bars bars h }
 
 -- heads and log that are those of bars
-fits-as : (bars : List Bar) (heads : List Head) (log : List (ℕ × Note)) → All Below bars → map headOf bars ≡ heads → cat (map chunk bars) ≡ log → Fits heads log
-fits-as bars heads log h p q = subst (λ l. Fits heads l) q (subst (λ (hs : List Head). Fits hs (cat (map chunk bars))) p (fits-bars bars h))
+fits-as : (bars : List Bar) (heads : List Head) (log : List (ℕ × Note)) → All Below bars → map headOf bars ≡ heads → concat (map chunk bars) ≡ log → Fits heads log
+fits-as bars heads log h p q = subst (λ l. Fits heads l) q (subst (λ (hs : List Head). Fits hs (concat (map chunk bars))) p (fits-bars bars h))
 
 -- WHILE A PART IS READ
 -- its bars, the newest first

@@ -15,7 +15,7 @@ use Rattle.reader.specs.Lengths.{Length, valueOf}
 use Rattle.reader.specs.Pitches.{soundsOf, scopeAfterAll}
 use Rattle.reader.specs.Token.{Token, space, overlay, quoted, broken, tuplet, slur, graceOpen, graceClose, decoration, barline, volta, unit, meter, key, field, chord, rest, note, nothing, skipped, refused}
 use Rattle.reader.specs.Tokens.{tokens}
-use Rattle.reader.specs.Scan.{Item, born, reset, headed, keyed, metered, sung, played}
+use Rattle.reader.specs.Scan.{Item, voiceDeclared, reset, keyInHeader, keyChange, meterChange, lyricLine, musicLine}
 use Rattle.reader.specs.State
 use Rattle.reader.specs.State.{voltaBegins, PartState, withRun, withOverlay, withTuplet, withUnit, withTime, noScopes, newPart, newLine}
 use Rattle.reader.specs.Part
@@ -66,7 +66,7 @@ sim-token s (unit u) r = record { state = setLine (withUnit u (s .line)) s; hold
 sim-token s (meter t) r =
     sim-open-line (barMeter t) (Log.withMeter t) (State.withMeter t) (λ b. refl) (λ b. refl) (λ b. refl) (setLine (withTime t (s .line)) s) r
 sim-token s (key k) r =
-    sim-open-line (barMark k) (Log.withMark k) (State.withMark k) (λ b. refl) (λ b. refl) (λ b. refl) (setScopes noScopes (setKey k s)) r
+    sim-open-line (barMark k) (Log.withKeyMark k) (State.withKeyMark k) (λ b. refl) (λ b. refl) (λ b. refl) (setScopes noScopes (setKey k s)) r
 sim-token s field r = record { state = s; holds = r; laid-is = refl; plain-is = refl }
 sim-token s (chord ws l b) r = sim-sound ws l b s r
 sim-token s (rest k l) r = sim-append (restNote k (valueOf (s .line .unit) l)) s r
@@ -94,7 +94,7 @@ sim-line u t x s g =
     (sim-tokens u t (tokens 0 x) (laid s) (plain s) (record { state = s; holds = g; laid-is = refl; plain-is = refl }))
 
 -- a body K line, where a measure is open
-key-some : (header k : Key) (hs : List Head) (h : Head) (l : LogState) → Ends.onKey header k (hs ++ (h ∷ [])) l ≡ Log.onOpen (Log.withMark k) (Log.hears k l)
+key-some : (header k : Key) (hs : List Head) (h : Head) (l : LogState) → Ends.onKey header k (hs ++ (h ∷ [])) l ≡ Log.onOpen (Log.withKeyMark k) (Log.hears k l)
 unfolding Ends.onKey
 key-some header k [] h l = refl
 key-some header k (x ∷ hs) h l = refl
@@ -106,17 +106,17 @@ unfolding Ends.onKey Part.onKey Log.hears Part.hears
 key-open header k s [] g = record { state = setScopes noScopes (setKey header (setBars [] s)); holds = g; laid-is = refl; plain-is = refl }
 key-open header k s (b ∷ bs) g =
     rw (key-some header k (headsOf bs) (headOf b) (laid (setBars (b ∷ bs) s)))
-    (sim-open (barMark k) (Log.withMark k) (State.withMark k) (λ b. refl) (λ b. refl) (λ b. refl) (setScopes noScopes (setKey k (setBars (b ∷ bs) s))) g)
+    (sim-open (barMark k) (Log.withKeyMark k) (State.withKeyMark k) (λ b. refl) (λ b. refl) (λ b. refl) (setScopes noScopes (setKey k (setBars (b ∷ bs) s))) g)
 
 -- WHAT AN ITEM DOES
 pub sim-item : (header : Key) (s : BarState) (i : Item) → Inv s → Sim Inv (Ends.onItem header (laid s) i) (Part.onItem header (plain s) i)
 unfolding Ends.onItem Part.onItem Ends.onLyric Part.onLyric
-sim-item header s (born inHeader) g = record { state = setKey (firstKey header inHeader) s; holds = g; laid-is = refl; plain-is = refl }
+sim-item header s (voiceDeclared inHeader) g = record { state = setKey (firstKey header inHeader) s; holds = g; laid-is = refl; plain-is = refl }
 sim-item header s reset g = record { state = setPending nothingPending s; holds = g; laid-is = refl; plain-is = refl }
-sim-item header s headed g = record { state = setKey header s; holds = g; laid-is = refl; plain-is = refl }
-sim-item header s (keyed k) g = key-open header k s (s .bars) g
-sim-item header s (metered t) g = sim-open (barMeter t) (Log.withMeter t) (State.withMeter t) (λ b. refl) (λ b. refl) (λ b. refl) s g
-sim-item header s (sung placed t) g =
+sim-item header s keyInHeader g = record { state = setKey header s; holds = g; laid-is = refl; plain-is = refl }
+sim-item header s (keyChange k) g = key-open header k s (s .bars) g
+sim-item header s (meterChange t) g = sim-open (barMeter t) (Log.withMeter t) (State.withMeter t) (λ b. refl) (λ b. refl) (λ b. refl) s g
+sim-item header s (lyricLine placed t) g =
     let v = s .verses in
     record {
       state = setVerses (record { sounded = v .sounded; start = v .start; verse = cond placed (nextVerse (v .verse)) (v .verse); lines = record { start = v .start; verse = v .verse; text = t } ∷ v .lines }) s;
@@ -124,7 +124,7 @@ sim-item header s (sung placed t) g =
       laid-is = refl;
       plain-is = refl;
     }
-sim-item header s (played u t l) g = sim-line u t l s g
+sim-item header s (musicLine u t l) g = sim-line u t l s g
 
 -- A PART AFTER ANY ITEMS
 pub sim-items : (header : Key) (items : List Item) → Sim Inv (foldl (Ends.onItem header) newLog items) (foldl (Part.onItem header) newPart items)

@@ -8,10 +8,10 @@ use lib.Dec.{eqb}
 use lib.ListN.{length, getD, replicate, length-map}
 use lib.Seq.{take-at, drop-at}
 use borrow.Author.Tests.{eqb-true}
-use Rattle.laws.specs.Lists.{foldl, All, cat}
+use Rattle.laws.specs.Lists.{foldl, All, concat}
 use Rattle.laws.specs.Bytes.{le32}
 use Rattle.laws.proofs.Bools.{by-test}
-use Rattle.laws.proofs.Lists.{map-append, map-map, map-agree, keep-snoc-yes, keep-snoc-no}
+use Rattle.laws.proofs.Lists.{map-append, map-map, map-agree, filter-snoc-yes, filter-snoc-no}
 use Rattle.standard.specs.Keys.{Key}
 use Rattle.reader.specs.Scan.{Item}
 use Rattle.reader.specs.State.{Note, PartState, newPart}
@@ -20,7 +20,7 @@ use Rattle.reader.specs.Part
 use Rattle.reader.specs.Part.{inOrder}
 use Rattle.reader.specs.Codes.{barlineCode, voltaCode}
 use Rattle.reader.specs.Records
-use Rattle.reader.specs.Records.{markBytes, passBits, noteCounts, measureBytes, noteBytes, pitchBytes, lyricBytes, lyricsOf, section, tagged, allNotes}
+use Rattle.reader.specs.Records.{keyMarkBytes, passBits, noteCounts, measureBytes, noteBytes, pitchBytes, lyricBytes, lyricsOf, section, tagged, allNotes}
 use Rattle.part_layout.specs.Log.{LogState, newLog}
 use Rattle.part_layout.specs.Ends
 use Rattle.part_layout.specs.Sections
@@ -40,7 +40,7 @@ bytes-same b =
     let e : (v : ℕ) → n v ≡ length (reverse (voice v (b .notes))) = λ v. sym (length-reverse (voice v (b .notes))) in
     λ i. (le32 (e 0 i) ++ (le32 (e 1 i) ++ (le32 (e 2 i) ++ (le32 (e 3 i) ++ []))))
     ++ (barlineCode (b .left) ∷ barlineCode (b .right) ∷ b .meter .0 ∷ b .meter .1 ∷ [])
-    ++ markBytes (b .key)
+    ++ keyMarkBytes (b .key)
     ++ (voltaCode (b .volta) ∷ getD (b .passes) 0 0 ∷ le32 (passBits (b .passes)))
 
 -- a section of two views of the same things
@@ -49,7 +49,7 @@ section-same : {A B C : Type 0} (f : A → List ℕ) (g : B → List ℕ) (h : C
 unfolding section
 section-same f g h m e xs =
     λ i. le32 ((length-map xs h ∙ sym (length-map xs m)) i)
-    ++ cat ((map-map h f xs ∙ map-agree (λ x. f (h x)) (λ x. g (m x)) xs e ∙ sym (map-map m g xs)) i)
+    ++ concat ((map-map h f xs ∙ map-agree (λ x. f (h x)) (λ x. g (m x)) xs e ∙ sym (map-map m g xs)) i)
 
 -- NOTES
 -- how many a measure has: those of its four voices
@@ -79,8 +79,8 @@ voice-order v (x ∷ xs) =
     let t : ℕ × Note → Bool = λ y. eqb (y .0) v in
     let w : Note → ℕ × Note = λ n. (v, n) in
     by-test (eqb (x .0) v)
-    (λ e. rw e (keep-snoc-yes t (back [] xs) x e ∙ (λ i. voice-order v xs i ++ (own-voice v x e i ∷ [])) ∙ sym (map-append w (back [] (voice v xs)) (x .1 ∷ []))))
-    (λ e. rw e (keep-snoc-no t (back [] xs) x e ∙ voice-order v xs))
+    (λ e. rw e (filter-snoc-yes t (back [] xs) x e ∙ (λ i. voice-order v xs i ++ (own-voice v x e i ∷ [])) ∙ sym (map-append w (back [] (voice v xs)) (x .1 ∷ []))))
+    (λ e. rw e (filter-snoc-no t (back [] xs) x e ∙ voice-order v xs))
 
 -- four lists, one after the other, grouped from the left or from the right
 four-lists : {A : Type 0} (a b c d : List A) → a ++ b ++ c ++ d ≡ a ++ (b ++ (c ++ (d ++ [])))
@@ -96,11 +96,11 @@ notes-by-voice b =
     (λ i. e 0 i ++ e 1 i ++ e 2 i ++ e 3 i) ∙ four-lists (t 0) (t 1) (t 2) (t 3)
 
 -- the part's notes
-notes-same : (bars : List Bar) → All Below bars → Sections.inOrder (map headOf bars) (cat (map chunk bars)) ≡ allNotes (map finalOf bars)
+notes-same : (bars : List Bar) → All Below bars → Sections.inOrder (map headOf bars) (concat (map chunk bars)) ≡ allNotes (map finalOf bars)
 unfolding Sections.inOrder allNotes
 notes-same [] h = refl
 notes-same (b ∷ bs) h =
-    let r = cat (map chunk bs) in
+    let r = concat (map chunk bs) in
     let n = notesIn (headOf b) in
     let e : length (chunk b) ≡ n = count-chunk b (h .0) in
     (λ i. Sections.byVoice (take-at (chunk b) r n e i) ++ Sections.inOrder (map headOf bs) (drop-at (chunk b) r n e i))
@@ -121,9 +121,9 @@ final-sections header l p v f =
     let w : Ends.finished header l .words ≡ Part.finished header p .words = λ i. sungBy (reverse (v i .lines)) (replicate (v i .sounded) []) in
     λ i. m i
     ++ section (λ (x : ℕ × Note). noteBytes (x .1)) (n i)
-    ++ section pitchBytes (cat (map (λ (x : ℕ × Note). x .1 .pitches) (n i)))
+    ++ section pitchBytes (concat (map (λ (x : ℕ × Note). x .1 .pitches) (n i)))
     ++ section (λ (x : ℕ × Syllable). lyricBytes (x .0) (x .1)) (lyricsOf 0 (n i) (w i))
-    ++ section (λ (c : ℕ). c ∷ []) (cat (map (λ (x : ℕ × Syllable). x .1 .text) (lyricsOf 0 (n i) (w i))))
+    ++ section (λ (c : ℕ). c ∷ []) (concat (map (λ (x : ℕ × Syllable). x .1 .text) (lyricsOf 0 (n i) (w i))))
 
 -- EVERY PART, LAID OUT OR PLAIN, HAS THE SAME SECTIONS
 pub same-sections : (header : Key) (items : List Item) → Sections.sections (Ends.build header items) ≡ Records.sections (Part.build header items)

@@ -9,12 +9,12 @@ use Rattle.standard.specs.Keys.{Key}
 use Rattle.standard.specs.Bars.{endsEnding}
 use Rattle.standard.specs.Notes.{nothingPending}
 use Rattle.standard.specs.Lyrics.{nextVerse}
-use Rattle.reader.specs.Scan.{Item, born, reset, headed, keyed, metered, sung, played}
+use Rattle.reader.specs.Scan.{Item, voiceDeclared, reset, keyInHeader, keyChange, meterChange, lyricLine, musicLine}
 use Rattle.reader.specs.State.{Note, voltaEnds, voltaAlone, Sung, Verses}
 use Rattle.reader.specs.Voltas.{isStart}
 use Rattle.reader.specs.Lyrics.{Syllable, sungBy}
 use Rattle.reader.specs.Part.{firstKey}
-use Rattle.part_layout.specs.Log.{Head, LogState, withMeter, withMark, withVolta, setKey, setHeads, setPending, setVerses, newLog, onOpen, isEmptyHead, openIsEmpty, hears, onLine}
+use Rattle.part_layout.specs.Log.{Head, LogState, withMeter, withKeyMark, withVolta, setKey, setHeads, setPending, setVerses, newLog, onOpen, isEmptyHead, openIsEmpty, hears, onLine}
 
 unfoldable pub onLyric : Bool → List ℕ → LogState → LogState
 onLyric placed t s =
@@ -25,16 +25,16 @@ onLyric placed t s =
 
 unfoldable pub onKey : Key → Key → List Head → LogState → LogState
 onKey header k [] s = hears header s
-onKey header k (m ∷ ms) s = onOpen (withMark k) (hears k s)
+onKey header k (m ∷ ms) s = onOpen (withKeyMark k) (hears k s)
 
 unfoldable pub onItem : Key → LogState → Item → LogState
-onItem header s (born inHeader) = setKey (firstKey header inHeader) s
+onItem header s (voiceDeclared inHeader) = setKey (firstKey header inHeader) s
 onItem header s reset = setPending nothingPending s
-onItem header s headed = setKey header s
-onItem header s (keyed k) = onKey header k (s .heads) s
-onItem header s (metered t) = onOpen (withMeter t) s
-onItem header s (sung placed t) = onLyric placed t s
-onItem header s (played u t l) = onLine u t l s
+onItem header s keyInHeader = setKey header s
+onItem header s (keyChange k) = onKey header k (s .heads) s
+onItem header s (meterChange t) = onOpen (withMeter t) s
+onItem header s (lyricLine placed t) = onLyric placed t s
+onItem header s (musicLine u t l) = onLine u t l s
 
 -- THE END OF A PART
 -- an empty measure at the end goes, but not the only one
@@ -66,7 +66,7 @@ close (some ps) (m ∷ ms) = elim (endsAt m ms) [ true ↦ withVolta voltaEnds p
 
 -- "The first measure always has a key mark"
 unfoldable pub markedBy : Key → Head → Option Key → Head
-markedBy header m none = withMark header m
+markedBy header m none = withKeyMark header m
 markedBy header m (some k) = m
 
 unfoldable pub marked : Key → List Head → List Head

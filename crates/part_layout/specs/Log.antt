@@ -19,7 +19,7 @@ use Rattle.reader.specs.Pitches.{Scope, soundsOf, scopeAfterAll}
 use Rattle.reader.specs.Token.{Token, space, overlay, quoted, broken, tuplet, slur, graceOpen, graceClose, decoration, barline, volta, unit, meter, key, field, chord, rest, note, nothing, skipped, refused}
 use Rattle.reader.specs.Barlines.{leftOf}
 use Rattle.reader.specs.Tokens.{tokens}
-use Rattle.reader.specs.Scan.{Item, born, reset, headed, keyed, metered, sung, played}
+use Rattle.reader.specs.Scan.{Item, voiceDeclared, reset, keyInHeader, keyChange, meterChange, lyricLine, musicLine}
 use Rattle.reader.specs.State.{Note, Volta, noVolta, voltaBegins, Half, Line, Verses, withBeam, withRun, withOverlay, withHalf, withTuplet, withUnit, withTime, noScopes, newLine}
 use Rattle.reader.specs.Part.{brokenNote, afterHalf, canBeam, runAfter, beamedAgain, grouped, oneFewer, countedIn, restNote, soundNote, firstKey}
 
@@ -58,8 +58,8 @@ withRight r m = record { counts = m .counts; left = m .left; right = r; meter = 
 abbrev pub withMeter : Meter → Head → Head
 withMeter t m = record { counts = m .counts; left = m .left; right = m .right; meter = t; key = m .key; volta = m .volta; passes = m .passes }
 
-abbrev pub withMark : Key → Head → Head
-withMark k m = record { counts = m .counts; left = m .left; right = m .right; meter = m .meter; key = some k; volta = m .volta; passes = m .passes }
+abbrev pub withKeyMark : Key → Head → Head
+withKeyMark k m = record { counts = m .counts; left = m .left; right = m .right; meter = m .meter; key = some k; volta = m .volta; passes = m .passes }
 
 abbrev pub withVolta : Volta → List ℕ → Head → Head
 withVolta v ps m = record { counts = m .counts; left = m .left; right = m .right; meter = m .meter; key = m .key; volta = v; passes = ps }
@@ -229,7 +229,7 @@ onToken s (barline b o) = onBarline b o s
 onToken s (volta ps) = onOpen (withVolta voltaBegins ps) s
 onToken s (unit u) = setLine (withUnit u (s .line)) s
 onToken s (meter t) = onOpen (withMeter t) (setLine (withTime t (s .line)) s)
-onToken s (key k) = onOpen (withMark k) (hears k s)
+onToken s (key k) = onOpen (withKeyMark k) (hears k s)
 onToken s field = s
 onToken s (chord ws l b) = onSound ws l b s
 onToken s (rest k l) = append (restNote k (valueOf (s .line .unit) l)) s

@@ -4,22 +4,22 @@ use mathlib.Core.Bool.{Bool, true, false}
 use mathlib.Core.List.{List, [], _∷_, _++_, map}
 use lib.Dec.{eqb}
 use lib.ListN.{take, drop, getD}
-use Rattle.laws.specs.Lists.{cat, keep, sum}
+use Rattle.laws.specs.Lists.{concat, filter, sum}
 use Rattle.laws.specs.Bytes.{le32}
 use Rattle.standard.specs.Pitches.{Pitch}
 use Rattle.reader.specs.State.{Note}
 use Rattle.reader.specs.Lyrics.{Syllable}
 use Rattle.reader.specs.Codes.{barlineCode, voltaCode}
-use Rattle.reader.specs.Records.{markBytes, passBits, noteBytes, pitchBytes, lyricBytes, lyricsOf, section}
+use Rattle.reader.specs.Records.{keyMarkBytes, passBits, noteBytes, pitchBytes, lyricBytes, lyricsOf, section}
 use Rattle.part_layout.specs.Log.{Head}
 use Rattle.part_layout.specs.Ends.{Laid}
 
 -- MEASURE, 28 bytes
 unfoldable pub headBytes : Head → List ℕ
 headBytes m =
-    cat (map le32 (m .counts))
+    concat (map le32 (m .counts))
     ++ (barlineCode (m .left) ∷ barlineCode (m .right) ∷ m .meter .0 ∷ m .meter .1 ∷ [])
-    ++ markBytes (m .key)
+    ++ keyMarkBytes (m .key)
     ++ (voltaCode (m .volta) ∷ getD (m .passes) 0 0 ∷ le32 (passBits (m .passes)))
 
 -- how many notes a measure has
@@ -28,7 +28,7 @@ notesIn m = sum (λ n. n) (m .counts)
 
 -- the notes of one voice
 unfoldable pub ofVoice : ℕ → List (ℕ × Note) → List (ℕ × Note)
-ofVoice v log = keep (λ (x : ℕ × Note). eqb (x .0) v) log
+ofVoice v log = filter (λ (x : ℕ × Note). eqb (x .0) v) log
 
 -- a measure's notes by voice 0 to 3
 unfoldable pub byVoice : List (ℕ × Note) → List (ℕ × Note)
@@ -43,13 +43,13 @@ unfoldable pub notesOf : Laid → List (ℕ × Note)
 notesOf p = inOrder (p .heads) (p .log)
 
 unfoldable pub pitchesOf : Laid → List Pitch
-pitchesOf p = cat (map (λ (x : ℕ × Note). x .1 .pitches) (notesOf p))
+pitchesOf p = concat (map (λ (x : ℕ × Note). x .1 .pitches) (notesOf p))
 
 unfoldable pub lyrics : Laid → List (ℕ × Syllable)
 lyrics p = lyricsOf 0 (notesOf p) (p .words)
 
 unfoldable pub lyricText : Laid → List ℕ
-lyricText p = cat (map (λ (x : ℕ × Syllable). x .1 .text) (lyrics p))
+lyricText p = concat (map (λ (x : ℕ × Syllable). x .1 .text) (lyrics p))
 
 unfoldable pub sections : Laid → List ℕ
 sections p =

@@ -18,23 +18,23 @@ use Rattle.standard.specs.Bars.{Barline, normal}
 use Rattle.standard.specs.Fields.{Meter}
 use Rattle.reader.specs.State.{Volta, noVolta, voltaBegins}
 use Rattle.reader.specs.Codes.{barlineCode, voltaCode, modeCode}
-use Rattle.reader.specs.Records.{markBytes, passBits, signed8}
-use Rattle.part_layout.specs.Log.{Head, newHead, withCounts, withLeft, withRight, withMeter, withMark, withVolta, isEmptyHead}
+use Rattle.reader.specs.Records.{keyMarkBytes, passBits, signed8}
+use Rattle.part_layout.specs.Log.{Head, newHead, withCounts, withLeft, withRight, withMeter, withKeyMark, withVolta, isEmptyHead}
 use Rattle.part_layout.specs.Sections.{headBytes}
 use Rattle.part_measures.specs.Heads.{headRow, newRow, noNotes}
 
 -- WIDTH
 length-by : (m : Head) (k : Option Key) → m .key ≡ k → length (headRow m) ≡ 28
-unfolding headRow little markBytes
-length-by m none e = rw (e, markBytes)
-length-by m (some k) e = rw (e, markBytes)
+unfolding headRow little keyMarkBytes
+length-by m none e = rw (e, keyMarkBytes)
+length-by m (some k) e = rw (e, keyMarkBytes)
 
 pub length-head : (m : Head) → length (headRow m) ≡ 28
 length-head m = length-by m (m .key) refl
 
 -- a new measure
 pub new-row : (t : Meter) (left : Barline) → newRow (barlineCode left) (t .0) (t .1) ≡ headRow (newHead t left)
-unfolding newRow headRow newHead little markBytes passBits barlineCode voltaCode
+unfolding newRow headRow newHead little keyMarkBytes passBits barlineCode voltaCode
 new-row t left = refl
 
 pub length-new : (left top bottom : ℕ) → length (newRow left top bottom) ≡ 28
@@ -67,18 +67,18 @@ pub head-meter : (m : Head) (t : Meter) → splice (headRow m) 18 (t .0 ∷ t .1
 unfolding headRow splice little
 head-meter m t = refl
 
-mark-by : (m : Head) (k : Key) (o : Option Key) → m .key ≡ o → splice (headRow m) 20 (modeCode (k .minor) ∷ signed8 (k .fifths) ∷ []) ≡ headRow (withMark k m)
-unfolding headRow splice little markBytes
-mark-by m k none e = rw (e, markBytes)
-mark-by m k (some j) e = rw (e, markBytes)
+mark-by : (m : Head) (k : Key) (o : Option Key) → m .key ≡ o → splice (headRow m) 20 (modeCode (k .minor) ∷ signed8 (k .fifths) ∷ []) ≡ headRow (withKeyMark k m)
+unfolding headRow splice little keyMarkBytes
+mark-by m k none e = rw (e, keyMarkBytes)
+mark-by m k (some j) e = rw (e, keyMarkBytes)
 
-pub head-mark : (m : Head) (k : Key) → splice (headRow m) 20 (modeCode (k .minor) ∷ signed8 (k .fifths) ∷ []) ≡ headRow (withMark k m)
+pub head-mark : (m : Head) (k : Key) → splice (headRow m) 20 (modeCode (k .minor) ∷ signed8 (k .fifths) ∷ []) ≡ headRow (withKeyMark k m)
 head-mark m k = mark-by m k (m .key) refl
 
 volta-by : (m : Head) (ps : List ℕ) (o : Option Key) → m .key ≡ o → splice (headRow m) 22 ((1 ∷ getD ps 0 0 ∷ []) ++ le32 (passBits ps)) ≡ headRow (withVolta voltaBegins ps m)
-unfolding headRow splice little markBytes voltaCode
-volta-by m ps none e = rw (e, markBytes)
-volta-by m ps (some j) e = rw (e, markBytes)
+unfolding headRow splice little keyMarkBytes voltaCode
+volta-by m ps none e = rw (e, keyMarkBytes)
+volta-by m ps (some j) e = rw (e, keyMarkBytes)
 
 pub head-volta : (m : Head) (ps : List ℕ) → splice (headRow m) 22 ((1 ∷ getD ps 0 0 ∷ []) ++ le32 (passBits ps)) ≡ headRow (withVolta voltaBegins ps m)
 head-volta m ps = volta-by m ps (m .key) refl

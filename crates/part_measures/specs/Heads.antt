@@ -6,7 +6,7 @@ use lib.Dec.{eqb}
 use lib.ListN.{getD}
 use Rattle.laws.specs.Bytes.{le32, u32At}
 use Rattle.reader.specs.Codes.{barlineCode, voltaCode}
-use Rattle.reader.specs.Records.{markBytes, passBits}
+use Rattle.reader.specs.Records.{keyMarkBytes, passBits}
 use Rattle.part_layout.specs.Log.{Head}
 
 -- a measure without its notes: 28 bytes whatever the counts; with four, headBytes (`head-row`)
@@ -14,7 +14,7 @@ unfoldable pub headRow : Head → List ℕ
 headRow m =
     (le32 (getD (m .counts) 0 0) ++ le32 (getD (m .counts) 1 0) ++ le32 (getD (m .counts) 2 0) ++ le32 (getD (m .counts) 3 0))
     ++ (barlineCode (m .left) ∷ barlineCode (m .right) ∷ m .meter .0 ∷ m .meter .1 ∷ [])
-    ++ markBytes (m .key)
+    ++ keyMarkBytes (m .key)
     ++ (voltaCode (m .volta) ∷ getD (m .passes) 0 0 ∷ le32 (passBits (m .passes)))
 
 -- a head without notes: its left barline by number, its meter

@@ -84,7 +84,7 @@ pub fn set_meter(store: &mut [u8], at: usize, i: usize, top: u8, bottom: u8)
 }
 
 // The key mark of row i: 1 major or 2 minor, and the fifths as a signed byte.
-pub fn set_mark(store: &mut [u8], at: usize, i: usize, mode: u8, fifths: u8)
+pub fn set_key_mark(store: &mut [u8], at: usize, i: usize, mode: u8, fifths: u8)
     requires { ⌜ at + 28 * i + 28 ≤ length (now store) ⌝ }
     ensures { λ _. ⌜ now (store .exit) ≡ splice (now (store .entry)) (at + 28 * i + 20) (mode ∷ fifths ∷ []) ⌝ }
 {

@@ -19,8 +19,8 @@ use Rattle.token_lengths.specs.declared.Length.{Length}
 use Rattle.token_lengths.specs.declared.Length.the-variants.{Written, WholeBar}
 use Rattle.token_lengths.specs.Values.{asValue, brokenLength, written}
 use Rattle.token_lengths.proofs.Broken.{NoBar, broken-note}
-use Rattle.part_rows.specs.Encoded.{marksByte, rowFor}
-use Rattle.part_registers.specs.Notes.{beams, bitOf, marksOf, lengthIn, boundaryOf, withBeam, groupedRow, fewer, brokenRow, halvedRow, runAgain, beamedRow}
+use Rattle.part_rows.specs.Encoded.{flagsByte, rowFor}
+use Rattle.part_registers.specs.Notes.{beams, bitOf, flagsIn, lengthIn, boundaryOf, withBeam, groupedRow, fewer, brokenRow, halvedRow, runAgain, beamedRow}
 use Rattle.part_registers.specs.States.{pendingFor, halfFor, runningFor}
 
 pub beams-is : (k : NoteKind) (v : ℕ) → beams (kindCode k) v ≡ beamable k v
@@ -31,9 +31,9 @@ beams-is Notes.invisibleRest v = refl
 beams-is Notes.barRest v = refl
 beams-is Notes.invisibleBarRest v = refl
 
-pub marks-is : (p : Notes.Pending) (b : Behind) → marksOf (pendingFor p) (b .tie) (b .slur) ≡ marksByte (flagsOf p b)
-unfolding marksOf bitOf marksByte bit flagsOf
-marks-is p b = refl
+pub note-flags-is : (p : Notes.Pending) (b : Behind) → flagsIn (pendingFor p) (b .tie) (b .slur) ≡ flagsByte (flagsOf p b)
+unfolding flagsIn bitOf flagsByte bit flagsOf
+note-flags-is p b = refl
 
 pub grouped-is : (t : Option State.Running) (m : Note) → groupedRow (runningFor t) (rowFor m) ≡ rowFor (grouped t m)
 unfolding groupedRow grouped groupIn boundary boundaryOf bitOf

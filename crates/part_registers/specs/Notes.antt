@@ -19,8 +19,8 @@ beams kind value = eqb kind 0 && (leb 5 value && leb value 9)
 unfoldable pub bitOf : Bool → ℕ → ℕ
 bitOf b n = cond b n 0
 
-unfoldable pub marksOf : Pending → Bool → Bool → ℕ
-marksOf p tie slur = bitOf tie 1 + bitOf (p .tie) 2 + bitOf (p .slur) 4 + bitOf slur 8 + bitOf (p .grace) 16
+unfoldable pub flagsIn : Pending → Bool → Bool → ℕ
+flagsIn p tie slur = bitOf tie 1 + bitOf (p .tie) 2 + bitOf (p .slur) 4 + bitOf slur 8 + bitOf (p .grace) 16
 
 unfoldable pub lengthIn : ℕ → ℕ → Length
 lengthIn value dots = cond (eqb value 10) (WholeBar dots) (Written value dots)
@@ -29,13 +29,13 @@ unfoldable pub boundaryOf : Bool → Bool → ℕ
 boundaryOf starts stops = bitOf starts 1 + bitOf stops 2
 
 abbrev pub withBeam : ℕ → NoteRow → NoteRow
-withBeam b n = record { kind = n .kind; value = n .value; dots = n .dots; marks = n .marks; beam = b; actual = n .actual; normal = n .normal; boundary = n .boundary; pitches = n .pitches }
+withBeam b n = record { kind = n .kind; value = n .value; dots = n .dots; flags = n .flags; beam = b; actual = n .actual; normal = n .normal; boundary = n .boundary; pitches = n .pitches }
 
 abbrev pub withValue : Value → NoteRow → NoteRow
-withValue w n = record { kind = n .kind; value = w .value; dots = w .dots; marks = n .marks; beam = n .beam; actual = n .actual; normal = n .normal; boundary = n .boundary; pitches = n .pitches }
+withValue w n = record { kind = n .kind; value = w .value; dots = w .dots; flags = n .flags; beam = n .beam; actual = n .actual; normal = n .normal; boundary = n .boundary; pitches = n .pitches }
 
 abbrev pub withGroup : ℕ → ℕ → ℕ → NoteRow → NoteRow
-withGroup a b c n = record { kind = n .kind; value = n .value; dots = n .dots; marks = n .marks; beam = n .beam; actual = a; normal = b; boundary = c; pitches = n .pitches }
+withGroup a b c n = record { kind = n .kind; value = n .value; dots = n .dots; flags = n .flags; beam = n .beam; actual = a; normal = b; boundary = c; pitches = n .pitches }
 
 unfoldable pub groupedRow : Running → NoteRow → NoteRow
 groupedRow running.Nothing n = n

@@ -1,7 +1,7 @@
 // What is kept outside scratch while a part is read, in groups, and what a note gets from it: its tuplet, its beam, a broken rhythm's half, its marks.
 ghost use mathlib.Core.Path.{_≡_};
 ghost use Prim.Native.Nat.{_≤_};
-ghost use Rattle.part_registers.specs.Notes.{beams, bitOf, marksOf, lengthIn, boundaryOf, groupedRow, fewer, brokenRow, halvedRow, runAgain, beamedRow};
+ghost use Rattle.part_registers.specs.Notes.{beams, bitOf, flagsIn, lengthIn, boundaryOf, groupedRow, fewer, brokenRow, halvedRow, runAgain, beamedRow};
 use part_accidentals::AbcPartParseState;
 use part_rows::NoteRow;
 use token_lengths::Length;
@@ -118,7 +118,7 @@ pub fn with_heads(c: Counts, heads: u32, scopes: u32) -> Counts
 // WHAT A NOTE GETS
 
 // A note, from an eighth to a 128th, can be beamed.
-pub fn can_beam(kind: u8, value: u8) -> bool
+pub fn abc_note_is_beamable(kind: u8, value: u8) -> bool
     ensures { λ r. ⌜ r ≡ beams kind value ⌝ }
 {
     if kind != 0 {
@@ -137,8 +137,8 @@ fn bit(b: bool, n: u8) -> u8
 }
 
 // The marks of ties, slurs and graces, by what waited for the note and what stands behind it.
-pub fn marks(p: Pending, tie: bool, slur: bool) -> u8
-    ensures { λ r. ⌜ r ≡ marksOf p tie slur ⌝ }
+pub fn note_flags(p: Pending, tie: bool, slur: bool) -> u8
+    ensures { λ r. ⌜ r ≡ flagsIn p tie slur ⌝ }
 {
     bit(tie, 1) + bit(p.tie, 2) + bit(p.slur, 4) + bit(slur, 8) + bit(p.grace, 16)
 }
@@ -231,7 +231,7 @@ pub fn after_half(n: NoteRow, half: Half) -> NoteRow
 pub fn update_abc_beam_run(run: u8, kind: u8, value: u8) -> u8
     ensures { λ r. ⌜ r ≡ runAgain run kind value ⌝ }
 {
-    if can_beam(kind, value) {
+    if abc_note_is_beamable(kind, value) {
         if run == 0 {
             return 1;
         }
@@ -247,7 +247,7 @@ pub fn beamed_new(run: u8, n: NoteRow) -> NoteRow
     if run == 0 {
         return n;
     }
-    if can_beam(n.kind, n.value) {
+    if abc_note_is_beamable(n.kind, n.value) {
         let mut m = n;
         m.beam = 3;
         return m;

@@ -35,7 +35,7 @@ use Rattle.part_registers.specs.declared.Registers.{Registers}
 use Rattle.part_registers.specs.declared.Half.the-variants as half
 use Rattle.part_registers.specs.Notes.{beams, brokenRow, runAgain}
 use Rattle.part_registers.proofs.Notes.{beams-is, run-is, broken-is}
-use Rattle.part_invariant.specs.Held.{Room, Stored, Held, Holding, pitchesIn, Grows, Does}
+use Rattle.part_invariant.specs.Invariant.{Room, Stored, Represents, RepresentedInLine, pitchesIn, Grows, Simulates}
 use Rattle.part_invariant.proofs.Stores.{note-altered, scoped-behind}
 use Rattle.part_invariant.proofs.Logs.{place-at, place-pitches, broken-pitches}
 use Rattle.part_invariant.proofs.Appending.{someNote, stored-pitches}
@@ -46,7 +46,7 @@ same-counts : (c : Counts) → Grows c c 0 0 0 0
 same-counts c = record { more-heads = omega arith; more-notes = omega arith; more-pitches = omega arith; more-scopes = omega arith }
 
 -- THE PLACE of the last note
-module _ {t : Tables} {s : List ℕ} {r : Registers} (l : LogState) (st : Standing l) (h : Held t s r [] l) where
+module _ {t : Tables} {s : List ℕ} {r : Registers} (l : LogState) (st : Standing l) (h : Represents t s r [] l) where
   place-is : placeOf r ≡ lastPlace l
   unfolding lastPlace
   place-is = (λ i. getD (h .last-is i) (h .line-is i .overlay) 0)
@@ -55,11 +55,11 @@ module _ {t : Tables} {s : List ℕ} {r : Registers} (l : LogState) (st : Standi
   unfolding lastPlace
   place-most = omega (arith, place-is, st .places (l .line .overlay) (st .overlay-4) .inside)
 
-pub overlay-small : {t : Tables} {s : List ℕ} {r : Registers} → Holding t s r → r .line .overlay < 4
-overlay-small a = omega (arith, a .standing .overlay-4, ap (λ (x : Line). x .overlay) (a .held .line-is))
+pub overlay-small : {t : Tables} {s : List ℕ} {r : Registers} → RepresentedInLine t s r → r .line .overlay < 4
+overlay-small a = omega (arith, a .standing .overlay-4, ap (λ (x : Line). x .overlay) (a .represents .line-is))
 
-pub place-small : {t : Tables} {s : List ℕ} {r : Registers} → Holding t s r → placeOf r ≤ r .counts .notes
-place-small a = omega (arith, place-most (a .state) (a .standing) (a .held), a .held .stored .notes-are)
+pub place-small : {t : Tables} {s : List ℕ} {r : Registers} → RepresentedInLine t s r → placeOf r ≤ r .counts .notes
+place-small a = omega (arith, place-most (a .state) (a .standing) (a .represents), a .represents .stored .notes-are)
 
 -- the note at a place of the log
 note-at : (p : ℕ) (log : List (ℕ × Note)) (d : ℕ × Note) → 0 < p → p ≤ length log → noteAt p log ≡ some (getD log (p - 1) d .1)
@@ -73,7 +73,7 @@ note-at (suc (suc i)) (x ∷ xs) d h k =
 
 -- A WRITE INTO THE LAST NOTE'S ROW
 module _ {t : Tables} {s : List ℕ} {r : Registers} (room : Room t (r .counts) (length s) 0 0 0 0) (s′ : List ℕ) (f : ℕ) (bs : List ℕ) (e : s′ ≡ splice s (t .notes + 16 * (placeOf r - 1) + f) bs) (k : f + length bs ≤ 16)
-    (some : 0 < placeOf r) (l : LogState) (st : Standing l) (h : Held t s r [] l) where
+    (some : 0 < placeOf r) (l : LogState) (st : Standing l) (h : Represents t s r [] l) where
   in-log : placeOf r - 1 < length (l .log)
   in-log = omega (arith, some, place-most l st h)
 
@@ -81,7 +81,7 @@ module _ {t : Tables} {s : List ℕ} {r : Registers} (room : Room t (r .counts) 
   last-only = only-splice (t .heads) (t .end) s s′ _ bs e (omega (arith, room .for-heads)) (omega (arith, in-log, h .stored .notes-are, room .for-notes, room .for-pitches, room .for-scopes))
 
   pub last-held : (g : Note → Note) → ((x : Note) → g x .pitches ≡ x .pitches) → splice (noteRow (getD (l .log) (placeOf r - 1) someNote)) f bs ≡ noteRow (getD (l .log) (placeOf r - 1) someNote .0, g (getD (l .log) (placeOf r - 1) someNote .1))
-      → Held t s′ r [] (setLog (atPlace (lastPlace l) g (l .log)) l)
+      → Represents t s′ r [] (setLog (atPlace (lastPlace l) g (l .log)) l)
   last-held g p q =
       let to : alterAt (placeOf r - 1) (λ (x : ℕ × Note). (x .0, g (x .1))) (l .log) ≡ atPlace (lastPlace l) g (l .log) =
       sym (place-at (placeOf r) g (l .log) some) ∙ ap (λ (j : ℕ). atPlace j g (l .log)) (place-is l st h) in
@@ -104,7 +104,7 @@ module _ {t : Tables} {s : List ℕ} {r : Registers} (room : Room t (r .counts) 
       }
 
 -- THE LAST NOTE READ
-module _ {t : Tables} {s : List ℕ} {r : Registers} (some : 0 < placeOf r) (l : LogState) (st : Standing l) (h : Held t s r [] l) where
+module _ {t : Tables} {s : List ℕ} {r : Registers} (some : 0 < placeOf r) (l : LogState) (st : Standing l) (h : Represents t s r [] l) where
   byte-is : (k : ℕ) → k < 16 → getD s (t .notes + 16 * (placeOf r - 1) + k) 0 ≡ getD (noteRow (getD (l .log) (placeOf r - 1) someNote)) k 0
   byte-is k j = table-byte noteRow 16 length-note (h .stored .notes-table) (placeOf r - 1) k someNote (omega (arith, some, place-most l st h)) j
 
@@ -128,7 +128,7 @@ broken-row up times x =
 
 -- by the code's writes
 pub broken-written : (s : List ℕ) (place : ℕ) (up : Bool) (times : ℕ) (w : Written) → w ≡ record { kind = getD s place 0; value = getD s (place + 1) 0; dots = getD s (place + 2) 0 } → (m : NoteRow)
-    → m ≡ brokenRow up times (record { kind = w .kind; value = w .value; dots = w .dots; marks = 0; beam = 0; actual = 0; normal = 0; boundary = 0; pitches = 0 })
+    → m ≡ brokenRow up times (record { kind = w .kind; value = w .value; dots = w .dots; flags = 0; beam = 0; actual = 0; normal = 0; boundary = 0; pitches = 0 })
     → (s′ : List ℕ) → s′ ≡ splice s (place + 1) (m .value ∷ m .dots ∷ []) → s′ ≡ brokenStore s place up times
 unfolding brokenRow
 broken-written s place up times w dw m dm s′ e =
@@ -140,8 +140,8 @@ unfolding onBroken
 broken-at up times zero l h = absurd (not-suc-le-zero h)
 broken-at up times (suc i) l h = refl
 
-waits-held : {t : Tables} {s : List ℕ} {r : Registers} (up : Bool) (times : ℕ) (l : LogState) → Held t s r [] l
-    → Held t s (halfWaits r (half.Waits up times)) [] (setLine (withHalf (some (record { up = up; times = times })) (l .line)) l)
+waits-held : {t : Tables} {s : List ℕ} {r : Registers} (up : Bool) (times : ℕ) (l : LogState) → Represents t s r [] l
+    → Represents t s (halfWaits r (half.Waits up times)) [] (setLine (withHalf (some (record { up = up; times = times })) (l .line)) l)
 waits-held up times l h =
     record {
       stored = h .stored;
@@ -158,30 +158,30 @@ waits-held up times l h =
       verse-is = h .verse-is;
     }
 
-module _ {t : Tables} {s : List ℕ} {r : Registers} (room : Room t (r .counts) (length s) 0 0 0 0) (a : Holding t s r) (up : Bool) (times : ℕ) where
+module _ {t : Tables} {s : List ℕ} {r : Registers} (room : Room t (r .counts) (length s) 0 0 0 0) (a : RepresentedInLine t s r) (up : Bool) (times : ℕ) where
   -- no last note
-  pub broken-none : placeOf r ≡ 0 → Does t s r s r 0 0 0 0 (λ l. onToken l (token.broken up times))
+  pub broken-none : placeOf r ≡ 0 → Simulates t s r s r 0 0 0 0 (λ l. onToken l (token.broken up times))
   unfolding onToken onBroken
   broken-none z =
       record {
         only = only-none (t .heads) (t .end) s;
         grows = same-counts (r .counts);
-        holds = λ l st h. subst (λ (p : ℕ). Held t s r [] (onBroken up times p l)) (sym z ∙ place-is l st h) h;
+        holds = λ l st h. subst (λ (p : ℕ). Represents t s r [] (onBroken up times p l)) (sym z ∙ place-is l st h) h;
       }
 
   pub broken-does : 0 < placeOf r → (s′ : List ℕ) → s′ ≡ brokenStore s (t .notes + 16 * (placeOf r - 1)) up times
-      → Does t s r s′ (halfWaits r (half.Waits (not up) times)) 0 0 0 0 (λ l. onToken l (token.broken up times))
+      → Simulates t s r s′ (halfWaits r (half.Waits (not up) times)) 0 0 0 0 (λ l. onToken l (token.broken up times))
   unfolding onToken
   broken-does is s′ e =
       let place = t .notes + 16 * (placeOf r - 1) in
       let bytes = valueBytes (brokenValue up times (getD s (place + 1) 0) (getD s (place + 2) 0)) in
       record {
-        only = last-only room s′ 1 bytes e (omega arith) is (a .state) (a .standing) (a .held);
+        only = last-only room s′ 1 bytes e (omega arith) is (a .state) (a .standing) (a .represents);
         grows = same-counts (r .counts);
         holds =
             λ l st h.
             let x = getD (l .log) (placeOf r - 1) someNote in
-            subst (Held t s′ (halfWaits r (half.Waits (not up) times)) []) (broken-at up times (lastPlace l) l (omega (arith, is, place-is l st h)))
+            subst (Represents t s′ (halfWaits r (half.Waits (not up) times)) []) (broken-at up times (lastPlace l) l (omega (arith, is, place-is l st h)))
             (waits-held (not up) times (setLog (atPlace (lastPlace l) (brokenNote (record { up = up; times = times })) (l .log)) l)
             (last-held room s′ 1 bytes e (omega arith) is l st h (brokenNote (record { up = up; times = times })) (broken-pitches (record { up = up; times = times }))
             ((λ i. splice (noteRow x) 1 (valueBytes (brokenValue up times (value-is is l st h i) (dots-is is l st h i)))) ∙ broken-row up times x)));
@@ -220,7 +220,7 @@ unfolding beamedAgain
 again-pitches zero x = by-test (canBeam x) (λ y. rw y) (λ n. rw n)
 again-pitches (suc run) x = refl
 
-runs-held : {t : Tables} {s : List ℕ} {r : Registers} (run n : ℕ) → run ≡ min 2 n → (l : LogState) → Held t s r [] l → Held t s (runs r run) [] (setLine (withRun n (l .line)) l)
+runs-held : {t : Tables} {s : List ℕ} {r : Registers} (run n : ℕ) → run ≡ min 2 n → (l : LogState) → Represents t s r [] l → Represents t s (runs r run) [] (setLine (withRun n (l .line)) l)
 runs-held run n e l h =
     record {
       stored = h .stored;
@@ -241,9 +241,9 @@ none-at : (log : List (ℕ × Note)) → noteAt 0 log ≡ none
 unfolding noteAt
 none-at log = refl
 
-module _ {t : Tables} {s : List ℕ} {r : Registers} (room : Room t (r .counts) (length s) 0 0 0 0) (a : Holding t s r) where
+module _ {t : Tables} {s : List ℕ} {r : Registers} (room : Room t (r .counts) (length s) 0 0 0 0) (a : RepresentedInLine t s r) where
   -- no last note
-  pub nothing-none : placeOf r ≡ 0 → Does t s r s (runs r 0) 0 0 0 0 (λ l. onToken l token.nothing)
+  pub nothing-none : placeOf r ≡ 0 → Simulates t s r s (runs r 0) 0 0 0 0 (λ l. onToken l token.nothing)
   unfolding onToken onNothing
   nothing-none z =
       record {
@@ -251,19 +251,19 @@ module _ {t : Tables} {s : List ℕ} {r : Registers} (room : Room t (r .counts) 
         grows = same-counts (r .counts);
         holds =
             λ l st h.
-            subst (λ (n : Option Note). Held t s (runs r 0) [] (onNothing (lastPlace l) n l)) (sym (none-at (l .log)) ∙ ap (λ (p : ℕ). noteAt p (l .log)) (sym z ∙ place-is l st h))
+            subst (λ (n : Option Note). Represents t s (runs r 0) [] (onNothing (lastPlace l) n l)) (sym (none-at (l .log)) ∙ ap (λ (p : ℕ). noteAt p (l .log)) (sym z ∙ place-is l st h))
             (runs-held 0 0 refl l h);
       }
 
   pub nothing-does : 0 < placeOf r → (kind value : ℕ) → kind ≡ getD s (t .notes + 16 * (placeOf r - 1)) 0 → value ≡ getD s (t .notes + 16 * (placeOf r - 1) + 1) 0
       → (s′ : List ℕ) → s′ ≡ againStore s (t .notes + 16 * (placeOf r - 1)) (r .line .run) kind value
-      → Does t s r s′ (runs r (runAgain (r .line .run) kind value)) 0 0 0 0 (λ l. onToken l token.nothing)
+      → Simulates t s r s′ (runs r (runAgain (r .line .run) kind value)) 0 0 0 0 (λ l. onToken l token.nothing)
   unfolding onToken onNothing
   nothing-does is kind value ek ev s′ e =
       let bytes = againBeam (r .line .run) kind value in
       let short : 4 + length bytes ≤ 16 = omega (arith, again-short (r .line .run) kind value) in
       record {
-        only = last-only room s′ 4 bytes e short is (a .state) (a .standing) (a .held);
+        only = last-only room s′ 4 bytes e short is (a .state) (a .standing) (a .represents);
         grows = same-counts (r .counts);
         holds =
             λ l st h.
@@ -273,7 +273,7 @@ module _ {t : Tables} {s : List ℕ} {r : Registers} (room : Room t (r .counts) 
             let v = ev ∙ value-is is l st h in
             let at : noteAt (lastPlace l) (l .log) ≡ some (x .1) =
             ap (λ (p : ℕ). noteAt p (l .log)) (sym (place-is l st h)) ∙ note-at (placeOf r) (l .log) someNote is (place-most l st h) in
-            subst (λ (n : Option Note). Held t s′ (runs r (runAgain (r .line .run) kind value)) [] (onNothing (lastPlace l) n l)) (sym at)
+            subst (λ (n : Option Note). Represents t s′ (runs r (runAgain (r .line .run) kind value)) [] (onNothing (lastPlace l) n l)) (sym at)
             (runs-held (runAgain (r .line .run) kind value) (runAfter (l .line .run) (x .1)) ((λ i. runAgain (run i) (k i) (v i)) ∙ run-is (l .line .run) (x .1))
             (setLog (atPlace (lastPlace l) (beamedAgain (l .line .run)) (l .log)) l)
             (last-held room s′ 4 bytes e short is l st h (beamedAgain (l .line .run)) (again-pitches (l .line .run))
@@ -281,7 +281,7 @@ module _ {t : Tables} {s : List ℕ} {r : Registers} (room : Room t (r .counts) 
       }
 
 -- FROM THE CODE'S VALUES: the place read, and the registers given back
-module _ {t : Tables} {s : List ℕ} {r : Registers} (room : Room t (r .counts) (length s) 0 0 0 0) (a : Holding t s r) (p : ℕ) (ep : p ≡ placeOf r) where
+module _ {t : Tables} {s : List ℕ} {r : Registers} (room : Room t (r .counts) (length s) 0 0 0 0) (a : RepresentedInLine t s r) (p : ℕ) (ep : p ≡ placeOf r) where
   -- there is room for its row
   pub row-inside : t .notes + 16 * p ≤ length s
   row-inside = omega (arith, ep, place-small a, room .for-notes, room .for-pitches, room .for-scopes, room .ends)
@@ -290,11 +290,11 @@ module _ {t : Tables} {s : List ℕ} {r : Registers} (room : Room t (r .counts) 
   some-place n = omega (arith, ep)
 
   -- of the store and registers given back
-  given : {s₀ s′ : List ℕ} {x₀ x : Registers} (f : LogState → LogState) → s′ ≡ s₀ → x ≡ x₀ → Does t s r s₀ x₀ 0 0 0 0 f → Does t s r s′ x 0 0 0 0 f
-  given {s₀} {s′} {x₀} {x} f e ex h = subst (λ (y : Registers). Does t s r s′ y 0 0 0 0 f) (sym ex) (subst (λ (q : List ℕ). Does t s r q x₀ 0 0 0 0 f) (sym e) h)
+  given : {s₀ s′ : List ℕ} {x₀ x : Registers} (f : LogState → LogState) → s′ ≡ s₀ → x ≡ x₀ → Simulates t s r s₀ x₀ 0 0 0 0 f → Simulates t s r s′ x 0 0 0 0 f
+  given {s₀} {s′} {x₀} {x} f e ex h = subst (λ (y : Registers). Simulates t s r s′ y 0 0 0 0 f) (sym ex) (subst (λ (q : List ℕ). Simulates t s r q x₀ 0 0 0 0 f) (sym e) h)
 
   pub broken-by : (up : Bool) (times : ℕ) (s′ : List ℕ) → s′ ≡ brokenIn s (t .notes) p up times → (x : Registers) → x ≡ halfWaits r (halfAfter (not (eqb p 0)) (r .waiting .half) (not up) times)
-      → Does t s r s′ x 0 0 0 0 (λ l. onToken l (token.broken up times))
+      → Simulates t s r s′ x 0 0 0 0 (λ l. onToken l (token.broken up times))
   unfolding brokenIn halfAfter
   broken-by up times s′ e x ex =
       by-test (eqb p 0)
@@ -304,7 +304,7 @@ module _ {t : Tables} {s : List ℕ} {r : Registers} (room : Room t (r .counts) 
       (broken-does room a up times (some-place (eqb-false p 0 n)) (brokenStore s (t .notes + 16 * (p - 1)) up times) (ap (λ (q : ℕ). brokenStore s (t .notes + 16 * (q - 1)) up times) ep)))
 
   pub nothing-by : (s′ : List ℕ) → s′ ≡ againIn s (t .notes) p (r .line .run) → (run : ℕ) → run ≡ againRun s (t .notes) p (r .line .run) → (x : Registers) → x ≡ runs r run
-      → Does t s r s′ x 0 0 0 0 (λ l. onToken l token.nothing)
+      → Simulates t s r s′ x 0 0 0 0 (λ l. onToken l token.nothing)
   unfolding againIn againRun
   nothing-by s′ e run er x ex =
       by-test (eqb p 0)

@@ -4,7 +4,7 @@ ghost use Prim.Native.Nat.{_+_, _*_, _≤_, _<_};
 ghost use lib.ListN.{length};
 ghost use Rattle.reader.specs.Token as token;
 ghost use Rattle.part_layout.specs.Log.{onToken};
-ghost use Rattle.part_invariant.specs.Held.{Room, Holding, Does};
+ghost use Rattle.part_invariant.specs.Invariant.{Room, RepresentedInLine, Simulates};
 ghost use Rattle.part_rhythm.specs.Rhythm.{brokenStore, brokenIn, againStore, againIn, againRun, placeOf, halfAfter, halfWaits, runs};
 use part_registers::Half;
 use part_registers::Registers;
@@ -35,7 +35,7 @@ fn break_note(store: &mut [u8], at: usize, i: usize, up: bool, times: u8)
         kind: w.kind,
         value: w.value,
         dots: w.dots,
-        marks: 0,
+        flags: 0,
         beam: 0,
         actual: 0,
         normal: 0,
@@ -99,8 +99,8 @@ fn break_at(store: &mut [u8], at: usize, place: u32, up: bool, times: u8)
 
 // `times` signs `>` (up) or `<`: the voice's last note, and a half for the next one. Nothing, where there is no last note.
 pub fn on_broken(store: &mut [u8], t: Tables, r: Registers, up: bool, times: u8) -> Registers
-    requires { ⌜ Room t (r .counts) (length (now store)) 0 0 0 0 × Holding t (now store) r ⌝ }
-    ensures { λ x. ⌜ Does t (now (store .entry)) r (now (store .exit)) x 0 0 0 0 (λ l. onToken l (token.broken up times)) ⌝ }
+    requires { ⌜ Room t (r .counts) (length (now store)) 0 0 0 0 × RepresentedInLine t (now store) r ⌝ }
+    ensures { λ x. ⌜ Simulates t (now (store .entry)) r (now (store .exit)) x 0 0 0 0 (λ l. onToken l (token.broken up times)) ⌝ }
 {
     let place = last_place(r);
     break_at(store, t.notes, place, up, times);
@@ -114,7 +114,7 @@ fn beam_again(store: &mut [u8], at: usize, i: usize, run: u8, kind: u8, value: u
     requires { ⌜ at + 16 * i + 16 ≤ length (now store) ⌝ }
     ensures { λ _. ⌜ now (store .exit) ≡ againStore (now (store .entry)) (at + 16 * i) run kind value ⌝ }
 {
-    if part_registers::can_beam(kind, value) {
+    if part_registers::abc_note_is_beamable(kind, value) {
         if run == 0 {
             return;
         }
@@ -149,8 +149,8 @@ fn run_again(store: &mut [u8], at: usize, place: u32, run: u8) -> u8
 
 // An empty chord, or an accidental without a note: the beam step on the voice's last note. Where there is none, no beam runs.
 pub fn on_nothing(store: &mut [u8], t: Tables, r: Registers) -> Registers
-    requires { ⌜ Room t (r .counts) (length (now store)) 0 0 0 0 × Holding t (now store) r ⌝ }
-    ensures { λ x. ⌜ Does t (now (store .entry)) r (now (store .exit)) x 0 0 0 0 (λ l. onToken l token.nothing) ⌝ }
+    requires { ⌜ Room t (r .counts) (length (now store)) 0 0 0 0 × RepresentedInLine t (now store) r ⌝ }
+    ensures { λ x. ⌜ Simulates t (now (store .entry)) r (now (store .exit)) x 0 0 0 0 (λ l. onToken l token.nothing) ⌝ }
 {
     let place = last_place(r);
     let run = run_again(store, t.notes, place, r.line.run);

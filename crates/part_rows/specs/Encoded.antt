@@ -21,8 +21,8 @@ abbrev pub scopeRowWidth : ℕ
 scopeRowWidth = 8
 
 -- a note's flags but the last, which is known at the end only
-unfoldable pub marksByte : Flags → ℕ
-marksByte f = bit (f .tieStart) 1 + bit (f .tieEnd) 2 + bit (f .slurStart) 4 + bit (f .slurEnd) 8 + bit (f .grace) 16
+unfoldable pub flagsByte : Flags → ℕ
+flagsByte f = bit (f .tieStart) 1 + bit (f .tieEnd) 2 + bit (f .slurStart) 4 + bit (f .slurEnd) 8 + bit (f .grace) 16
 
 -- a note as the code has it
 abbrev pub rowFor : Note → NoteRow
@@ -31,7 +31,7 @@ rowFor n =
       kind = kindCode (n .kind);
       value = n .value;
       dots = n .dots;
-      marks = marksByte (n .flags);
+      flags = flagsByte (n .flags);
       beam = beamCode (n .beam);
       actual = n .group .actual;
       normal = n .group .normal;
@@ -42,7 +42,7 @@ rowFor n =
 -- its 16 bytes: the note record's 12 but flag 32, the voice, three zeros
 unfoldable pub rowBytes : NoteRow → ℕ → List ℕ
 rowBytes n voice =
-    (n .kind ∷ n .value ∷ n .dots ∷ n .marks ∷ [])
+    (n .kind ∷ n .value ∷ n .dots ∷ n .flags ∷ [])
     ++ (n .beam ∷ n .actual ∷ n .normal ∷ n .boundary ∷ [])
     ++ le32 (n .pitches)
     ++ (voice ∷ 0 ∷ 0 ∷ 0 ∷ [])

@@ -12,7 +12,7 @@ pub struct NoteRow {
     pub kind: u8,
     pub value: u8,
     pub dots: u8,
-    pub marks: u8,
+    pub flags: u8,
     pub beam: u8,
     pub actual: u8,
     pub normal: u8,
@@ -43,7 +43,7 @@ pub fn put_note(store: &mut [u8], at: usize, i: usize, n: NoteRow, voice: u8)
     ensures { λ _. ⌜ now (store .exit) ≡ splice (now (store .entry)) (at + 16 * i) (rowBytes n voice) ⌝ }
 {
     let place = at + 16 * i;
-    store::put_4(store, place, n.kind, n.value, n.dots, n.marks);
+    store::put_4(store, place, n.kind, n.value, n.dots, n.flags);
     store::put_4(store, place + 4, n.beam, n.actual, n.normal, n.boundary);
     store::put_u32(store, place + 8, n.pitches);
     store::put_4(store, place + 12, voice, 0, 0, 0);

@@ -8,15 +8,15 @@ use native.Mathlib.Omega.{arith}
 use lib.Dec.{eqb}
 use lib.ListN.{length, getD, take, drop, length-append, drop-of-length-le}
 use borrow.Author.Tests.{eq-eqb, ne-eqb}
-use Rattle.laws.specs.Lists.{keep, sum}
+use Rattle.laws.specs.Lists.{filter, sum}
 use Rattle.laws.specs.Bytes.{part, between}
 use Rattle.laws.proofs.Bools.{by-test}
-use Rattle.laws.proofs.Lists.{drop-next, keep-le}
+use Rattle.laws.proofs.Lists.{drop-next, filter-le}
 use Rattle.laws.proofs.Parts.{part-all, length-between, between-first, between-none, between-cut}
 use Rattle.standard.specs.Pitches.{isLetter}
-use Rattle.reader.specs.Scan.{Item, born, reset, headed, keyed, metered, sung, played, Items}
-use Rattle.reader.specs.Steps.{mine}
-use Rattle.bounds.specs.Prices.{musicBytes, lyricBytes, itemBytes}
+use Rattle.reader.specs.Scan.{Item, voiceDeclared, reset, keyInHeader, keyChange, meterChange, lyricLine, musicLine, Items}
+use Rattle.reader.specs.Steps.{itemsOf}
+use Rattle.bounds.specs.Weights.{musicBytes, lyricBytes, itemBytes}
 use Rattle.capacity.specs.Sizes.{isBar, isRest, isSign, bars, letters, rests, signs}
 use Rattle.capacity.specs.Music.{musicIn, musicOf}
 use Rattle.capacity.proofs.Tokens.{bars-both, letters-both, rests-both, signs-both}
@@ -34,7 +34,7 @@ one-most true = omega arith
 one-most false = omega arith
 
 -- what one byte can make
-count-one : (p : ℕ → Bool) (c : ℕ) → length (keep p (c ∷ [])) ≡ cond (p c) 1 0
+count-one : (p : ℕ → Bool) (c : ℕ) → length (filter p (c ∷ [])) ≡ cond (p c) 1 0
 count-one p c = by-test (p c) (λ e. rw e) (λ e. rw e)
 
 pub byte-more : (m : Made) (c : ℕ)
@@ -83,19 +83,19 @@ none-more l =
 -- no more than there are bytes
 bars-most : (l : List ℕ) → bars l ≤ length l
 unfolding bars
-bars-most l = keep-le isBar l
+bars-most l = filter-le isBar l
 
 letters-most : (l : List ℕ) → letters l ≤ length l
 unfolding letters
-letters-most l = keep-le isLetter l
+letters-most l = filter-le isLetter l
 
 rests-most : (l : List ℕ) → rests l ≤ length l
 unfolding rests
-rests-most l = keep-le isRest l
+rests-most l = filter-le isRest l
 
 signs-most : (l : List ℕ) → signs l ≤ length l
 unfolding signs
-signs-most l = keep-le isSign l
+signs-most l = filter-le isSign l
 
 -- A BLOCK from `at` up to e, of which the bytes before i are counted
 module _ (line : List ℕ) (at e : ℕ) where
@@ -180,7 +180,7 @@ line-music (suc (suc (suc (suc (suc (suc k)))))) text r h = refl
 
 -- the music of an item, if it is the part's
 abbrev ownMusic : ℕ → ℕ × Item → List ℕ
-ownMusic p x = musicOf (mine p (x ∷ []))
+ownMusic p x = musicOf (itemsOf p (x ∷ []))
 
 own : (p : ℕ) (x : ℕ × Item) → eqb (x .0) p ≡ true → ownMusic p x ≡ musicIn (x .1)
 own p x e = rw e (append-nil (musicIn (x .1)))
@@ -213,10 +213,10 @@ module _ (text : List ℕ) (q r : Row) (p : ℕ) (m : Made) (is : RowIs text q r
 
 -- THE ITEMS
 -- the first and the others
-mine-first : (p : ℕ) (x : ℕ × Item) (xs : Items) → musicOf (mine p (x ∷ xs)) ≡ ownMusic p x ++ musicOf (mine p xs)
+mine-first : (p : ℕ) (x : ℕ × Item) (xs : Items) → musicOf (itemsOf p (x ∷ xs)) ≡ ownMusic p x ++ musicOf (itemsOf p xs)
 mine-first p x xs =
     by-test (eqb (x .0) p)
-    (λ e. rw e (ap (λ (l : List ℕ). l ++ musicOf (mine p xs)) (sym (append-nil (musicIn (x .1))))))
+    (λ e. rw e (ap (λ (l : List ℕ). l ++ musicOf (itemsOf p xs)) (sym (append-nil (musicIn (x .1))))))
     (λ e. rw e)
 
 -- item i and those behind it
@@ -228,13 +228,13 @@ items-next text s n i h =
 
 music-bytes : (x : Item) → length (musicIn x) ≡ musicBytes x
 unfolding musicIn musicBytes
-music-bytes (born b) = refl
+music-bytes (voiceDeclared b) = refl
 music-bytes reset = refl
-music-bytes headed = refl
-music-bytes (keyed k) = refl
-music-bytes (metered m) = refl
-music-bytes (sung b t) = refl
-music-bytes (played u m l) = refl
+music-bytes keyInHeader = refl
+music-bytes (keyChange k) = refl
+music-bytes (meterChange m) = refl
+music-bytes (lyricLine b t) = refl
+music-bytes (musicLine u m l) = refl
 
 -- a part's bytes: its music and its lyrics
 pub bytes-in : (is : List Item) → length (musicOf is) + sum lyricBytes is ≡ sum itemBytes is
@@ -248,15 +248,15 @@ module _ (text s : List ℕ) (n p : ℕ) where
   items = itemsIn text s n
 
   abbrev music : List ℕ
-  music = musicOf (mine p items)
+  music = musicOf (itemsOf p items)
 
-  pub items-start : more noneMade (musicOf (mine p (drop 0 items))) ≡ madeOf music
+  pub items-start : more noneMade (musicOf (itemsOf p (drop 0 items))) ≡ madeOf music
   items-start = none-more music
 
-  module _ (q : Made) (i : ℕ) (left : more q (musicOf (mine p (drop i items))) ≡ madeOf music) where
-    pub items-few : (k : ℕ) → sum itemBytes (mine p items) + k < 2 ^ 64 → Few q k
+  module _ (q : Made) (i : ℕ) (left : more q (musicOf (itemsOf p (drop i items))) ≡ madeOf music) where
+    pub items-few : (k : ℕ) → sum itemBytes (itemsOf p items) + k < 2 ^ 64 → Few q k
     items-few k h =
-        let b = bytes-in (mine p items) in
+        let b = bytes-in (itemsOf p items) in
         record {
           bars = omega (arith, bars-most music, b, ap (λ (x : Made). x .bars) left);
           letters = omega (arith, letters-most music, b, ap (λ (x : Made). x .letters) left);
@@ -264,17 +264,17 @@ module _ (text s : List ℕ) (n p : ℕ) where
           signs = omega (arith, signs-most music, b, ap (λ (x : Made). x .signs) left);
         }
 
-    pub items-more : (q′ : Made) → i < n → q′ ≡ more q (ownMusic p (itemIn text (itemAt s i))) → more q′ (musicOf (mine p (drop (i + 1) items))) ≡ madeOf music
+    pub items-more : (q′ : Made) → i < n → q′ ≡ more q (ownMusic p (itemIn text (itemAt s i))) → more q′ (musicOf (itemsOf p (drop (i + 1) items))) ≡ madeOf music
     items-more q′ h e =
         let x = itemIn text (itemAt s i) in
         let rest = drop (i + 1) items in
-        ap (λ (m : Made). more m (musicOf (mine p rest))) e
-        ∙ more-both q (ownMusic p x) (musicOf (mine p rest))
-        ∙ ap (more q) (sym (mine-first p x rest) ∙ ap (λ (a : Items). musicOf (mine p a)) (sym (items-next text s n i h)))
+        ap (λ (m : Made). more m (musicOf (itemsOf p rest))) e
+        ∙ more-both q (ownMusic p x) (musicOf (itemsOf p rest))
+        ∙ ap (more q) (sym (mine-first p x rest) ∙ ap (λ (a : Items). musicOf (itemsOf p a)) (sym (items-next text s n i h)))
         ∙ left
 
     pub items-over : n ≤ i → q ≡ madeOf music
     items-over h =
         sym (more-none q)
-        ∙ ap (λ (a : Items). more q (musicOf (mine p a))) (sym (drop-of-length-le items {i = i} (rw (length-items text s n) h)))
+        ∙ ap (λ (a : Items). more q (musicOf (itemsOf p a))) (sym (drop-of-length-le items {i = i} (rw (length-items text s n) h)))
         ∙ left

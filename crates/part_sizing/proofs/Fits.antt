@@ -9,13 +9,13 @@ use native.Mathlib.Omega.{arith}
 use lib.Dec.{eqb}
 use lib.ListN.{length}
 use borrow.Author.Tests.{eqb-true}
-use Rattle.laws.specs.Lists.{keep, sum}
+use Rattle.laws.specs.Lists.{filter, sum}
 use Rattle.laws.specs.Bytes.{between, rows}
 use Rattle.laws.proofs.Bools.{by-test, and-left, and-right, or-either}
 use Rattle.standard.specs.Bytes.{is}
 use Rattle.standard.specs.Pitches.{isLetter}
-use Rattle.reader.specs.Steps.{mine}
-use Rattle.bounds.specs.Prices.{lyricBytes}
+use Rattle.reader.specs.Steps.{itemsOf}
+use Rattle.bounds.specs.Weights.{lyricBytes}
 use Rattle.capacity.specs.Sizes.{isBar, isRest, isSign, bars, letters, rests, signs, tones}
 use Rattle.scan_table.specs.declared.Row.{Row}
 use Rattle.scan_table.specs.Rows.{decItem, itemAs, itemIn, itemsIn}
@@ -38,19 +38,19 @@ Paid c = 28 * one (isBar c) + 25 * one (isLetter c) + 20 * one (isRest c) + 8 * 
 at-byte : (k c : ℕ) → Paid k → eqb c k ≡ true → Paid c
 at-byte k c h e = rw (eqb-true c k e) h
 
-letter-paid : (b : Bool) → 25 * one b ≤ 28
-letter-paid true = omega arith
-letter-paid false = omega arith
+letter-covered : (b : Bool) → 25 * one b ≤ 28
+letter-covered true = omega arith
+letter-covered false = omega arith
 
-bar-paid : (c : ℕ) → isBar c ≡ true → Paid c
-bar-paid c e = go (or-either (is "|" c) (is ":" c) e)
+bar-covered : (c : ℕ) → isBar c ≡ true → Paid c
+bar-covered c e = go (or-either (is "|" c) (is ":" c) e)
   where
     go : (is "|" c ≡ true) ⊎ (is ":" c ≡ true) → Paid c
     go (inl h) = at-byte 124 c (omega arith) h
     go (inr h) = at-byte 58 c (omega arith) h
 
-rest-paid : (c : ℕ) → isRest c ≡ true → Paid c
-rest-paid c e = go (or-either (is "z" c || is "x" c || is "Z" c) (is "X" c) e)
+rest-covered : (c : ℕ) → isRest c ≡ true → Paid c
+rest-covered c e = go (or-either (is "z" c || is "x" c || is "Z" c) (is "X" c) e)
   where
     two : (is "z" c ≡ true) ⊎ (is "x" c ≡ true) → Paid c
     two (inl h) = at-byte 122 c (omega arith) h
@@ -64,8 +64,8 @@ rest-paid c e = go (or-either (is "z" c || is "x" c || is "Z" c) (is "X" c) e)
     go (inl h) = three (or-either (is "z" c || is "x" c) (is "Z" c) h)
     go (inr h) = at-byte 88 c (omega arith) h
 
-sign-paid : (c : ℕ) → isSign c ≡ true → Paid c
-sign-paid c e = go (or-either (is "^" c || is "_" c) (is "=" c) e)
+sign-covered : (c : ℕ) → isSign c ≡ true → Paid c
+sign-covered c e = go (or-either (is "^" c || is "_" c) (is "=" c) e)
   where
     two : (is "^" c ≡ true) ⊎ (is "_" c ≡ true) → Paid c
     two (inl h) = at-byte 94 c (omega arith) h
@@ -75,27 +75,27 @@ sign-paid c e = go (or-either (is "^" c || is "_" c) (is "=" c) e)
     go (inl h) = two (or-either (is "^" c) (is "_" c) h)
     go (inr h) = at-byte 61 c (omega arith) h
 
-byte-paid : (c : ℕ) → Paid c
-byte-paid c =
-    by-test (isBar c) (bar-paid c)
-    (λ a. by-test (isRest c) (rest-paid c)
-    (λ b. by-test (isSign c) (sign-paid c) (λ d. rw (a, b, d) (omega (arith, letter-paid (isLetter c))))))
+byte-covered : (c : ℕ) → Paid c
+byte-covered c =
+    by-test (isBar c) (bar-covered c)
+    (λ a. by-test (isRest c) (rest-covered c)
+    (λ b. by-test (isSign c) (sign-covered c) (λ d. rw (a, b, d) (omega (arith, letter-covered (isLetter c))))))
 
 -- MUSIC
-count-cons : (p : ℕ → Bool) (c : ℕ) (l : List ℕ) → length (keep p (c ∷ l)) ≡ one (p c) + length (keep p l)
+count-cons : (p : ℕ → Bool) (c : ℕ) (l : List ℕ) → length (filter p (c ∷ l)) ≡ one (p c) + length (filter p l)
 count-cons p c l = by-test (p c) (λ e. rw e (omega arith)) (λ e. rw e (omega arith))
 
-music-paid : (l : List ℕ) → 28 * bars l + 25 * letters l + 20 * rests l + 8 * signs l ≤ 28 * length l
+music-covered : (l : List ℕ) → 28 * bars l + 25 * letters l + 20 * rests l + 8 * signs l ≤ 28 * length l
 unfolding bars letters rests signs
-music-paid [] = omega arith
-music-paid (c ∷ l) = omega (arith, music-paid l, byte-paid c, count-cons isBar c l, count-cons isLetter c l, count-cons isRest c l, count-cons isSign c l)
+music-covered [] = omega arith
+music-covered (c ∷ l) = omega (arith, music-covered l, byte-covered c, count-cons isBar c l, count-cons isLetter c l, count-cons isRest c l, count-cons isSign c l)
 
 -- LYRICS: the rows that the lyric lines of a part can need
 lyric-five : (k : ℕ) (text : List ℕ) (r : Row) → k ≡ 5 → lyricBytes (itemAs k text r) ≡ length (between text (r .at) (r .end))
 unfolding itemAs lyricBytes
 lyric-five k text r e = ap (λ (j : ℕ). lyricBytes (itemAs j text r)) e
 
-lines-rows : (text : List ℕ) (p : ℕ) (rs : List Row) → rowsOf (map (lineIn text) (keep (isLine p) rs)) ≤ sum lyricBytes (mine p (map (itemIn text) rs))
+lines-rows : (text : List ℕ) (p : ℕ) (rs : List Row) → rowsOf (map (lineIn text) (filter (isLine p) rs)) ≤ sum lyricBytes (itemsOf p (map (itemIn text) rs))
 unfolding rowsOf lineIn isLine itemIn
 lines-rows text p [] = omega arith
 lines-rows text p (r ∷ rs) =
@@ -106,7 +106,7 @@ lines-rows text p (r ∷ rs) =
     (λ e. rw e
     (by-test (eqb (r .part) p) (λ f. rw f (omega (arith, lines-rows text p rs))) (λ f. rw f (lines-rows text p rs))))
 
-pub rows-most : (text s : List ℕ) (p n : ℕ) → rowsOf (linesIn text s p n) ≤ sum lyricBytes (mine p (itemsIn text s n))
+pub rows-most : (text s : List ℕ) (p n : ℕ) → rowsOf (linesIn text s p n) ≤ sum lyricBytes (itemsOf p (itemsIn text s n))
 unfolding linesIn itemsIn
 rows-most text s p n = lines-rows text p (rows decItem 16 s 256 n)
 
@@ -117,13 +117,13 @@ module _ (text s : List ℕ) (n p : ℕ) (room : PartRoom text s n p) where
 
   -- the tables end early enough
   pub tables-end : (m : Made) → m ≡ made → tablesAt n m .end < 2 ^ 32
-  tables-end m e = rw e (omega (arith, room .small, bytes-in (mine p (itemsIn text s n)), music-paid (musicAt text s n p)))
+  tables-end m e = rw e (omega (arith, room .small, bytes-in (itemsOf p (itemsIn text s n)), music-covered (musicAt text s n p)))
 
   pub tables-fit : (m : Made) (t : Tables) → m ≡ made → t ≡ tablesAt n m → Sized text s n p t
   tables-fit m t e f =
       rw (f ∙ ap (tablesAt n) e)
-      (let b = bytes-in (mine p (itemsIn text s n)) in
-      let paid = music-paid (musicAt text s n p) in
+      (let b = bytes-in (itemsOf p (itemsIn text s n)) in
+      let paid = music-covered (musicAt text s n p) in
       record {
         is = refl;
         behind-items = refl;
@@ -144,7 +144,7 @@ module _ (text s : List ℕ) (n p : ℕ) (room : PartRoom text s n p) where
 pub sheet-fits : (text s : List ℕ) (n p : ℕ) (t : Tables) → Sized text s n p t → length text ≤ 67108864 → (s′ : List ℕ) → itemsIn text s′ n ≡ itemsIn text s n → length s′ ≡ length s
     → (h : Sheet) → h .heads ≡ t .scopes → h .log ≡ t .scopes + 4 * h .sounded → h .sounded ≤ tones (musicAt text s n p) → Fits text s′ n p h
 sheet-fits text s n p t z short s′ e l h at log most =
-    let few : rowsOf (linesIn text s′ p n) ≤ sum lyricBytes (mine p (itemsIn text s n)) = rw e at (rows-most text s′ p n) in
+    let few : rowsOf (linesIn text s′ p n) ≤ sum lyricBytes (itemsOf p (itemsIn text s n)) = rw e at (rows-most text s′ p n) in
     record {
       before-heads = omega (arith, at, z .behind-items, z .rest .for-heads, z .rest .for-notes, z .rest .for-pitches);
       apart = omega (arith, at, log);

@@ -4,25 +4,25 @@ use mathlib.Core.Path.{_≡_}
 use mathlib.Core.List.{List}
 use lib.ListN.{length}
 use Rattle.laws.specs.Lists.{sum}
-use Rattle.reader.specs.Steps.{mine}
-use Rattle.bounds.specs.Prices.{lyricBytes, itemBytes}
+use Rattle.reader.specs.Steps.{itemsOf}
+use Rattle.bounds.specs.Weights.{lyricBytes, itemBytes}
 use Rattle.capacity.specs.Sizes.{tones}
 use Rattle.capacity.specs.Music.{musicOf}
 use Rattle.scan_table.specs.Rows.{itemsIn}
 use Rattle.part_registers.specs.declared.Tables.{Tables}
 use Rattle.part_registers.specs.declared.Counts.{Counts}
-use Rattle.part_invariant.specs.Lines.{Rest}
+use Rattle.part_invariant.specs.Lines.{RoomForBytes}
 use Rattle.part_sizing.specs.Counting.{madeOf, tablesAt}
 
 -- behind the line table there are 28 bytes for a first measure and for each byte of the part's lines
 pub record PartRoom (text s : List ℕ) (n part : ℕ) : Type 0 where
-  pub fits : 256 + 16 * n + 28 + 28 * sum itemBytes (mine part (itemsIn text s n)) ≤ length s
-  pub small : 256 + 16 * n + 28 + 28 * sum itemBytes (mine part (itemsIn text s n)) < 2 ^ 32
+  pub fits : 256 + 16 * n + 28 + 28 * sum itemBytes (itemsOf part (itemsIn text s n)) ≤ length s
+  pub small : 256 + 16 * n + 28 + 28 * sum itemBytes (itemsOf part (itemsIn text s n)) < 2 ^ 32
   pub short : length text ≤ 67108864
 
 -- the part's music
 abbrev pub musicAt : List ℕ → List ℕ → ℕ → ℕ → List ℕ
-musicAt text s n part = musicOf (mine part (itemsIn text s n))
+musicAt text s n part = musicOf (itemsOf part (itemsIn text s n))
 
 abbrev pub noRows : Counts
 noRows = record { heads = 0; notes = 0; pitches = 0; scopes = 0 }
@@ -32,6 +32,6 @@ noRows = record { heads = 0; notes = 0; pitches = 0; scopes = 0 }
 pub record Sized (text s : List ℕ) (n part : ℕ) (t : Tables) : Type 0 where
   pub is : t ≡ tablesAt n (madeOf (musicAt text s n part))
   pub behind-items : t .heads ≡ 256 + 16 * n
-  pub rest : Rest t noRows (length s) (musicAt text s n part)
-  pub sheet : t .scopes + 4 * tones (musicAt text s n part) + 16 * sum lyricBytes (mine part (itemsIn text s n)) ≤ length s
-  pub few : sum lyricBytes (mine part (itemsIn text s n)) < 2 ^ 32
+  pub rest : RoomForBytes t noRows (length s) (musicAt text s n part)
+  pub sheet : t .scopes + 4 * tones (musicAt text s n part) + 16 * sum lyricBytes (itemsOf part (itemsIn text s n)) ≤ length s
+  pub few : sum lyricBytes (itemsOf part (itemsIn text s n)) < 2 ^ 32

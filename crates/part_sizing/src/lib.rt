@@ -5,7 +5,7 @@ ghost use mathlib.Core.List.{[], _∷_};
 ghost use Prim.Native.Nat.{_+_, _*_, _^_, _≤_, _<_};
 ghost use lib.ListN.{length};
 ghost use Rattle.laws.specs.Bytes.{between};
-ghost use Rattle.reader.specs.Steps.{mine};
+ghost use Rattle.reader.specs.Steps.{itemsOf};
 ghost use Rattle.capacity.specs.Sizes.{isBar, isRest, isSign};
 ghost use Rattle.capacity.specs.Music.{musicOf};
 ghost use Rattle.scan_table.specs.Rows.{itemIn, itemsIn};
@@ -147,7 +147,7 @@ fn with_line(line: &[u8], m: Made) -> Made
 // Item i more, if it is a music line of the part.
 fn with_item(text: &[u8], scratch: &[u8], i: usize, part: u8, m: Made) -> Made
     requires { ⌜ (256 + 16 * i + 16 ≤ length (now scratch)) × Few m (length (now text) + 1) ⌝ }
-    ensures { λ r. ⌜ r ≡ more m (musicOf (mine part (itemIn (now (text .entry)) (itemAt (now (scratch .entry)) i) ∷ []))) ⌝ }
+    ensures { λ r. ⌜ r ≡ more m (musicOf (itemsOf part (itemIn (now (text .entry)) (itemAt (now (scratch .entry)) i) ∷ []))) ⌝ }
 {
     let item = scan_table::get_item(text, scratch, i);
     if item.kind < 6 {
@@ -164,7 +164,7 @@ fn with_item(text: &[u8], scratch: &[u8], i: usize, part: u8, m: Made) -> Made
 // The music of a part, which is among the first n items.
 fn made_by(text: &[u8], scratch: &[u8], n: usize, part: u8) -> Made
     requires { ⌜ PartRoom (now text) (now scratch) n part ⌝ }
-    ensures { λ r. ⌜ r ≡ madeOf (musicOf (mine part (itemsIn (now (text .entry)) (now (scratch .entry)) n))) ⌝ }
+    ensures { λ r. ⌜ r ≡ madeOf (musicOf (itemsOf part (itemsIn (now (text .entry)) (now (scratch .entry)) n))) ⌝ }
 {
     let mut q = Made {
         bars: 0,

@@ -35,13 +35,13 @@ use Rattle.part_registers.specs.declared.Pending.{Pending}
 use Rattle.part_registers.specs.declared.Counts.{Counts}
 use Rattle.part_registers.specs.declared.Tables.{Tables}
 use Rattle.part_registers.specs.declared.Registers.{Registers}
-use Rattle.part_registers.specs.Notes.{marksOf}
+use Rattle.part_registers.specs.Notes.{flagsIn}
 use Rattle.part_registers.specs.States.{pendingFor}
-use Rattle.part_registers.proofs.Notes.{marks-is}
-use Rattle.part_invariant.specs.Held.{Room, Stored, Held, Holding, pitchesIn, Appendable, Appends}
+use Rattle.part_registers.proofs.Notes.{note-flags-is}
+use Rattle.part_invariant.specs.Invariant.{Room, Stored, Represents, RepresentedInLine, pitchesIn, Appendable, Appends}
 use Rattle.part_invariant.proofs.Stores.{withPitches, pitch-pushed, pitch-pushed-only, scoped-behind}
 use Rattle.part_invariant.proofs.Appending.{room-same, stored-pitches}
-use Rattle.part_sounds.specs.Sounds.{restRow, soundRow, waitsOn, Restable, Rests, Pushable, Pushes, Soundable, Sounds, NotesAs}
+use Rattle.part_sounds.specs.Sounds.{restRow, soundRow, withPending, Restable, SimulatesRest, Pushable, SimulatesPitch, Soundable, SimulatesSound, SimulatesNote}
 
 -- A REST
 pub rest-able : {t : Tables} {s : List ℕ} {r : Registers} {kind : ℕ} {l : Length} → Restable t s r kind l → Appendable t s r (restRow kind l)
@@ -51,15 +51,15 @@ rest-able {t} {s} {r} h =
       note = h .note;
       standing = h .standing;
       row-is = h .row-is;
-      held = subst (λ (ps : List standard.Pitch). Held t s r ps (h .state)) (sym (h .no-pitch)) (h .held);
+      represents = subst (λ (ps : List standard.Pitch). Represents t s r ps (h .state)) (sym (h .no-pitch)) (h .represents);
     }
 
-pub rests-as : {t : Tables} {s s′ : List ℕ} {r r′ : Registers} {kind : ℕ} {w : Length} → Appends t s r s′ r′ (restRow kind w) → Rests t s r s′ r′ kind w
+pub rests-as : {t : Tables} {s s′ : List ℕ} {r r′ : Registers} {kind : ℕ} {w : Length} → Appends t s r s′ r′ (restRow kind w) → SimulatesRest t s r s′ r′ kind w
 rests-as {t} {s} {s′} {r} a =
     record {
       only = a .only;
       grows = a .grows;
-      holds = λ l m st e z h. a .holds l m st e (subst (λ (ps : List standard.Pitch). Held t s r ps l) (sym z) h);
+      holds = λ l m st e z h. a .holds l m st e (subst (λ (ps : List standard.Pitch). Represents t s r ps l) (sym z) h);
     }
 
 -- OTHER PENDING MARKS AND OTHER SCOPES leave what stands
@@ -107,19 +107,19 @@ pushedOn r q =
       verses = r .verses;
     }
 
-module _ (t : Tables) (s : List ℕ) (r : Registers) (p : Pitch) (room : Room t (r .counts) (length s) 0 0 1 (signs (p .mark))) where
+module _ (t : Tables) (s : List ℕ) (r : Registers) (p : Pitch) (room : Room t (r .counts) (length s) 0 0 1 (signs (p .sign))) where
   pub push-overlay : Pushable t s r → r .line .overlay < 4
-  push-overlay a = omega (arith, a .overlay-4, ap (λ (x : Line). x .overlay) (a .held .line-is))
+  push-overlay a = omega (arith, a .overlay-4, ap (λ (x : Line). x .overlay) (a .represents .line-is))
 
   pub push-scopes : Pushable t s r → Scopes s (t .scopes) (r .counts .scopes) (r .key .scopes)
-  push-scopes a = record { scopes = a .state .scopes; scoped = a .held .scoped }
+  push-scopes a = record { scopes = a .state .scopes; scoped = a .represents .scoped }
 
   module _ (s₁ s₂ : List ℕ) (q : Resolved) (res : ResolvedAs s (t .scopes) (r .counts .scopes) (r .key) (r .line .overlay) p s₁ q)
       (e : s₂ ≡ splice s₁ (t .pitches + 5 * r .counts .pitches) (pitchRow (q .sounded))) where
     length₁ : length s₁ ≡ length s
     length₁ = res .only .same-length
 
-    module _ (l : LogState) (extra : List standard.Pitch) (in-four : l .line .overlay < 4) (h : Held t s r extra l) where
+    module _ (l : LogState) (extra : List standard.Pitch) (in-four : l .line .overlay < 4) (h : Represents t s r extra l) where
       o-is : r .line .overlay ≡ l .line .overlay
       o-is = ap (λ (x : Line). x .overlay) (h .line-is)
 
@@ -150,7 +150,7 @@ module _ (t : Tables) (s : List ℕ) (r : Registers) (p : Pitch) (room : Room t 
       only₂ : Only (t .heads) (t .end) s₁ s₂
       only₂ = pitch-pushed-only stored₁ s₂ (room-same length₁ room) _ (pitchRow (q .sounded)) bytes-are e
 
-      pub push-held : Held t s₂ (pushedOn r q) (extra ++ (soundOf (l .key) (getD (l .scopes) (l .line .overlay) []) (writtenOf p) ∷ []))
+      pub push-held : Represents t s₂ (pushedOn r q) (extra ++ (soundOf (l .key) (getD (l .scopes) (l .line .overlay) []) (writtenOf p) ∷ []))
           (setScopes (alterAt (l .line .overlay) (λ old. scopeAfter old (writtenOf p)) (l .scopes)) l)
       push-held =
           let b = stored-pitches stored₂ (append-assoc (pitchesIn (l .log)) extra (soundOf (l .key) (getD (l .scopes) (l .line .overlay) []) (writtenOf p) ∷ [])) in
@@ -180,27 +180,27 @@ module _ (t : Tables) (s : List ℕ) (r : Registers) (p : Pitch) (room : Room t 
             verse-is = h .verse-is;
           }
 
-    pub pushes : Pushable t s r → Pushes t s r s₂ (pushedOn r q) p
+    pub pushes : Pushable t s r → SimulatesPitch t s r s₂ (pushedOn r q) p
     pushes a =
         record {
           only =
               only-then (only-wider (res .only) (t .heads) (t .end) (omega (arith, room .for-heads, room .for-notes, room .for-pitches)) (omega (arith, room .for-scopes)))
-              (only₂ (a .state) (a .extra) (a .overlay-4) (a .held));
+              (only₂ (a .state) (a .extra) (a .overlay-4) (a .represents));
           grows = record { more-heads = omega arith; more-notes = omega arith; more-pitches = omega arith; more-scopes = res .rows-most };
           holds = λ l extra k h. push-held l extra k h;
         }
 
 -- A NOTE OR CHORD
-pub sound-row-is : (w : Length) (p : Notes.Pending) (b : Behind) (ps : List standard.Pitch) → soundRow w (marksOf (pendingFor p) (b .tie) (b .slur)) (length ps) ≡ rowFor (soundNote (asValue w) p b ps)
+pub sound-row-is : (w : Length) (p : Notes.Pending) (b : Behind) (ps : List standard.Pitch) → soundRow w (flagsIn (pendingFor p) (b .tie) (b .slur)) (length ps) ≡ rowFor (soundNote (asValue w) p b ps)
 unfolding soundNote kindCode beamCode
-sound-row-is w p b ps = ap (λ (k : ℕ). soundRow w k (length ps)) (marks-is p b)
+sound-row-is w p b ps = ap (λ (k : ℕ). soundRow w k (length ps)) (note-flags-is p b)
 
 module _ {t : Tables} {s : List ℕ} {r : Registers} (w : Length) (tie slur : Bool) (count : ℕ) where
-  module _ (l : LogState) (b : Behind) (ps : List standard.Pitch) (e : b .tie ≡ tie) (f : b .slur ≡ slur) (k : count ≡ length ps) (h : Held t s r ps l) where
-    row-for : soundRow w (marksOf (r .pending) tie slur) count ≡ rowFor (soundNote (asValue w) (l .pending) b ps)
-    row-for = (λ i. soundRow w (marksOf (h .pending-is i) (sym e i) (sym f i)) (k i)) ∙ sound-row-is w (l .pending) b ps
+  module _ (l : LogState) (b : Behind) (ps : List standard.Pitch) (e : b .tie ≡ tie) (f : b .slur ≡ slur) (k : count ≡ length ps) (h : Represents t s r ps l) where
+    row-for : soundRow w (flagsIn (r .pending) tie slur) count ≡ rowFor (soundNote (asValue w) (l .pending) b ps)
+    row-for = (λ i. soundRow w (flagsIn (h .pending-is i) (sym e i) (sym f i)) (k i)) ∙ sound-row-is w (l .pending) b ps
 
-    waits-held : Held t s (waitsOn r tie) ps (setPending (pendingAfter (l .pending) b) l)
+    waits-held : Represents t s (withPending r tie) ps (setPending (pendingAfter (l .pending) b) l)
     unfolding pendingAfter
     waits-held =
         record {
@@ -218,7 +218,7 @@ module _ {t : Tables} {s : List ℕ} {r : Registers} (w : Length) (tie slur : Bo
           verse-is = h .verse-is;
         }
 
-  pub sound-able : Soundable t s r count → Appendable t s (waitsOn r tie) (soundRow w (marksOf (r .pending) tie slur) count)
+  pub sound-able : Soundable t s r count → Appendable t s (withPending r tie) (soundRow w (flagsIn (r .pending) tie slur) count)
   unfolding soundNote
   sound-able a =
       let b : Behind = record { tie = tie; slur = slur; used = 0 } in
@@ -226,11 +226,11 @@ module _ {t : Tables} {s : List ℕ} {r : Registers} (w : Length) (tie slur : Bo
         state = setPending (pendingAfter (a .state .pending) b) (a .state);
         note = soundNote (asValue w) (a .state .pending) b (a .pitches);
         standing = standing-pending (a .state) (pendingAfter (a .state .pending) b) (a .standing);
-        row-is = row-for (a .state) b (a .pitches) refl refl (a .count-is) (a .held);
-        held = waits-held (a .state) b (a .pitches) refl refl (a .count-is) (a .held);
+        row-is = row-for (a .state) b (a .pitches) refl refl (a .count-is) (a .represents);
+        represents = waits-held (a .state) b (a .pitches) refl refl (a .count-is) (a .represents);
       }
 
-  pub sounds-as : {s′ : List ℕ} {r′ : Registers} → Appends t s (waitsOn r tie) s′ r′ (soundRow w (marksOf (r .pending) tie slur) count) → Sounds t s r s′ r′ w tie slur count
+  pub sounds-as : {s′ : List ℕ} {r′ : Registers} → Appends t s (withPending r tie) s′ r′ (soundRow w (flagsIn (r .pending) tie slur) count) → SimulatesSound t s r s′ r′ w tie slur count
   unfolding soundNote
   sounds-as a =
       record {
@@ -252,9 +252,9 @@ scope-one : (scopes : List Scope) (o : ℕ) (w : Written) → alterAt o (λ old.
 unfolding scopeAfterAll
 scope-one scopes o w = alterAt-set o (λ old. scopeAfter old w) scopes [] ∙ sym (alterAt-set o (λ old. scopeAfter (getD scopes o []) w) scopes [])
 
-module _ {t : Tables} {s s₁ : List ℕ} {r r₁ : Registers} {p : Pitch} (a : Pushes t s r s₁ r₁ p) where
+module _ {t : Tables} {s s₁ : List ℕ} {r r₁ : Registers} {p : Pitch} (a : SimulatesPitch t s r s₁ r₁ p) where
   -- room after the pitch
-  pub note-room : Room t (r .counts) (length s) 0 1 1 (signs (p .mark)) → Room t (r₁ .counts) (length s₁) 0 1 0 0
+  pub note-room : Room t (r .counts) (length s) 0 1 1 (signs (p .sign)) → Room t (r₁ .counts) (length s₁) 0 1 0 0
   note-room room =
       let g = a .grows in
       record {
@@ -266,7 +266,7 @@ module _ {t : Tables} {s s₁ : List ℕ} {r r₁ : Registers} {p : Pitch} (a : 
         small = room .small;
       }
 
-  pub note-able : Holding t s r → Soundable t s₁ r₁ 1
+  pub note-able : RepresentedInLine t s r → Soundable t s₁ r₁ 1
   note-able h =
       let l = h .state in
       record {
@@ -274,10 +274,10 @@ module _ {t : Tables} {s s₁ : List ℕ} {r r₁ : Registers} {p : Pitch} (a : 
         pitches = soundOf (l .key) (getD (l .scopes) (l .line .overlay) []) (writtenOf p) ∷ [];
         standing = standing-scopes l (alterAt (l .line .overlay) (λ old. scopeAfter old (writtenOf p)) (l .scopes)) (length-alterAt (l .line .overlay) (λ old. scopeAfter old (writtenOf p)) (l .scopes) ∙ h .standing .scopes-4) (h .standing);
         count-is = refl;
-        held = a .holds l [] (h .standing .overlay-4) (h .held);
+        represents = a .holds l [] (h .standing .overlay-4) (h .represents);
       }
 
-  pub notes-as : {s₂ : List ℕ} {r₂ : Registers} {w : Length} {tie slur : Bool} → Sounds t s₁ r₁ s₂ r₂ w tie slur 1 → NotesAs t s r s₂ r₂ p w tie slur
+  pub notes-as : {s₂ : List ℕ} {r₂ : Registers} {w : Length} {tie slur : Bool} → SimulatesSound t s₁ r₁ s₂ r₂ w tie slur 1 → SimulatesNote t s r s₂ r₂ p w tie slur
   unfolding onSound soundsOf
   notes-as {s₂} {r₂} {w} b =
       record {
@@ -294,6 +294,6 @@ module _ {t : Tables} {s s₁ : List ℕ} {r r₁ : Registers} {p : Pitch} (a : 
             let l₁ = setScopes c l in
             let st₁ = standing-scopes l c (length-alterAt o (λ old. scopeAfter old (writtenOf p)) (l .scopes) ∙ st .scopes-4) st in
             let q = b .holds l₁ e (x ∷ []) st₁ i j refl (a .holds l [] (st .overlay-4) h) in
-            subst (λ (u : Value). Held t s₂ r₂ [] (append (soundNote u (l .pending) e (x ∷ [])) (setScopes (alterAt o (λ old. scopeAfterAll (getD (l .scopes) o []) (writtenOf p ∷ [])) (l .scopes)) (setPending (pendingAfter (l .pending) e) l)))) v
-            (subst (λ (y : List Scope). Held t s₂ r₂ [] (append (soundNote (asValue w) (l .pending) e (x ∷ [])) (setScopes y (setPending (pendingAfter (l .pending) e) l)))) (scope-one (l .scopes) o (writtenOf p)) q);
+            subst (λ (u : Value). Represents t s₂ r₂ [] (append (soundNote u (l .pending) e (x ∷ [])) (setScopes (alterAt o (λ old. scopeAfterAll (getD (l .scopes) o []) (writtenOf p ∷ [])) (l .scopes)) (setPending (pendingAfter (l .pending) e) l)))) v
+            (subst (λ (y : List Scope). Represents t s₂ r₂ [] (append (soundNote (asValue w) (l .pending) e (x ∷ [])) (setScopes y (setPending (pendingAfter (l .pending) e) l)))) (scope-one (l .scopes) o (writtenOf p)) q);
       }

@@ -25,52 +25,52 @@ use Rattle.part_accidentals.specs.Resolving.{signs, writtenOf}
 use Rattle.part_registers.specs.declared.Pending.{Pending}
 use Rattle.part_registers.specs.declared.Tables.{Tables}
 use Rattle.part_registers.specs.declared.Registers.{Registers}
-use Rattle.part_registers.specs.Notes.{marksOf}
-use Rattle.part_invariant.specs.Held.{Room, Held, Grows, Appendable, Appends}
-use Rattle.part_sounds.specs.declared.Left.{Left}
+use Rattle.part_registers.specs.Notes.{flagsIn}
+use Rattle.part_invariant.specs.Invariant.{Room, Represents, Grows, Appendable, Appends}
+use Rattle.part_sounds.specs.declared.Deferred.{Deferred}
 
 -- ROWS
 abbrev pub restRow : ℕ → Length → NoteRow
 restRow kind l =
-    record { kind = kind; value = asValue l .value; dots = asValue l .dots; marks = 0; beam = 0; actual = 0; normal = 0; boundary = 0; pitches = 0 }
+    record { kind = kind; value = asValue l .value; dots = asValue l .dots; flags = 0; beam = 0; actual = 0; normal = 0; boundary = 0; pitches = 0 }
 
 abbrev pub soundRow : Length → ℕ → ℕ → NoteRow
-soundRow l marks pitches =
-    record { kind = 0; value = asValue l .value; dots = asValue l .dots; marks = marks; beam = 0; actual = 0; normal = 0; boundary = 0; pitches = pitches }
+soundRow l flags pitches =
+    record { kind = 0; value = asValue l .value; dots = asValue l .dots; flags = flags; beam = 0; actual = 0; normal = 0; boundary = 0; pitches = pitches }
 
 abbrev pub pendingOn : Pending → Bool → Pending
 pendingOn p tie = record { tie = tie; slur = false; grace = p .grace }
 
 -- with the pending marks after a note
-abbrev pub waitsOn : Registers → Bool → Registers
-waitsOn r tie =
+abbrev pub withPending : Registers → Bool → Registers
+withPending r tie =
     record { counts = r .counts; key = r .key; last = r .last; pending = pendingOn (r .pending) tie; line = r .line; waiting = r .waiting; group = r .group; verses = r .verses }
 
 -- WHAT A TOKEN LEAVES: registers, and the row that is still to be appended
-abbrev pub keptOf : Registers → Left
-keptOf r = record { registers = r; appends = false; row = restRow 0 (WholeBar 0) }
+abbrev pub deferredNothing : Registers → Deferred
+deferredNothing r = record { registers = r; appends = false; row = restRow 0 (WholeBar 0) }
 
-abbrev pub restLeft : Registers → ℕ → Length → Left
-restLeft r kind l = record { registers = r; appends = true; row = restRow kind l }
+abbrev pub deferredRest : Registers → ℕ → Length → Deferred
+deferredRest r kind l = record { registers = r; appends = true; row = restRow kind l }
 
-abbrev pub soundLeft : Registers → Length → Bool → Bool → ℕ → Left
-soundLeft r l tie slur pitches = record { registers = waitsOn r tie; appends = true; row = soundRow l (marksOf (r .pending) tie slur) pitches }
+abbrev pub deferredSound : Registers → Length → Bool → Bool → ℕ → Deferred
+deferredSound r l tie slur pitches = record { registers = withPending r tie; appends = true; row = soundRow l (flagsIn (r .pending) tie slur) pitches }
 
 -- its row, if there is one, can be appended
-pub record Finishable (t : Tables) (s : List ℕ) (left : Left) : Type 0 where
+pub record DeferredFits (t : Tables) (s : List ℕ) (left : Deferred) : Type 0 where
   pub room : left .appends ≡ true → Room t (left .registers .counts) (length s) 0 1 0 0
   pub able : left .appends ≡ true → Appendable t s (left .registers) (left .row)
 
 -- its row, if there is one, is appended
-pub record Finishes (t : Tables) (s : List ℕ) (left : Left) (s′ : List ℕ) (r′ : Registers) : Type 0 where
+pub record DeferredDone (t : Tables) (s : List ℕ) (left : Deferred) (s′ : List ℕ) (r′ : Registers) : Type 0 where
   pub appended : left .appends ≡ true → Appends t s (left .registers) s′ r′ (left .row)
   pub same-store : left .appends ≡ false → s′ ≡ s
   pub same-registers : left .appends ≡ false → r′ ≡ left .registers
 
 -- P holds once that is done
-pub record Leaves (t : Tables) (s : List ℕ) (left : Left) (P : List ℕ → Registers → Type 0) : Type 0 where
-  pub able : Finishable t s left
-  pub done : (s′ : List ℕ) (r′ : Registers) → Finishes t s left s′ r′ → P s′ r′
+pub record OnceAppended (t : Tables) (s : List ℕ) (left : Deferred) (P : List ℕ → Registers → Type 0) : Type 0 where
+  pub able : DeferredFits t s left
+  pub done : (s′ : List ℕ) (r′ : Registers) → DeferredDone t s left s′ r′ → P s′ r′
 
 -- A REST: a note without pitches that has this row
 pub record Restable (t : Tables) (s : List ℕ) (r : Registers) (kind : ℕ) (l : Length) : Type 0 where
@@ -79,25 +79,25 @@ pub record Restable (t : Tables) (s : List ℕ) (r : Registers) (kind : ℕ) (l 
   pub standing : Standing state
   pub row-is : restRow kind l ≡ rowFor note
   pub no-pitch : note .pitches ≡ []
-  pub held : Held t s r [] state
+  pub represents : Represents t s r [] state
 
-pub record Rests (t : Tables) (s : List ℕ) (r : Registers) (s′ : List ℕ) (r′ : Registers) (kind : ℕ) (length : Length) : Type 0 where
+pub record SimulatesRest (t : Tables) (s : List ℕ) (r : Registers) (s′ : List ℕ) (r′ : Registers) (kind : ℕ) (length : Length) : Type 0 where
   pub only : Only (t .heads) (t .end) s s′
   pub grows : Grows (r .counts) (r′ .counts) 0 1 0 0
-  pub holds : (l : LogState) (m : Note) → Standing l → restRow kind length ≡ rowFor m → m .pitches ≡ [] → Held t s r [] l → Held t s′ r′ [] (append m l)
+  pub holds : (l : LogState) (m : Note) → Standing l → restRow kind length ≡ rowFor m → m .pitches ≡ [] → Represents t s r [] l → Represents t s′ r′ [] (append m l)
 
 -- A PITCH
 pub record Pushable (t : Tables) (s : List ℕ) (r : Registers) : Type 0 where
   pub state : LogState
   pub extra : List standard.Pitch
   pub overlay-4 : state .line .overlay < 4
-  pub held : Held t s r extra state
+  pub represents : Represents t s r extra state
 
-pub record Pushes (t : Tables) (s : List ℕ) (r : Registers) (s′ : List ℕ) (r′ : Registers) (p : Pitch) : Type 0 where
+pub record SimulatesPitch (t : Tables) (s : List ℕ) (r : Registers) (s′ : List ℕ) (r′ : Registers) (p : Pitch) : Type 0 where
   pub only : Only (t .heads) (t .end) s s′
-  pub grows : Grows (r .counts) (r′ .counts) 0 0 1 (signs (p .mark))
-  pub holds : (l : LogState) (extra : List standard.Pitch) → l .line .overlay < 4 → Held t s r extra l
-      → Held t s′ r′ (extra ++ (soundOf (l .key) (getD (l .scopes) (l .line .overlay) []) (writtenOf p) ∷ [])) (setScopes (alterAt (l .line .overlay) (λ old. scopeAfter old (writtenOf p)) (l .scopes)) l)
+  pub grows : Grows (r .counts) (r′ .counts) 0 0 1 (signs (p .sign))
+  pub holds : (l : LogState) (extra : List standard.Pitch) → l .line .overlay < 4 → Represents t s r extra l
+      → Represents t s′ r′ (extra ++ (soundOf (l .key) (getD (l .scopes) (l .line .overlay) []) (writtenOf p) ∷ [])) (setScopes (alterAt (l .line .overlay) (λ old. scopeAfter old (writtenOf p)) (l .scopes)) l)
 
 -- A NOTE OR CHORD whose pitches are there
 pub record Soundable (t : Tables) (s : List ℕ) (r : Registers) (count : ℕ) : Type 0 where
@@ -105,17 +105,17 @@ pub record Soundable (t : Tables) (s : List ℕ) (r : Registers) (count : ℕ) :
   pub pitches : List standard.Pitch
   pub standing : Standing state
   pub count-is : count ≡ length pitches
-  pub held : Held t s r pitches state
+  pub represents : Represents t s r pitches state
 
-pub record Sounds (t : Tables) (s : List ℕ) (r : Registers) (s′ : List ℕ) (r′ : Registers) (written : Length) (tie slur : Bool) (count : ℕ) : Type 0 where
+pub record SimulatesSound (t : Tables) (s : List ℕ) (r : Registers) (s′ : List ℕ) (r′ : Registers) (written : Length) (tie slur : Bool) (count : ℕ) : Type 0 where
   pub only : Only (t .heads) (t .end) s s′
   pub grows : Grows (r .counts) (r′ .counts) 0 1 0 0
-  pub holds : (l : LogState) (b : Behind) (ps : List standard.Pitch) → Standing l → b .tie ≡ tie → b .slur ≡ slur → count ≡ length ps → Held t s r ps l
-      → Held t s′ r′ [] (append (soundNote (asValue written) (l .pending) b ps) (setPending (pendingAfter (l .pending) b) l))
+  pub holds : (l : LogState) (b : Behind) (ps : List standard.Pitch) → Standing l → b .tie ≡ tie → b .slur ≡ slur → count ≡ length ps → Represents t s r ps l
+      → Represents t s′ r′ [] (append (soundNote (asValue written) (l .pending) b ps) (setPending (pendingAfter (l .pending) b) l))
 
 -- A NOTE
-pub record NotesAs (t : Tables) (s : List ℕ) (r : Registers) (s′ : List ℕ) (r′ : Registers) (p : Pitch) (written : Length) (tie slur : Bool) : Type 0 where
+pub record SimulatesNote (t : Tables) (s : List ℕ) (r : Registers) (s′ : List ℕ) (r′ : Registers) (p : Pitch) (written : Length) (tie slur : Bool) : Type 0 where
   pub only : Only (t .heads) (t .end) s s′
-  pub grows : Grows (r .counts) (r′ .counts) 0 1 1 (signs (p .mark))
-  pub holds : (l : LogState) (b : Behind) (len : reader.Length) → Standing l → b .tie ≡ tie → b .slur ≡ slur → asValue written ≡ valueOf (l .line .unit) len → Held t s r [] l
-      → Held t s′ r′ [] (onSound (writtenOf p ∷ []) len b l)
+  pub grows : Grows (r .counts) (r′ .counts) 0 1 1 (signs (p .sign))
+  pub holds : (l : LogState) (b : Behind) (len : reader.Length) → Standing l → b .tie ≡ tie → b .slur ≡ slur → asValue written ≡ valueOf (l .line .unit) len → Represents t s r [] l
+      → Represents t s′ r′ [] (onSound (writtenOf p ∷ []) len b l)

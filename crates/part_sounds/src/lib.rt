@@ -3,8 +3,8 @@ ghost use mathlib.Core.Path.{_≡_};
 ghost use Prim.Native.Nat.{_<_};
 ghost use lib.ListN.{length};
 ghost use Rattle.part_accidentals.specs.Resolving.{signs};
-ghost use Rattle.part_invariant.specs.Held.{Room, Holding};
-ghost use Rattle.part_sounds.specs.Sounds.{restRow, soundRow, pendingOn, keptOf, restLeft, soundLeft, Finishable, Finishes, Leaves, Pushable, Pushes, NotesAs};
+ghost use Rattle.part_invariant.specs.Invariant.{Room, RepresentedInLine};
+ghost use Rattle.part_sounds.specs.Sounds.{restRow, soundRow, pendingOn, deferredNothing, deferredRest, deferredSound, DeferredFits, DeferredDone, OnceAppended, Pushable, SimulatesPitch, SimulatesNote};
 use part_registers::Counts;
 use part_registers::Pending;
 use part_registers::Registers;
@@ -14,7 +14,7 @@ use token_lengths::Length;
 use token_pitches::Pitch;
 
 // What a token leaves: the registers and, if it is a note, rest or chord, the row that is still to be appended.
-pub struct Left {
+pub struct Deferred {
     pub registers: Registers,
     pub appends: bool,
     pub row: NoteRow,
@@ -28,7 +28,7 @@ fn rest_row(kind: u8, written: Length) -> NoteRow
         kind,
         value: token_lengths::value_of(written),
         dots: token_lengths::dots_of(written),
-        marks: 0,
+        flags: 0,
         beam: 0,
         actual: 0,
         normal: 0,
@@ -38,14 +38,14 @@ fn rest_row(kind: u8, written: Length) -> NoteRow
 }
 
 // The row of a note or chord with its marks and the number of its pitches.
-fn sound_row(written: Length, marks: u8, pitches: u32) -> NoteRow
-    ensures { λ r. ⌜ r ≡ soundRow written marks pitches ⌝ }
+fn sound_row(written: Length, flags: u8, pitches: u32) -> NoteRow
+    ensures { λ r. ⌜ r ≡ soundRow written flags pitches ⌝ }
 {
     NoteRow {
         kind: 0,
         value: token_lengths::value_of(written),
         dots: token_lengths::dots_of(written),
-        marks,
+        flags,
         beam: 0,
         actual: 0,
         normal: 0,
@@ -66,10 +66,10 @@ fn after_pending(p: Pending, tie: bool) -> Pending
 }
 
 // A token without a row (this one is never read).
-pub fn keep(r: Registers) -> Left
-    ensures { λ left. ⌜ left ≡ keptOf r ⌝ }
+pub fn defer_nothing(r: Registers) -> Deferred
+    ensures { λ left. ⌜ left ≡ deferredNothing r ⌝ }
 {
-    Left {
+    Deferred {
         registers: r,
         appends: false,
         row: rest_row(0, Length::WholeBar(0)),
@@ -77,10 +77,10 @@ pub fn keep(r: Registers) -> Left
 }
 
 // A rest.
-pub fn append_rest(r: Registers, kind: u8, written: Length) -> Left
-    ensures { λ left. ⌜ left ≡ restLeft r kind written ⌝ }
+pub fn append_abc_rest_note(r: Registers, kind: u8, written: Length) -> Deferred
+    ensures { λ left. ⌜ left ≡ deferredRest r kind written ⌝ }
 {
-    Left {
+    Deferred {
         registers: r,
         appends: true,
         row: rest_row(kind, written),
@@ -89,8 +89,8 @@ pub fn append_rest(r: Registers, kind: u8, written: Length) -> Left
 
 // A pitch, resolved by its accidental, its scope or the key, goes to the end of the pitches.
 pub fn push_pitch(store: &mut [u8], t: Tables, r: Registers, pitch: Pitch) -> Registers
-    requires { ⌜ Room t (r .counts) (length (now store)) 0 0 1 (signs (pitch .mark)) × Pushable t (now store) r × (pitch .step < 7) ⌝ }
-    ensures { λ x. ⌜ Pushes t (now (store .entry)) r (now (store .exit)) x pitch ⌝ }
+    requires { ⌜ Room t (r .counts) (length (now store)) 0 0 1 (signs (pitch .sign)) × Pushable t (now store) r × (pitch .step < 7) ⌝ }
+    ensures { λ x. ⌜ SimulatesPitch t (now (store .entry)) r (now (store .exit)) x pitch ⌝ }
 {
     let line = r.line;
     let voice = line.overlay as usize;
@@ -122,14 +122,14 @@ pub fn push_pitch(store: &mut [u8], t: Tables, r: Registers, pitch: Pitch) -> Re
 }
 
 // A note or chord whose pitches are written.
-pub fn append_sound(r: Registers, written: Length, tie: bool, slur: bool, pitches: u32) -> Left
-    ensures { λ left. ⌜ left ≡ soundLeft r written tie slur pitches ⌝ }
+pub fn append_sound(r: Registers, written: Length, tie: bool, slur: bool, pitches: u32) -> Deferred
+    ensures { λ left. ⌜ left ≡ deferredSound r written tie slur pitches ⌝ }
 {
-    let marks = part_registers::marks(r.pending, tie, slur);
-    let row = sound_row(written, marks, pitches);
+    let flags = part_registers::note_flags(r.pending, tie, slur);
+    let row = sound_row(written, flags, pitches);
     let mut x = r;
     x.pending = after_pending(r.pending, tie);
-    Left {
+    Deferred {
         registers: x,
         appends: true,
         row,
@@ -137,7 +137,7 @@ pub fn append_sound(r: Registers, written: Length, tie: bool, slur: bool, pitche
 }
 
 // A note.
-pub fn append_note(
+pub fn append_abc_pitched_note(
     store: &mut [u8],
     t: Tables,
     r: Registers,
@@ -145,18 +145,18 @@ pub fn append_note(
     written: Length,
     tie: bool,
     slur: bool,
-) -> Left
-    requires { ⌜ Room t (r .counts) (length (now store)) 0 1 1 (signs (pitch .mark)) × Holding t (now store) r × (pitch .step < 7) ⌝ }
-    ensures { λ left. ⌜ Leaves t (now (store .exit)) left (λ s x. NotesAs t (now (store .entry)) r s x pitch written tie slur) ⌝ }
+) -> Deferred
+    requires { ⌜ Room t (r .counts) (length (now store)) 0 1 1 (signs (pitch .sign)) × RepresentedInLine t (now store) r × (pitch .step < 7) ⌝ }
+    ensures { λ left. ⌜ OnceAppended t (now (store .exit)) left (λ s x. SimulatesNote t (now (store .entry)) r s x pitch written tie slur) ⌝ }
 {
     let x = push_pitch(store, t, r, pitch);
     append_sound(x, written, tie, slur, 1)
 }
 
 // The row that a token leaves goes to the end of its voice. One call for all tokens, so that the registers need not go through memory.
-pub fn append_left(store: &mut [u8], t: Tables, left: Left) -> Registers
-    requires { ⌜ Finishable t (now store) left ⌝ }
-    ensures { λ x. ⌜ Finishes t (now (store .entry)) left (now (store .exit)) x ⌝ }
+pub fn append_deferred(store: &mut [u8], t: Tables, left: Deferred) -> Registers
+    requires { ⌜ DeferredFits t (now store) left ⌝ }
+    ensures { λ x. ⌜ DeferredDone t (now (store .entry)) left (now (store .exit)) x ⌝ }
 {
     let r = left.registers;
     if left.appends {

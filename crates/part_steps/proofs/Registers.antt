@@ -18,7 +18,7 @@ use Rattle.part_registers.specs.declared.Running.the-variants as running
 use Rattle.part_registers.specs.declared.Tables.{Tables}
 use Rattle.part_registers.specs.declared.Registers.{Registers}
 use Rattle.part_registers.specs.States.{pendingFor, runningFor, lineFor}
-use Rattle.part_invariant.specs.Held.{Does}
+use Rattle.part_invariant.specs.Invariant.{Simulates}
 use Rattle.part_bars.proofs.Heads.{grows-none}
 
 abbrev lined : Registers → Line → Running → Registers
@@ -32,7 +32,7 @@ pended r p =
 module _ (r : Registers) (t : Tables) (s : List ℕ) where
   -- another line: f leaves its half
   lined-does : (line : Line) (group : Running) (f : State.Line → State.Line) → ((n : State.Line) → r .line ≡ lineFor n → line ≡ lineFor (f n)) → ((n : State.Line) → f n .half ≡ n .half)
-      → ((n : State.Line) → r .group .running ≡ runningFor (n .tuplet) → group ≡ runningFor (f n .tuplet)) → Does t s r s (lined r line group) 0 0 0 0 (λ l. setLine (f (l .line)) l)
+      → ((n : State.Line) → r .group .running ≡ runningFor (n .tuplet) → group ≡ runningFor (f n .tuplet)) → Simulates t s r s (lined r line group) 0 0 0 0 (λ l. setLine (f (l .line)) l)
   lined-does line group f a b c =
       record {
         only = only-none (t .heads) (t .end) s;
@@ -56,7 +56,7 @@ module _ (r : Registers) (t : Tables) (s : List ℕ) where
       }
 
   -- something else pending
-  pended-does : (p : Pending) (f : Notes.Pending → Notes.Pending) → ((n : Notes.Pending) → r .pending ≡ pendingFor n → p ≡ pendingFor (f n)) → Does t s r s (pended r p) 0 0 0 0 (λ l. setPending (f (l .pending)) l)
+  pended-does : (p : Pending) (f : Notes.Pending → Notes.Pending) → ((n : Notes.Pending) → r .pending ≡ pendingFor n → p ≡ pendingFor (f n)) → Simulates t s r s (pended r p) 0 0 0 0 (λ l. setPending (f (l .pending)) l)
   pended-does p f a =
       record {
         only = only-none (t .heads) (t .end) s;
@@ -79,37 +79,37 @@ module _ (r : Registers) (t : Tables) (s : List ℕ) where
             };
       }
 
-  pub space-does : Does t s r s (lined r (record { unit = r .line .unit; top = r .line .top; bottom = r .line .bottom; overlay = r .line .overlay; run = 0 }) (r .group .running)) 0 0 0 0 (λ l. onToken l token.space)
+  pub space-does : Simulates t s r s (lined r (record { unit = r .line .unit; top = r .line .top; bottom = r .line .bottom; overlay = r .line .overlay; run = 0 }) (r .group .running)) 0 0 0 0 (λ l. onToken l token.space)
   unfolding onToken
   space-does =
       lined-does _ _ (withRun 0) (λ n e i. record { unit = e i .unit; top = e i .top; bottom = e i .bottom; overlay = e i .overlay; run = 0 }) (λ n. refl) (λ n e. e)
 
   pub overlay-does : (voice : ℕ) → voice ≡ nextVoice (r .line .overlay)
-      → Does t s r s (lined r (record { unit = r .line .unit; top = r .line .top; bottom = r .line .bottom; overlay = voice; run = 0 }) (r .group .running)) 0 0 0 0 (λ l. onToken l token.overlay)
+      → Simulates t s r s (lined r (record { unit = r .line .unit; top = r .line .top; bottom = r .line .bottom; overlay = voice; run = 0 }) (r .group .running)) 0 0 0 0 (λ l. onToken l token.overlay)
   unfolding onToken
   overlay-does voice d =
       lined-does _ _ (λ n. withOverlay (nextVoice (n .overlay)) n)
       (λ n e. let v : voice ≡ nextVoice (n .overlay) = d ∙ ap (λ (x : Line). nextVoice (x .overlay)) e in λ i. record { unit = e i .unit; top = e i .top; bottom = e i .bottom; overlay = v i; run = 0 })
       (λ n. refl) (λ n e. e)
 
-  pub tuplet-does : (actual normal count : ℕ) → Does t s r s (lined r (r .line) (running.Tuplet actual normal count count)) 0 0 0 0 (λ l. onToken l (token.tuplet (record { actual = actual; normal = normal; count = count })))
+  pub tuplet-does : (actual normal count : ℕ) → Simulates t s r s (lined r (r .line) (running.Tuplet actual normal count count)) 0 0 0 0 (λ l. onToken l (token.tuplet (record { actual = actual; normal = normal; count = count })))
   unfolding onToken
   tuplet-does actual normal count =
       lined-does _ _ (withTuplet (some (record { tuplet = record { actual = actual; normal = normal; count = count }; left = count }))) (λ n e. e) (λ n. refl) (λ n e. refl)
 
-  pub unit-does : (unit : ℕ) → Does t s r s (lined r (record { unit = unit; top = r .line .top; bottom = r .line .bottom; overlay = r .line .overlay; run = r .line .run }) (r .group .running)) 0 0 0 0 (λ l. onToken l (token.unit unit))
+  pub unit-does : (unit : ℕ) → Simulates t s r s (lined r (record { unit = unit; top = r .line .top; bottom = r .line .bottom; overlay = r .line .overlay; run = r .line .run }) (r .group .running)) 0 0 0 0 (λ l. onToken l (token.unit unit))
   unfolding onToken
   unit-does unit =
       lined-does _ _ (withUnit unit) (λ n e i. record { unit = unit; top = e i .top; bottom = e i .bottom; overlay = e i .overlay; run = e i .run }) (λ n. refl) (λ n e. e)
 
-  pub slur-does : Does t s r s (pended r (record { tie = r .pending .tie; slur = true; grace = r .pending .grace })) 0 0 0 0 (λ l. onToken l token.slur)
+  pub slur-does : Simulates t s r s (pended r (record { tie = r .pending .tie; slur = true; grace = r .pending .grace })) 0 0 0 0 (λ l. onToken l token.slur)
   unfolding onToken slurOpens
   slur-does = pended-does _ slurOpens (λ n e i. record { tie = e i .tie; slur = true; grace = e i .grace })
 
-  pub grace-open-does : Does t s r s (pended r (record { tie = r .pending .tie; slur = r .pending .slur; grace = true })) 0 0 0 0 (λ l. onToken l token.graceOpen)
+  pub grace-open-does : Simulates t s r s (pended r (record { tie = r .pending .tie; slur = r .pending .slur; grace = true })) 0 0 0 0 (λ l. onToken l token.graceOpen)
   unfolding onToken graceOpens
   grace-open-does = pended-does _ graceOpens (λ n e i. record { tie = e i .tie; slur = e i .slur; grace = true })
 
-  pub grace-close-does : Does t s r s (pended r (record { tie = r .pending .tie; slur = r .pending .slur; grace = false })) 0 0 0 0 (λ l. onToken l token.graceClose)
+  pub grace-close-does : Simulates t s r s (pended r (record { tie = r .pending .tie; slur = r .pending .slur; grace = false })) 0 0 0 0 (λ l. onToken l token.graceClose)
   unfolding onToken graceCloses
   grace-close-does = pended-does _ graceCloses (λ n e i. record { tie = e i .tie; slur = e i .slur; grace = false })

@@ -6,8 +6,8 @@ ghost use lib.ListN.{length};
 ghost use Rattle.standard.specs.Notes.{nextVoice};
 ghost use Rattle.reader.specs.Token as token;
 ghost use Rattle.part_layout.specs.Log.{onToken, lineBegins};
-ghost use Rattle.part_invariant.specs.Held.{Room, Holding, Does};
-ghost use Rattle.part_invariant.specs.Lines.{Rest, Waits, Takes};
+ghost use Rattle.part_invariant.specs.Invariant.{Room, RepresentedInLine, Simulates};
+ghost use Rattle.part_invariant.specs.Lines.{RoomForBytes, RepresentedBetween, SimulatesItem};
 ghost use Rattle.part_steps.specs.Steps.{hearing, begun};
 use part_accidentals::AbcPartParseState;
 use part_registers::Group;
@@ -20,7 +20,7 @@ use part_registers::Waiting;
 
 // White space ends the beam's run.
 pub fn on_space(r: Registers) -> Registers
-    ensures { λ x. ⌜ ((t : Tables) (s : List ℕ) → Does t s r s x 0 0 0 0 (λ l. onToken l token.space)) ⌝ }
+    ensures { λ x. ⌜ ((t : Tables) (s : List ℕ) → Simulates t s r s x 0 0 0 0 (λ l. onToken l token.space)) ⌝ }
 {
     let mut x = r;
     x.line = part_registers::with_run(r.line, 0);
@@ -36,7 +36,7 @@ fn next_voice(voice: u8) -> u8
 
 // `&`: another voice, and no run.
 pub fn on_overlay(r: Registers) -> Registers
-    ensures { λ x. ⌜ ((t : Tables) (s : List ℕ) → Does t s r s x 0 0 0 0 (λ l. onToken l token.overlay)) ⌝ }
+    ensures { λ x. ⌜ ((t : Tables) (s : List ℕ) → Simulates t s r s x 0 0 0 0 (λ l. onToken l token.overlay)) ⌝ }
 {
     let mut line = r.line;
     line.overlay = next_voice(line.overlay);
@@ -48,7 +48,7 @@ pub fn on_overlay(r: Registers) -> Registers
 
 // A tuplet, all of whose notes are to come.
 pub fn on_tuplet(r: Registers, actual: u8, normal: u8, count: u64) -> Registers
-    ensures { λ x. ⌜ ((t : Tables) (s : List ℕ) → Does t s r s x 0 0 0 0 (λ l. onToken l (token.tuplet (record { actual = actual; normal = normal; count = count })))) ⌝ }
+    ensures { λ x. ⌜ ((t : Tables) (s : List ℕ) → Simulates t s r s x 0 0 0 0 (λ l. onToken l (token.tuplet (record { actual = actual; normal = normal; count = count })))) ⌝ }
 {
     let running = Running::Tuplet {
         actual,
@@ -64,7 +64,7 @@ pub fn on_tuplet(r: Registers, actual: u8, normal: u8, count: u64) -> Registers
 
 // A slur that begins at the next note.
 pub fn on_slur(r: Registers) -> Registers
-    ensures { λ x. ⌜ ((t : Tables) (s : List ℕ) → Does t s r s x 0 0 0 0 (λ l. onToken l token.slur)) ⌝ }
+    ensures { λ x. ⌜ ((t : Tables) (s : List ℕ) → Simulates t s r s x 0 0 0 0 (λ l. onToken l token.slur)) ⌝ }
 {
     let mut x = r;
     x.pending.slur = true;
@@ -72,7 +72,7 @@ pub fn on_slur(r: Registers) -> Registers
 }
 
 pub fn on_grace_open(r: Registers) -> Registers
-    ensures { λ x. ⌜ ((t : Tables) (s : List ℕ) → Does t s r s x 0 0 0 0 (λ l. onToken l token.graceOpen)) ⌝ }
+    ensures { λ x. ⌜ ((t : Tables) (s : List ℕ) → Simulates t s r s x 0 0 0 0 (λ l. onToken l token.graceOpen)) ⌝ }
 {
     let mut x = r;
     x.pending.grace = true;
@@ -80,7 +80,7 @@ pub fn on_grace_open(r: Registers) -> Registers
 }
 
 pub fn on_grace_close(r: Registers) -> Registers
-    ensures { λ x. ⌜ ((t : Tables) (s : List ℕ) → Does t s r s x 0 0 0 0 (λ l. onToken l token.graceClose)) ⌝ }
+    ensures { λ x. ⌜ ((t : Tables) (s : List ℕ) → Simulates t s r s x 0 0 0 0 (λ l. onToken l token.graceClose)) ⌝ }
 {
     let mut x = r;
     x.pending.grace = false;
@@ -89,7 +89,7 @@ pub fn on_grace_close(r: Registers) -> Registers
 
 // An inline L field.
 pub fn on_unit(r: Registers, unit: u32) -> Registers
-    ensures { λ x. ⌜ ((t : Tables) (s : List ℕ) → Does t s r s x 0 0 0 0 (λ l. onToken l (token.unit unit))) ⌝ }
+    ensures { λ x. ⌜ ((t : Tables) (s : List ℕ) → Simulates t s r s x 0 0 0 0 (λ l. onToken l (token.unit unit))) ⌝ }
 {
     let mut x = r;
     x.line.unit = unit;
@@ -115,11 +115,11 @@ pub fn hear(r: Registers, fifths: u8, minor: bool) -> Registers
 
 // An inline K field.
 pub fn on_key(store: &mut [u8], t: Tables, r: Registers, fifths: u8, minor: bool) -> Registers
-    requires { ⌜ Room t (r .counts) (length (now store)) 0 0 0 0 × Holding t (now store) r ⌝ }
-    ensures { λ x. ⌜ Does t (now (store .entry)) r (now (store .exit)) x 0 0 0 0 (λ l. onToken l (token.key (record { fifths = fifths; minor = minor }))) ⌝ }
+    requires { ⌜ Room t (r .counts) (length (now store)) 0 0 0 0 × RepresentedInLine t (now store) r ⌝ }
+    ensures { λ x. ⌜ Simulates t (now (store .entry)) r (now (store .exit)) x 0 0 0 0 (λ l. onToken l (token.key (record { fifths = fifths; minor = minor }))) ⌝ }
 {
     let i = (r.counts.heads - 1) as usize;
-    part_measures::set_mark(
+    part_measures::set_key_mark(
         store,
         t.heads,
         i,
@@ -166,8 +166,8 @@ pub fn begin_line(
     top: u8,
     bottom: u8,
 ) -> Registers
-    requires { ⌜ Rest t (r .counts) (length (now store)) [] × Waits t (now store) r ⌝ }
-    ensures { λ x. ⌜ Takes t (now (store .entry)) r (now (store .exit)) x [] (lineBegins unit (top, bottom)) ⌝ }
+    requires { ⌜ RoomForBytes t (r .counts) (length (now store)) [] × RepresentedBetween t (now store) r ⌝ }
+    ensures { λ x. ⌜ SimulatesItem t (now (store .entry)) r (now (store .exit)) x [] (lineBegins unit (top, bottom)) ⌝ }
     ensures { λ x. ⌜ 1 ≤ x .counts .heads ⌝ }
 {
     let counts = r.counts;

@@ -9,12 +9,12 @@ use native.Mathlib.Omega.{arith}
 use lib.Dec.{eqb, leb}
 use lib.ListN.{length}
 use borrow.Author.Tests.{eqb-true, le-leb, lt-leb, leb-true}
-use Rattle.laws.specs.Lists.{all, isNil, span}
+use Rattle.laws.specs.Lists.{all, isNil, countWhile}
 use Rattle.laws.proofs.Bools.{by-test, both-true, and-left, and-right, and-both, or-none, and-no-right, eqb-same}
-use Rattle.laws.proofs.Spans.{span-yes}
+use Rattle.laws.proofs.Spans.{count-while-yes}
 use Rattle.standard.specs.Bytes.{isDigit, decimal, digits}
 use Rattle.reader.specs.Text.{isSpace, within}
-use Rattle.reader.specs.Pieces.{numeral, before, after, pieces, mark, trimStart, consTrim, trimEnd, trimmed}
+use Rattle.reader.specs.Pieces.{numeral, before, after, pieces, separator, trimStart, consTrim, trimEnd, trimmed}
 
 -- a digit is no byte that is no digit
 pub digit-not : (c x : ℕ) → isDigit c ≡ true → isDigit x ≡ false → eqb c x ≡ false
@@ -27,9 +27,9 @@ digit-solid c d =
     or-none (within 9 13 c) (eqb c 32) (and-no-right (leb 9 c) (leb c 13) (lt-leb c 13 (omega arith))) (digit-not c 32 d refl)
 
 -- a run of one kind before what is not
-pub span-front : (p : ℕ → Bool) (d t : List ℕ) → all p d ≡ true → span p t ≡ 0 → span p (d ++ t) ≡ length d
-span-front p [] t a h = h
-span-front p (c ∷ d) t a h = span-yes p c (d ++ t) (and-left (p c) (all p d) a) ∙ ap suc (span-front p d t (and-right (p c) (all p d) a) h)
+pub count-while-front : (p : ℕ → Bool) (d t : List ℕ) → all p d ≡ true → countWhile p t ≡ 0 → countWhile p (d ++ t) ≡ length d
+count-while-front p [] t a h = h
+count-while-front p (c ∷ d) t a h = count-while-yes p c (d ++ t) (and-left (p c) (all p d) a) ∙ ap suc (count-while-front p d t (and-right (p c) (all p d) a) h)
 
 -- what digits write, if it is at most top
 pub digits-some : (top : ℕ) (d : List ℕ) → 0 < length d → all isDigit d ≡ true → decimal 0 d ≤ top → digits top d ≡ some (decimal 0 d)
@@ -99,13 +99,13 @@ module _ (x : ℕ) (n : isDigit x ≡ false) where
   after-digits (c ∷ d) t a = rw (digit-not c x (and-left (isDigit c) (all isDigit d) a) n, after) (after-digits d t (and-right (isDigit c) (all isDigit d) a))
 
   -- PIECES between such marks: digits alone are one
-  pub pieces-digits : (d : List ℕ) → all isDigit d ≡ true → pieces (mark at) 0 d ≡ d ∷ []
+  pub pieces-digits : (d : List ℕ) → all isDigit d ≡ true → pieces (separator at) 0 d ≡ d ∷ []
   unfolding pieces
   pieces-digits [] a = refl
   pieces-digits (c ∷ d) a = rw (digit-not c x (and-left (isDigit c) (all isDigit d) a) n, pieces) (rw (pieces-digits d (and-right (isDigit c) (all isDigit d) a)))
 
   -- and the first of two or more
-  pub pieces-two : (d t : List ℕ) → all isDigit d ≡ true → pieces (mark at) 0 (d ++ (x ∷ t)) ≡ d ∷ pieces (mark at) 0 t
+  pub pieces-two : (d t : List ℕ) → all isDigit d ≡ true → pieces (separator at) 0 (d ++ (x ∷ t)) ≡ d ∷ pieces (separator at) 0 t
   unfolding pieces
   pieces-two [] t a = rw (eqb-same x, pieces)
   pieces-two (c ∷ d) t a = rw (digit-not c x (and-left (isDigit c) (all isDigit d) a) n, pieces) (rw (pieces-two d t (and-right (isDigit c) (all isDigit d) a)))

@@ -16,8 +16,8 @@ use Rattle.standard.specs.Notes.{nextVoice}
 use Rattle.reader.specs.Token.{Token, space, overlay, quoted, broken, tuplet, slur, graceOpen, graceClose, decoration, barline, volta, unit, meter, key, field, chord, rest, note, nothing, skipped, refused}
 use Rattle.reader.specs.Tokens.{tokens}
 use Rattle.reader.specs.Barlines.{leftOf}
-use Rattle.reader.specs.Scan.{Item, born, reset, headed, keyed, metered, sung, played}
-use Rattle.reader.specs.State.{PartState, Note, Measure, voltaBegins, withMeter, withMark, withVolta, setLine, withTime, onOpen, voiceIn, voiceNow, setVoice, withVoices, isEmpty, newLine, newMeasure, newPart, withRight}
+use Rattle.reader.specs.Scan.{Item, voiceDeclared, reset, keyInHeader, keyChange, meterChange, lyricLine, musicLine}
+use Rattle.reader.specs.State.{PartState, Note, Measure, voltaBegins, withMeter, withKeyMark, withVolta, setLine, withTime, onOpen, voiceIn, voiceNow, setVoice, withVoices, isEmpty, newLine, newMeasure, newPart, withRight}
 use Rattle.reader.specs.Part.{onBroken, brokenNote, grouped, beamedAgain, beamed, canBeam, afterHalf, onNothing, append, onSound, ended, onBarline, hears, onToken, opened, lineBegins, onLine, onLyric, onKey, onItem}
 use Rattle.reader.proofs.Sizes.{Fours, token-four, opened-four, open-four, voice-four, item-four}
 
@@ -129,7 +129,7 @@ ready-token s (barline b o) r = record { is-open = ended-length b o (s .line .me
 ready-token s (volta ps) r = changed (withVolta voltaBegins ps) (λ m. refl) s r
 ready-token s (unit u) r = record { is-open = r .is-open; place = r .place; scopes-4 = r .scopes-4; voices-4 = r .voices-4; seen = r .seen }
 ready-token s (meter t) r = changed (withMeter t) (λ m. refl) (setLine (withTime t (s .line)) s) (record { is-open = r .is-open; place = r .place; scopes-4 = r .scopes-4; voices-4 = r .voices-4; seen = r .seen })
-ready-token s (key k) r = changed (withMark k) (λ m. refl) (hears k s) (record { is-open = r .is-open; place = r .place; scopes-4 = refl; voices-4 = r .voices-4; seen = r .seen })
+ready-token s (key k) r = changed (withKeyMark k) (λ m. refl) (hears k s) (record { is-open = r .is-open; place = r .place; scopes-4 = refl; voices-4 = r .voices-4; seen = r .seen })
 ready-token s field r = r
 ready-token s (chord ws l b) r = ready-append _ _ (record { is-open = r .is-open; place = r .place; scopes-4 = length-alterAt (s .line .overlay) _ (s .scopes) ∙ r .scopes-4; voices-4 = r .voices-4; seen = r .seen })
 ready-token s (rest k l) r = ready-append _ s r
@@ -167,13 +167,13 @@ kept-key header k (m ∷ ms) s p = refl
 -- each item keeps it
 pub kept-item : (header : Key) (s : PartState) (i : Item) → Kept s → Kept (onItem header s i)
 unfolding onItem onLyric onOpen onLine
-kept-item header s (born b) k = record { scopes-kept = k .scopes-kept; voices-kept = k .voices-kept }
+kept-item header s (voiceDeclared b) k = record { scopes-kept = k .scopes-kept; voices-kept = k .voices-kept }
 kept-item header s reset k = record { scopes-kept = k .scopes-kept; voices-kept = k .voices-kept }
-kept-item header s headed k = record { scopes-kept = k .scopes-kept; voices-kept = k .voices-kept }
-kept-item header s (keyed q) k = record { scopes-kept = kept-key header q (s .measures) s (k .scopes-kept); voices-kept = item-four header s (keyed q) (k .voices-kept) }
-kept-item header s (metered t) k = record { scopes-kept = k .scopes-kept; voices-kept = item-four header s (metered t) (k .voices-kept) }
-kept-item header s (sung b t) k = record { scopes-kept = k .scopes-kept; voices-kept = k .voices-kept }
-kept-item header s (played u t l) k =
+kept-item header s keyInHeader k = record { scopes-kept = k .scopes-kept; voices-kept = k .voices-kept }
+kept-item header s (keyChange q) k = record { scopes-kept = kept-key header q (s .measures) s (k .scopes-kept); voices-kept = item-four header s (keyChange q) (k .voices-kept) }
+kept-item header s (meterChange t) k = record { scopes-kept = k .scopes-kept; voices-kept = item-four header s (meterChange t) (k .voices-kept) }
+kept-item header s (lyricLine b t) k = record { scopes-kept = k .scopes-kept; voices-kept = k .voices-kept }
+kept-item header s (musicLine u t l) k =
     let r = ready-after (lineBegins u t s) (tokens 0 l) (ready-begins u t s (k .voices-kept) (k .scopes-kept)) in
     record { scopes-kept = r .scopes-4; voices-kept = r .voices-4 }
 

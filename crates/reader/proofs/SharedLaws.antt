@@ -6,7 +6,7 @@ use mathlib.Core.List.{List, [], _∷_, map}
 use Rattle.laws.specs.Lists.{foldl}
 use Rattle.standard.specs.Fields.{Meter}
 use Rattle.reader.specs.Token.{Token, space, overlay, quoted, broken, tuplet, slur, graceOpen, graceClose, decoration, barline, volta, unit, meter, key, field, chord, rest, note, nothing, skipped, refused}
-use Rattle.reader.specs.Tokens.{Effect, counts, refuses, setsUnit, setsMeter, passes, effectOf, effects, tokens}
+use Rattle.reader.specs.Tokens.{Effect, counts, refuses, setsUnit, setsMeter, noEffect, effectOf, effects, tokens}
 use Rattle.reader.specs.Scan.{lastUnit, lastMeter}
 use Rattle.reader.specs.State.{PartState, Note, newLine, onOpen, setVoice, voiceNow}
 use Rattle.reader.specs.Part.{onBroken, onNothing, append, onSound, onBarline, hears, onToken, lineBegins, onLine}
@@ -55,7 +55,7 @@ first-unit counts xs u = refl
 first-unit (refuses k) xs u = refl
 first-unit (setsUnit v) xs u = refl
 first-unit (setsMeter m) xs u = refl
-first-unit passes xs u = refl
+first-unit noEffect xs u = refl
 
 -- the same for the meter
 first-meter : (x : Effect) (xs : List Effect) (m : Meter) → lastMeter xs (lastMeter (x ∷ []) m) ≡ lastMeter (x ∷ xs) m
@@ -64,7 +64,7 @@ first-meter counts xs m = refl
 first-meter (refuses k) xs m = refl
 first-meter (setsUnit v) xs m = refl
 first-meter (setsMeter n) xs m = refl
-first-meter passes xs m = refl
+first-meter noEffect xs m = refl
 
 -- the unit after a line's tokens
 pub unit-after : (ts : List Token) (s : PartState) → foldl onToken s ts .line .unit ≡ lastUnit (map effectOf ts) (s .line .unit)

@@ -7,7 +7,7 @@ use mathlib.Core.List.{List, [], _∷_, _++_, map, reverse, reverseAux}
 use native.Mathlib.Nat.{mul-suc}
 use native.Mathlib.Omega.{arith}
 use lib.ListN.{length, length-map, length-append}
-use Rattle.laws.specs.Lists.{foldl, All, any, cat, sum}
+use Rattle.laws.specs.Lists.{foldl, All, any, concat, sum}
 use Rattle.laws.specs.Bytes.{little, le32}
 use Rattle.laws.proofs.Bools.{by-test}
 use Rattle.laws.proofs.Numbers.{length-little}
@@ -19,13 +19,13 @@ use Rattle.standard.specs.Fields.{Meter}
 use Rattle.reader.specs.Token.{Token, space, overlay, quoted, broken, tuplet, slur, graceOpen, graceClose, decoration, barline, volta, unit, meter, key, field, chord, rest, note, nothing, skipped, refused}
 use Rattle.reader.specs.Tokens.{tokens}
 use Rattle.reader.specs.Barlines.{leftOf}
-use Rattle.reader.specs.Scan.{Env, Item, born, reset, headed, keyed, metered, sung, played}
+use Rattle.reader.specs.Scan.{Env, Item, voiceDeclared, reset, keyInHeader, keyChange, meterChange, lyricLine, musicLine}
 use Rattle.reader.specs.State.{PartState, Note, Measure, onOpen, setVoice, voiceNow, isEmpty, newMeasure, newPart, withRight}
 use Rattle.reader.specs.Voltas.{starts, endsAt, close, closed}
 use Rattle.reader.specs.Lyrics.{Syllable}
 use Rattle.reader.specs.Answer.{isMusic, built, partBytes, encode}
 use Rattle.reader.specs.Part.{Part, emptyPart, onBroken, onNothing, append, onSound, leftSet, ended, onBarline, hears, onToken, opened, lineBegins, onLine, onLyric, onKey, onItem, dropped, inOrder, markedBy, marked, finished, build}
-use Rattle.reader.specs.Records.{measureWidth, noteWidth, pitchWidth, lyricWidth, section, sections, notesOf, pitchesOf, lyrics, lyricText, noteCounts, markBytes, measureBytes, noteBytes, pitchBytes, lyricBytes, signed16}
+use Rattle.reader.specs.Records.{measureWidth, noteWidth, pitchWidth, lyricWidth, section, sections, notesOf, pitchesOf, lyrics, lyricText, noteCounts, keyMarkBytes, measureBytes, noteBytes, pitchBytes, lyricBytes, signed16}
 
 -- a measure with four voices
 abbrev pub Four : Measure → Type 0
@@ -132,13 +132,13 @@ key-four h k (m ∷ ms) s p = open-four _ (λ m q. q) _ p
 -- any item
 pub item-four : (h : Key) (s : PartState) (i : Item) → Fours (s .measures) → Fours (onItem h s i .measures)
 unfolding onItem onLyric
-item-four h s (born b) p = p
+item-four h s (voiceDeclared b) p = p
 item-four h s reset p = p
-item-four h s headed p = p
-item-four h s (keyed k) p = key-four h k (s .measures) s p
-item-four h s (metered t) p = open-four _ (λ m q. q) s p
-item-four h s (sung b t) p = p
-item-four h s (played u t l) p = line-four u t l s p
+item-four h s keyInHeader p = p
+item-four h s (keyChange k) p = key-four h k (s .measures) s p
+item-four h s (meterChange t) p = open-four _ (λ m q. q) s p
+item-four h s (lyricLine b t) p = p
+item-four h s (musicLine u t l) p = line-four u t l s p
 
 -- THE END
 -- without the empty measures at the end
@@ -202,7 +202,7 @@ with-both vs k m = record { voices = vs; left = m .left; right = m .right; meter
 
 -- its bytes
 both-bytes : (vs : List (List Note)) (k : Option Key) (m : Measure) → length vs ≡ 4 → length (measureBytes (with-both vs k m)) ≡ measureWidth
-unfolding measureBytes noteCounts markBytes with-both little
+unfolding measureBytes noteCounts keyMarkBytes with-both little
 both-bytes [] k m e = absurd (let z : _≡_ {A = ℕ} 0 4 = e in omega arith)
 both-bytes (a ∷ []) k m e = absurd (let z : _≡_ {A = ℕ} 1 4 = e in omega arith)
 both-bytes (a ∷ b ∷ []) k m e = absurd (let z : _≡_ {A = ℕ} 2 4 = e in omega arith)
@@ -217,16 +217,16 @@ unfolding with-both
 measure-bytes m p = both-bytes (m .voices) (m .key) m p
 
 -- records of one width, one after the other
-cat-length {ℓ} : {A : Type ℓ} (P : A → Type 0) (f : A → List ℕ) (n : ℕ) → ((x : A) → P x → length (f x) ≡ n) → (xs : List A) → All P xs → length (cat (map f xs)) ≡ n * length xs
-cat-length P f n h [] p = omega arith
-cat-length P f n h (x ∷ xs) p =
-    let k : length (cat (map f xs)) ≡ n * length xs = cat-length P f n h xs (p .1) in
-    omega (arith, length-append (f x) (cat (map f xs)), h x (p .0), k, mul-suc n (length xs))
+concat-length {ℓ} : {A : Type ℓ} (P : A → Type 0) (f : A → List ℕ) (n : ℕ) → ((x : A) → P x → length (f x) ≡ n) → (xs : List A) → All P xs → length (concat (map f xs)) ≡ n * length xs
+concat-length P f n h [] p = omega arith
+concat-length P f n h (x ∷ xs) p =
+    let k : length (concat (map f xs)) ≡ n * length xs = concat-length P f n h xs (p .1) in
+    omega (arith, length-append (f x) (concat (map f xs)), h x (p .0), k, mul-suc n (length xs))
 
 -- a section: its count, and its records
 section-length {ℓ} : {A : Type ℓ} (P : A → Type 0) (f : A → List ℕ) (n : ℕ) → ((x : A) → P x → length (f x) ≡ n) → (xs : List A) → All P xs → length (section f xs) ≡ 4 + n * length xs
 unfolding section little
-section-length P f n h xs p = omega (arith, cat-length P f n h xs p)
+section-length P f n h xs p = omega (arith, concat-length P f n h xs p)
 
 -- a note is as wide as its record
 pub note-bytes : (x : ℕ × Note) → Unit {0} → length (noteBytes (x .1)) ≡ noteWidth

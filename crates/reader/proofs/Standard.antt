@@ -11,11 +11,11 @@ use lib.Dec.{eqb, ltb}
 use lib.ListN.{length, drop, replicate, length-replicate}
 use lib.Seq.{take-append-seam, drop-at}
 use borrow.Author.Tests.{eqb-true, le-leb, le-ltb, lt-ltb, ne-eqb}
-use Rattle.laws.specs.Lists.{foldl, All, all, allBelow, span, eqText}
+use Rattle.laws.specs.Lists.{foldl, All, all, allBelow, countWhile, eqText}
 use Rattle.laws.proofs.Bools.{by-test, both-true, and-left, and-right, and-both, eqb-sym}
 use Rattle.laws.proofs.Finite.{below, below₂}
 use Rattle.laws.proofs.Lists.{eqText-true, foldl-append}
-use Rattle.laws.proofs.Spans.{span-no}
+use Rattle.laws.proofs.Spans.{count-while-no}
 use Rattle.standard.specs.Bytes.{ascii, is, isDigit, first, decimal}
 use Rattle.standard.specs.Pitches.{isLetter, octaveMark, octaveBy, alterOf, stepOf}
 use Rattle.standard.specs.Keys.{keyAlter}
@@ -27,7 +27,7 @@ use Rattle.standard.specs.Notes
 use Rattle.standard.specs.Notes.{Beam, beams}
 use Rattle.standard.specs.Fields.{namedMeter}
 use Rattle.reader.specs.Text.{isSpace}
-use Rattle.reader.specs.Pieces.{pieces, mark, after}
+use Rattle.reader.specs.Pieces.{pieces, separator, after}
 use Rattle.reader.specs.Fields.{meterOf, meterText, meterOr, meterNumber, meterBottom, orFour, unitOf, unitInline, unitText, unitNumber, lineUnit, inlineUnit, orEight}
 use Rattle.reader.specs.Pitches.{octaveFrom, Before, accidentalOf, signs}
 use Rattle.reader.specs.Token.{taken, barline, tuplet, volta}
@@ -38,7 +38,7 @@ use Rattle.reader.specs.State.{Note}
 use Rattle.reader.specs.Part.{canBeam, beamed, runAfter}
 use Rattle.reader.specs.All.{all as everything}
 use Rattle.reader.proofs.ValueLaws.{written}
-use Rattle.reader.proofs.Digits.{digit-not, digit-solid, span-front, digits-some, numeral-some, solid-trimmed, digits-solid, before-digits, before-all, after-digits, pieces-digits, pieces-two}
+use Rattle.reader.proofs.Digits.{digit-not, digit-solid, count-while-front, digits-some, numeral-some, solid-trimmed, digits-solid, before-digits, before-all, after-digits, pieces-digits, pieces-two}
 
 -- OCTAVES: commas, then apostrophes, then neither
 marks-down : (m o : ℕ) → octaveBy o (replicate m 44) ≡ o - m
@@ -63,19 +63,19 @@ all-same p x zero h = refl
 all-same p x (suc n) h = and-both (p x) (all p (replicate n x)) h (all-same p x n h)
 
 -- apostrophes are no commas
-ups-stop : (n : ℕ) (s : List ℕ) → span (is ",") s ≡ 0 → span (is ",") (replicate n 39 ++ s) ≡ 0
+ups-stop : (n : ℕ) (s : List ℕ) → countWhile (is ",") s ≡ 0 → countWhile (is ",") (replicate n 39 ++ s) ≡ 0
 ups-stop zero s h = h
 ups-stop (suc n) s h = refl
 
 -- within the range of a byte the octave is the one that the marks say, and they are all read
-pub octave-meets : (start m n : ℕ) (s : List ℕ) → m ≤ start → start - m + n ≤ 255 → span (is ",") s ≡ 0 → span (is "'") s ≡ 0
+pub octave-meets : (start m n : ℕ) (s : List ℕ) → m ≤ start → start - m + n ≤ 255 → countWhile (is ",") s ≡ 0 → countWhile (is "'") s ≡ 0
     → octaveFrom start (replicate m 44 ++ (replicate n 39 ++ s)) ≡ record { octave = octaveBy start (replicate m 44 ++ replicate n 39); used = m + n; fine = true }
 unfolding octaveFrom
 octave-meets start m n s low high c a =
     let t = replicate n 39 ++ s in
-    let d : span (is ",") (replicate m 44 ++ t) ≡ m = span-front (is ",") (replicate m 44) t (all-same (is ",") 44 m refl) (ups-stop n s c) ∙ length-replicate m 44 in
+    let d : countWhile (is ",") (replicate m 44 ++ t) ≡ m = count-while-front (is ",") (replicate m 44) t (all-same (is ",") 44 m refl) (ups-stop n s c) ∙ length-replicate m 44 in
     let r : drop m (replicate m 44 ++ t) ≡ t = drop-at (replicate m 44) t m (length-replicate m 44) in
-    let u : span (is "'") t ≡ n = span-front (is "'") (replicate n 39) s (all-same (is "'") 39 n refl) a ∙ length-replicate n 39 in
+    let u : countWhile (is "'") t ≡ n = count-while-front (is "'") (replicate n 39) s (all-same (is "'") 39 n refl) a ∙ length-replicate n 39 in
     rw (d, octaveFrom) (rw (r, u, marks-both m n start, le-leb m start low, le-leb (start - m + n) 255 high))
 
 -- ACCIDENTALS
@@ -87,33 +87,33 @@ some-same : (x y : ℕ) → some x ≡ some y → x ≡ y
 some-same x y e = ap (λ (o : Option ℕ). elim o as (λ _. ℕ) [ none ↦ 0 | some v ↦ v ]) e
 
 -- `^`
-sharp-meets : (c : ℕ) (s : List ℕ) → isLetter c ≡ true → accidentalOf (94 ∷ c ∷ s) ≡ record { mark = some (record { alter = 129; cents = 128 }); used = 1 }
+sharp-meets : (c : ℕ) (s : List ℕ) → isLetter c ≡ true → accidentalOf (94 ∷ c ∷ s) ≡ record { sign = some (record { alter = 129; cents = 128 }); used = 1 }
 unfolding accidentalOf signs
-sharp-meets c s l = rw (span-no (is "^") c s (letter-not c 94 l refl)) (rw (letter-not c 47 l refl, signs))
+sharp-meets c s l = rw (count-while-no (is "^") c s (letter-not c 94 l refl)) (rw (letter-not c 47 l refl, signs))
 
 -- `^^`
-double-sharp-meets : (c : ℕ) (s : List ℕ) → isLetter c ≡ true → accidentalOf (94 ∷ 94 ∷ c ∷ s) ≡ record { mark = some (record { alter = 130; cents = 128 }); used = 2 }
+double-sharp-meets : (c : ℕ) (s : List ℕ) → isLetter c ≡ true → accidentalOf (94 ∷ 94 ∷ c ∷ s) ≡ record { sign = some (record { alter = 130; cents = 128 }); used = 2 }
 unfolding accidentalOf signs
-double-sharp-meets c s l = rw (span-no (is "^") c s (letter-not c 94 l refl)) refl
+double-sharp-meets c s l = rw (count-while-no (is "^") c s (letter-not c 94 l refl)) refl
 
 -- `_`
-flat-meets : (c : ℕ) (s : List ℕ) → isLetter c ≡ true → accidentalOf (95 ∷ c ∷ s) ≡ record { mark = some (record { alter = 127; cents = 128 }); used = 1 }
+flat-meets : (c : ℕ) (s : List ℕ) → isLetter c ≡ true → accidentalOf (95 ∷ c ∷ s) ≡ record { sign = some (record { alter = 127; cents = 128 }); used = 1 }
 unfolding accidentalOf signs
-flat-meets c s l = rw (span-no (is "_") c s (letter-not c 95 l refl)) (rw (letter-not c 47 l refl, signs))
+flat-meets c s l = rw (count-while-no (is "_") c s (letter-not c 95 l refl)) (rw (letter-not c 47 l refl, signs))
 
 -- `__`
-double-flat-meets : (c : ℕ) (s : List ℕ) → isLetter c ≡ true → accidentalOf (95 ∷ 95 ∷ c ∷ s) ≡ record { mark = some (record { alter = 126; cents = 128 }); used = 2 }
+double-flat-meets : (c : ℕ) (s : List ℕ) → isLetter c ≡ true → accidentalOf (95 ∷ 95 ∷ c ∷ s) ≡ record { sign = some (record { alter = 126; cents = 128 }); used = 2 }
 unfolding accidentalOf signs
-double-flat-meets c s l = rw (span-no (is "_") c s (letter-not c 95 l refl)) refl
+double-flat-meets c s l = rw (count-while-no (is "_") c s (letter-not c 95 l refl)) refl
 
 -- `=`
-natural-meets : (c : ℕ) (s : List ℕ) → accidentalOf (61 ∷ c ∷ s) ≡ record { mark = some (record { alter = 128; cents = 128 }); used = 1 }
+natural-meets : (c : ℕ) (s : List ℕ) → accidentalOf (61 ∷ c ∷ s) ≡ record { sign = some (record { alter = 128; cents = 128 }); used = 1 }
 unfolding accidentalOf
 natural-meets c s = refl
 
 -- the accidental of n half tones with 128 added, in so many bytes
 abbrev sounds : ℕ → ℕ → Before
-sounds a n = record { mark = some (record { alter = a; cents = 128 }); used = n }
+sounds a n = record { sign = some (record { alter = a; cents = 128 }); used = n }
 
 -- a sign that is the given one
 this-sign : (given sign : List ℕ) (v a : ℕ) (t : List ℕ) → alterOf given ≡ some v → accidentalOf (given ++ t) ≡ sounds v (length given) → sign ≡ given → alterOf sign ≡ some a → accidentalOf (sign ++ t) ≡ sounds a (length sign)
@@ -184,24 +184,24 @@ unfolding normalFor orOneLess
 normal-meets p q h = rw h
 
 -- a number of digits before what is no digit
-positive-meets : (top : ℕ) (d t : List ℕ) → 0 < length d → all isDigit d ≡ true → 1 ≤ decimal 0 d → decimal 0 d ≤ top → span isDigit t ≡ 0 → positive top (d ++ t) ≡ some (decimal 0 d)
+positive-meets : (top : ℕ) (d t : List ℕ) → 0 < length d → all isDigit d ≡ true → 1 ≤ decimal 0 d → decimal 0 d ≤ top → countWhile isDigit t ≡ 0 → positive top (d ++ t) ≡ some (decimal 0 d)
 unfolding positive notZero
 positive-meets top d t n a low high s =
-    rw (span-front isDigit d t a s, take-append-seam d t, digits-some top d n a high, ne-eqb (decimal 0 d) 0 (λ e. absurd (omega (arith, e, low))))
+    rw (count-while-front isDigit d t a s, take-append-seam d t, digits-some top d n a high, ne-eqb (decimal 0 d) 0 (λ e. absurd (omega (arith, e, low))))
 
 -- `(p:q:r` in digits, with what is no digit behind it: p notes in the time of q for the next r
 pub tuplet-meets : (a b c s : List ℕ) → 0 < length a → 0 < length b → 0 < length c → all isDigit a ≡ true → all isDigit b ≡ true → all isDigit c ≡ true
-    → 2 ≤ decimal 0 a → decimal 0 a ≤ 255 → 1 ≤ decimal 0 b → decimal 0 b ≤ 255 → 1 ≤ decimal 0 c → decimal 0 c ≤ 2 ^ 64 - 1 → span isDigit s ≡ 0
+    → 2 ≤ decimal 0 a → decimal 0 a ≤ 255 → 1 ≤ decimal 0 b → decimal 0 b ≤ 255 → 1 ≤ decimal 0 c → decimal 0 c ≤ 2 ^ 64 - 1 → countWhile isDigit s ≡ 0
     → tupletOf (a ++ (58 ∷ (b ++ (58 ∷ (c ++ s))))) ≡ some (taken (tuplet (record { actual = decimal 0 a; normal = decimal 0 b; count = decimal 0 c })) (1 + length a + 1 + length b + 1 + length c))
 unfolding tupletOf withActual withNormal withCount counted
 tuplet-meets a b c s na nb nc da db dc lp hp lq hq lr hr z =
     let t : List ℕ = 58 ∷ (b ++ (58 ∷ (c ++ s))) in
     let u : List ℕ = 58 ∷ (c ++ s) in
     let k : 1 + length b ≡ suc (length b) = omega arith in
-    rw (positive-meets 255 a t na da (omega arith) hp refl, span-front isDigit a t da refl, drop-at a t (length a) refl)
+    rw (positive-meets 255 a t na da (omega arith) hp refl, count-while-front isDigit a t da refl, drop-at a t (length a) refl)
     (rw (le-ltb (decimal 0 a) 2 lp, withActual)
-    (rw (positive-meets 255 b u nb db lq hq refl, span-front isDigit b u db refl, k, drop-at b u (length b) refl)
-    (rw (positive-meets (2 ^ 64 - 1) c s nc dc lr hr z, span-front isDigit c s dc z))))
+    (rw (positive-meets 255 b u nb db lq hq refl, count-while-front isDigit b u db refl, k, drop-at b u (length b) refl)
+    (rw (positive-meets (2 ^ 64 - 1) c s nc dc lr hr z, count-while-front isDigit c s dc z))))
 
 -- PASS LISTS
 -- a number of one or two digits, from 1 to 32, that does not begin with 0
@@ -230,11 +230,11 @@ digit-pass [] a = refl
 digit-pass (c ∷ d) a = rw (and-left (isDigit c) (all isDigit d) a) (digit-pass d (and-right (isDigit c) (all isDigit d) a))
 
 -- in a music line: `[` and a number, before what is no pass byte
-pub ending-meets : (d s : List ℕ) → 0 < length d → all isDigit d ≡ true → is "0" (first d) ≡ false → 1 ≤ decimal 0 d → decimal 0 d ≤ 32 → span isPassByte s ≡ 0
+pub ending-meets : (d s : List ℕ) → 0 < length d → all isDigit d ≡ true → is "0" (first d) ≡ false → 1 ≤ decimal 0 d → decimal 0 d ≤ 32 → countWhile isPassByte s ≡ 0
     → voltaOf (d ++ s) ≡ taken (volta (passesOf (pass (decimal 0 d)))) (suc (length d))
 unfolding voltaOf voltaAs
 ending-meets d s n a z low high r =
-    rw (span-front isPassByte d s (digit-pass d a) r, take-append-seam d s, pieces-digits 44 refl d a, single-meets d n a z low high)
+    rw (count-while-front isPassByte d s (digit-pass d a) r, take-append-seam d s, pieces-digits 44 refl d a, single-meets d n a z low high)
 
 -- so are two numbers and a hyphen
 range-bytes : (d e : List ℕ) → all isDigit d ≡ true → all isDigit e ≡ true → all isPassByte (d ++ (45 ∷ e)) ≡ true
@@ -242,19 +242,19 @@ range-bytes [] e a b = digit-pass e b
 range-bytes (c ∷ d) e a b = rw (and-left (isDigit c) (all isDigit d) a) (range-bytes d e (and-right (isDigit c) (all isDigit d) a) b)
 
 -- and they are one piece
-range-piece : (d e : List ℕ) → all isDigit d ≡ true → all isDigit e ≡ true → pieces (mark (is ",")) 0 (d ++ (45 ∷ e)) ≡ (d ++ (45 ∷ e)) ∷ []
+range-piece : (d e : List ℕ) → all isDigit d ≡ true → all isDigit e ≡ true → pieces (separator (is ",")) 0 (d ++ (45 ∷ e)) ≡ (d ++ (45 ∷ e)) ∷ []
 unfolding pieces
 range-piece [] e a b = rw (pieces-digits 44 refl e b)
 range-piece (c ∷ d) e a b = rw (digit-not c 44 (and-left (isDigit c) (all isDigit d) a) refl, pieces) (rw (range-piece d e (and-right (isDigit c) (all isDigit d) a) b))
 
 -- `[` and two numbers around a hyphen
 pub endings-meet : (d e s : List ℕ) → 0 < length d → 0 < length e → all isDigit d ≡ true → all isDigit e ≡ true → is "0" (first d) ≡ false → is "0" (first e) ≡ false
-    → 1 ≤ decimal 0 d → decimal 0 d < decimal 0 e → decimal 0 e ≤ 32 → span isPassByte s ≡ 0
+    → 1 ≤ decimal 0 d → decimal 0 d < decimal 0 e → decimal 0 e ≤ 32 → countWhile isPassByte s ≡ 0
     → voltaOf ((d ++ (45 ∷ e)) ++ s) ≡ taken (volta (passesOf (passes (decimal 0 d) (decimal 0 e)))) (suc (length (d ++ (45 ∷ e))))
 unfolding voltaOf voltaAs
 endings-meet d e s nd ne ad ae zd ze low less high r =
     let t : List ℕ = d ++ (45 ∷ e) in
-    rw (span-front isPassByte t s (range-bytes d e ad ae) r, take-append-seam t s, range-piece d e ad ae, range-meets d e nd ne ad ae zd ze low less high)
+    rw (count-while-front isPassByte t s (range-bytes d e ad ae) r, take-append-seam t s, range-piece d e ad ae, range-meets d e nd ne ad ae zd ze low less high)
 
 -- BROKEN RHYTHM: two notes of equal length without dots keep their sum, where neither dots nor halving come to their end
 sums : ℕ → ℕ → Bool

@@ -9,15 +9,15 @@ use lib.Dec.{ltb, eqb}
 use lib.ListN.{length, getD, take, drop, length-drop}
 use lib.Seq.{drop-cons}
 use borrow.Author.Tests.{eqb-true, ltb-true}
-use Rattle.laws.specs.Lists.{span, any, startsWith}
+use Rattle.laws.specs.Lists.{countWhile, any, startsWith}
 use Rattle.laws.proofs.Bools.{by-test, and-left, and-right}
-use Rattle.laws.proofs.Spans.{span-yes, span-le, spans-wider}
+use Rattle.laws.proofs.Spans.{count-while-yes, count-while-le, spans-wider}
 use Rattle.laws.proofs.Lists.{startsWith-length}
 use Rattle.standard.specs.Bytes.{is, isDigit, first}
 use Rattle.standard.specs.Bars.{Symbol, barSymbols, symbolAt}
 use Rattle.standard.specs.Pitches.{Accidental, Written, isLetter}
 use Rattle.reader.specs.Lengths.{lengthOf, denominator}
-use Rattle.reader.specs.Pieces.{pieces, mark}
+use Rattle.reader.specs.Pieces.{pieces, separator}
 use Rattle.reader.specs.Pitches.{octaveFrom, octaveOf, Before, signs, accidentalOf, isQuarter, chordOf}
 use Rattle.reader.specs.Token.{Token, Taken}
 use Rattle.reader.specs.Tuplets.{positive, counted, withCount, withNormal, withActual, tupletOf, orSlur}
@@ -36,10 +36,10 @@ there (c ∷ s) k e = omega arith
 pub length-in : (s : List ℕ) → lengthOf s .used ≤ length s
 unfolding lengthOf denominator
 length-in s =
-    let n = span isDigit s in
+    let n = countWhile isDigit s in
     by-test (is "/" (first (drop n s)))
-    (λ e. rw (e, lengthOf) (omega (arith, there (drop n s) 46 e, length-drop n s, span-le isDigit (drop (suc n) s), length-drop (suc n) s)))
-    (λ e. rw (e, lengthOf) (span-le isDigit s))
+    (λ e. rw (e, lengthOf) (omega (arith, there (drop n s) 46 e, length-drop n s, count-while-le isDigit (drop (suc n) s), length-drop (suc n) s)))
+    (λ e. rw (e, lengthOf) (count-while-le isDigit s))
 
 -- ties and slur ends
 pub behind-in : (s : List ℕ) → behind s .used ≤ length s
@@ -52,7 +52,7 @@ behind-in (c ∷ s) =
 -- octave marks
 pub octave-in : (c : ℕ) (s : List ℕ) → octaveOf c s .used ≤ length s
 unfolding octaveOf octaveFrom
-octave-in c s = let down = span (is ",") s in omega (arith, span-le (is ",") s, span-le (is "'") (drop down s), length-drop down s)
+octave-in c s = let down = countWhile (is ",") s in omega (arith, count-while-le (is ",") s, count-while-le (is "'") (drop down s), length-drop down s)
 
 -- a byte that does not end a chord
 abbrev pub inChord : ℕ → Bool
@@ -67,15 +67,15 @@ apostrophe-in : (c : ℕ) → is "'" c ≡ true → inChord c ≡ true
 apostrophe-in c e = rw (eqb-true c 39 e)
 
 -- octave marks do not reach past a chord's end
-pub octave-in-chord : (c : ℕ) (s : List ℕ) → octaveOf c s .used ≤ span inChord s
+pub octave-in-chord : (c : ℕ) (s : List ℕ) → octaveOf c s .used ≤ countWhile inChord s
 unfolding octaveOf octaveFrom
 octave-in-chord c s = spans-wider (is ",") (is "'") inChord comma-in apostrophe-in s
 
 -- nor does the slash of a quarter tone
-pub quarter-in-chord : (a : Option Accidental) (s : List ℕ) → isQuarter a s ≡ true → 1 ≤ span inChord s
+pub quarter-in-chord : (a : Option Accidental) (s : List ℕ) → isQuarter a s ≡ true → 1 ≤ countWhile inChord s
 unfolding isQuarter
 quarter-in-chord none [] e = absurd (false≢true e)
-quarter-in-chord none (c ∷ s) e = rw (span-yes inChord c s (rw (eqb-true c 47 e))) (omega arith)
+quarter-in-chord none (c ∷ s) e = rw (count-while-yes inChord c s (rw (eqb-true c 47 e))) (omega arith)
 quarter-in-chord (some a) s e = absurd (false≢true e)
 
 -- a run of signs
@@ -91,9 +91,9 @@ pub accidental-in : (c : ℕ) (s : List ℕ) → accidentalOf (c ∷ s) .used �
 unfolding accidentalOf
 accidental-in c s =
     by-test (is "^" c)
-    (λ e. rw (e, accidentalOf) (signs-in true (span (is "^") (c ∷ s)) (c ∷ s) (span-le (is "^") (c ∷ s))))
+    (λ e. rw (e, accidentalOf) (signs-in true (countWhile (is "^") (c ∷ s)) (c ∷ s) (count-while-le (is "^") (c ∷ s))))
     (λ e. rw (e, accidentalOf) (by-test (is "_" c)
-    (λ f. rw (f, accidentalOf) (signs-in false (span (is "_") (c ∷ s)) (c ∷ s) (span-le (is "_") (c ∷ s))))
+    (λ f. rw (f, accidentalOf) (signs-in false (countWhile (is "_") (c ∷ s)) (c ∷ s) (count-while-le (is "_") (c ∷ s))))
     (λ f. rw (f, accidentalOf) (by-test (is "=" c) (λ g. rw (g, accidentalOf) (omega arith)) (λ g. rw (g, accidentalOf) (omega arith))))))
 
 -- a note from its letter on
@@ -135,7 +135,7 @@ count-in : (p q n m : ℕ) (s : List ℕ) → n + length s ≤ m → Within m (w
 unfolding withCount Within
 count-in p q n m s h =
     by-test (is ":" (first s))
-    (λ e. rw (e, withCount) (counted-in p q (n + 1 + span isDigit (drop 1 s)) m (positive (2 ^ 64 - 1) (drop 1 s)) (omega (arith, there s 57 e, span-le isDigit (drop 1 s), length-drop 1 s))))
+    (λ e. rw (e, withCount) (counted-in p q (n + 1 + countWhile isDigit (drop 1 s)) m (positive (2 ^ 64 - 1) (drop 1 s)) (omega (arith, there s 57 e, count-while-le isDigit (drop 1 s), length-drop 1 s))))
     (λ e. rw (e, withCount) (omega arith))
 
 -- a tuplet up to its normal
@@ -143,8 +143,8 @@ normal-in : (p n m : ℕ) (s : List ℕ) (o : Option ℕ) → 0 < length s → n
 unfolding withNormal Within
 normal-in p n m s none k h = tt
 normal-in p n m s (some q) k h =
-    let d = span isDigit (drop 1 s) in
-    count-in p q (n + 1 + d) m (drop (1 + d) s) (omega (arith, span-le isDigit (drop 1 s), length-drop 1 s, length-drop (1 + d) s))
+    let d = countWhile isDigit (drop 1 s) in
+    count-in p q (n + 1 + d) m (drop (1 + d) s) (omega (arith, count-while-le isDigit (drop 1 s), length-drop 1 s, length-drop (1 + d) s))
 
 -- a tuplet up to its actual
 actual-in : (n m : ℕ) (s : List ℕ) (o : Option ℕ) → n + length s ≤ m → Within m (withActual n s o)
@@ -168,8 +168,8 @@ slur-in m (some t) k h = h
 tuplet-in : (s : List ℕ) → orSlur (tupletOf s) .used ≤ suc (length s)
 unfolding tupletOf
 tuplet-in s =
-    let d = span isDigit s in
-    slur-in (suc (length s)) (tupletOf s) (omega arith) (actual-in (1 + d) (suc (length s)) (drop d s) (positive 255 s) (omega (arith, span-le isDigit s, length-drop d s)))
+    let d = countWhile isDigit s in
+    slur-in (suc (length s)) (tupletOf s) (omega arith) (actual-in (1 + d) (suc (length s)) (drop d s) (positive 255 s) (omega (arith, count-while-le isDigit s, length-drop d s)))
 
 -- a symbol of the table lies within the text that begins with it
 unfoldable Fits : List ℕ → Option Symbol → Type 0
@@ -210,25 +210,25 @@ chord-in n s (some (p ∷ ps)) = omega (arith, length-in s, behind-in (drop (len
 chordAt-in : (s : List ℕ) → chordAt s .used ≤ suc (length s)
 unfolding chordAt
 chordAt-in s =
-    let n = span (λ c. not (is "]" c)) s in
+    let n = countWhile (λ c. not (is "]" c)) s in
     by-test (ltb n (length s))
     (λ e. rw (e, chordAt) (omega (arith, chord-in (2 + n) (drop (suc n) s) (chordOf 0 none s), length-drop (suc n) s, ltb-true n (length s) e)))
-    (λ e. rw (e, chordAt) (omega (arith, chord-in (1 + n) (drop (suc n) s) (chordOf 0 none s), length-drop (suc n) s, span-le (λ c. not (is "]" c)) s)))
+    (λ e. rw (e, chordAt) (omega (arith, chord-in (1 + n) (drop (suc n) s) (chordOf 0 none s), length-drop (suc n) s, count-while-le (λ c. not (is "]" c)) s)))
 
 -- an inline field has its `]`
-inline-in : (s : List ℕ) → isInline s ≡ true → ltb (span (λ c. not (is "]" c)) s) (length s) ≡ true
+inline-in : (s : List ℕ) → isInline s ≡ true → ltb (countWhile (λ c. not (is "]" c)) s) (length s) ≡ true
 unfolding isInline
 inline-in s e =
-    let n = span (λ c. not (is "]" c)) s in
+    let n = countWhile (λ c. not (is "]" c)) s in
     and-left (ltb n (length s)) (not (is "\"" (first s))) (and-left (ltb n (length s) && not (is "\"" (first s))) (any (is ":") (take n s)) e)
 
 -- what a `[` begins
 bracket-in : (s : List ℕ) → bracketOf s .used ≤ suc (length s)
 unfolding bracketOf voltaOf inlineAt
 bracket-in s =
-    let n = span (λ c. not (is "]" c)) s in
+    let n = countWhile (λ c. not (is "]" c)) s in
     by-test (isDigit (first s))
-    (λ e. rw (e, bracketOf) (volta-in (span isPassByte s) s (passList 0 (pieces (mark (is ",")) 0 (take (span isPassByte s) s))) (span-le isPassByte s)))
+    (λ e. rw (e, bracketOf) (volta-in (countWhile isPassByte s) s (passList 0 (pieces (separator (is ",")) 0 (take (countWhile isPassByte s) s))) (count-while-le isPassByte s)))
     (λ e. rw (e, bracketOf) (by-test (isInline s)
     (λ f. rw (f, bracketOf) (omega (arith, ltb-true n (length s) (inline-in s f))))
     (λ f. rw (f, bracketOf) (chordAt-in s))))
@@ -237,7 +237,7 @@ bracket-in s =
 closed-in : (p : ℕ → Bool) (t : Token) (s : List ℕ) (other : Taken) → other .used ≤ suc (length s) → closedBy p t s other .used ≤ suc (length s)
 unfolding closedBy
 closed-in p t s other h =
-    let n = span (λ c. not (p c)) s in
+    let n = countWhile (λ c. not (p c)) s in
     by-test (ltb n (length s)) (λ e. rw (e, closedBy) (omega (arith, ltb-true n (length s) e))) (λ e. rw (e, closedBy) h)
 
 -- a broken rhythm
@@ -251,8 +251,8 @@ unfolding tokenAs restAs
 as-in white c s = omega arith
 as-in ampersand c s = omega arith
 as-in quote c s = closed-in (is "\"") _ s _ (omega arith)
-as-in more c s = broken-in true (span (is ">") s) c s (span-le (is ">") s)
-as-in less c s = broken-in false (span (is "<") s) c s (span-le (is "<") s)
+as-in more c s = broken-in true (countWhile (is ">") s) c s (count-while-le (is ">") s)
+as-in less c s = broken-in false (countWhile (is "<") s) c s (count-while-le (is "<") s)
 as-in paren c s = tuplet-in s
 as-in braceOpen c s = omega arith
 as-in braceClose c s = omega arith

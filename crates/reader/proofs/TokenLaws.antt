@@ -9,12 +9,12 @@ use native.Mathlib.Omega.{arith}
 use lib.Dec.{ltb, lit<}
 use lib.ListN.{length, getD, take, drop, length-drop, drop-of-length-le}
 use lib.Seq.{drop-cons, drop-drop}
-use Rattle.laws.specs.Lists.{span, foldl, All, startsWith}
+use Rattle.laws.specs.Lists.{countWhile, foldl, All, startsWith}
 use Rattle.laws.proofs.Bools.{by-test}
 use Rattle.standard.specs.Bytes.{is, isDigit, first}
 use Rattle.standard.specs.Bars.{Symbol, barSymbols, symbolAt}
 use Rattle.standard.specs.Pitches.{Written, isLetter}
-use Rattle.reader.specs.Pieces.{pieces, mark}
+use Rattle.reader.specs.Pieces.{pieces, separator}
 use Rattle.reader.specs.Pitches.{octaveOf, Before, accidentalOf, chordOf}
 use Rattle.reader.specs.Token.{Token, Taken}
 use Rattle.reader.specs.Tuplets.{positive, counted, withCount, withNormal, withActual, tupletOf, orSlur}
@@ -28,7 +28,7 @@ use Rattle.reader.specs.Tokens.{closedBy, brokenOf, bracketOf, Class, wh
 -- a quote or decoration
 closed-takes : (p : ℕ → Bool) (t : Token) (s : List ℕ) (other : Taken) → 0 < other .used → 0 < closedBy p t s other .used
 unfolding closedBy
-closed-takes p t s other h = by-test (ltb (span (λ c. not (p c)) s) (length s)) (λ e. rw (e, closedBy) (omega arith)) (λ e. rw (e, closedBy) h)
+closed-takes p t s other h = by-test (ltb (countWhile (λ c. not (p c)) s) (length s)) (λ e. rw (e, closedBy) (omega arith)) (λ e. rw (e, closedBy) h)
 
 -- a broken rhythm
 broken-takes : (up : Bool) (n : ℕ) (c : ℕ) (s : List ℕ) → 0 < brokenOf up (suc n) (c ∷ s) .used
@@ -51,14 +51,14 @@ count-takes : (p q n : ℕ) (s : List ℕ) → 0 < n → Takes (withCount p q n 
 unfolding withCount Takes
 count-takes p q n s h =
     by-test (is ":" (first s))
-    (λ e. rw (e, withCount) (counted-takes p q (n + 1 + span isDigit (drop 1 s)) (positive (2 ^ 64 - 1) (drop 1 s)) (omega arith)))
+    (λ e. rw (e, withCount) (counted-takes p q (n + 1 + countWhile isDigit (drop 1 s)) (positive (2 ^ 64 - 1) (drop 1 s)) (omega arith)))
     (λ e. rw (e, withCount) h)
 
 -- a tuplet up to its normal
 normal-takes : (p n : ℕ) (s : List ℕ) (o : Option ℕ) → 0 < n → Takes (withNormal p n s o)
 unfolding withNormal Takes
 normal-takes p n s none h = tt
-normal-takes p n s (some q) h = count-takes p q (n + 1 + span isDigit (drop 1 s)) (drop (1 + span isDigit (drop 1 s)) s) (omega arith)
+normal-takes p n s (some q) h = count-takes p q (n + 1 + countWhile isDigit (drop 1 s)) (drop (1 + countWhile isDigit (drop 1 s)) s) (omega arith)
 
 -- a tuplet up to its actual
 actual-takes : (n : ℕ) (s : List ℕ) (o : Option ℕ) → 0 < n → Takes (withActual n s o)
@@ -81,7 +81,7 @@ slur-takes (some t) h = h
 -- a tuplet
 tuplet-takes : (s : List ℕ) → 0 < orSlur (tupletOf s) .used
 unfolding tupletOf
-tuplet-takes s = slur-takes (tupletOf s) (actual-takes (1 + span isDigit s) (drop (span isDigit s) s) (positive 255 s) (omega arith))
+tuplet-takes s = slur-takes (tupletOf s) (actual-takes (1 + countWhile isDigit s) (drop (countWhile isDigit s) s) (positive 255 s) (omega arith))
 
 -- a symbol of the table, if the text begins with one, takes a byte at least
 unfoldable Long : Option Symbol → Type 0
@@ -132,7 +132,7 @@ one-or-two false n = omega arith
 chordAt-takes : (s : List ℕ) → 0 < chordAt s .used
 unfolding chordAt
 chordAt-takes s =
-    let n = span (λ c. not (is "]" c)) s in
+    let n = countWhile (λ c. not (is "]" c)) s in
     chord-takes (cond (ltb n (length s)) (2 + n) (1 + n)) (drop (suc n) s) (chordOf 0 none s) (one-or-two (ltb n (length s)) n)
 
 -- what a `[` begins
@@ -140,7 +140,7 @@ bracket-takes : (s : List ℕ) → 0 < bracketOf s .used
 unfolding bracketOf voltaOf inlineAt
 bracket-takes s =
     by-test (isDigit (first s))
-    (λ e. rw (e, bracketOf) (volta-takes (span isPassByte s) s (passList 0 (pieces (mark (is ",")) 0 (take (span isPassByte s) s)))))
+    (λ e. rw (e, bracketOf) (volta-takes (countWhile isPassByte s) s (passList 0 (pieces (separator (is ",")) 0 (take (countWhile isPassByte s) s)))))
     (λ e. rw (e, bracketOf) (by-test (isInline s) (λ f. rw (f, bracketOf) (omega arith)) (λ f. rw (f, bracketOf) (chordAt-takes s))))
 
 -- a note from its letter on
@@ -170,8 +170,8 @@ unfolding tokenAs restAs
 as-takes white c s = omega arith
 as-takes ampersand c s = omega arith
 as-takes quote c s = closed-takes (is "\"") _ s _ (omega arith)
-as-takes more c s = broken-takes true (span (is ">") s) c s
-as-takes less c s = broken-takes false (span (is "<") s) c s
+as-takes more c s = broken-takes true (countWhile (is ">") s) c s
+as-takes less c s = broken-takes false (countWhile (is "<") s) c s
 as-takes paren c s = tuplet-takes s
 as-takes braceOpen c s = omega arith
 as-takes braceClose c s = omega arith

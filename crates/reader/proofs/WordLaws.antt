@@ -5,7 +5,7 @@ use mathlib.Core.Bool.{not}
 use mathlib.Core.List.{List, [], _∷_}
 use native.Mathlib.Omega.{arith}
 use lib.ListN.{take, drop}
-use Rattle.laws.specs.Lists.{keep, isNil}
+use Rattle.laws.specs.Lists.{filter, isNil}
 use Rattle.reader.specs.Text.{push}
 use Rattle.reader.specs.Pieces.{pieces, words}
 
@@ -44,16 +44,16 @@ module _ (w : List ℕ → ℕ) where
   -- a mark is passed over
   pub words-mark : (c : ℕ) (s : List ℕ) (n : ℕ) → w (c ∷ s) ≡ suc n → words w (c ∷ s) ≡ words w (drop n s)
   unfolding words pieces
-  words-mark c s n e = rw (e, pieces) (ap (keep (λ p. not (isNil p))) (pieces-drop n s))
+  words-mark c s n e = rw (e, pieces) (ap (filter (λ p. not (isNil p))) (pieces-drop n s))
 
   -- what is left behind the first piece, by what the mark at the front takes
-  behind-at : (c : ℕ) (s : List ℕ) (n : ℕ) → w (c ∷ s) ≡ n → stretch (c ∷ s) ≡ 0 → keep (λ p. not (isNil p)) (behind (c ∷ s)) ≡ words w (c ∷ s)
+  behind-at : (c : ℕ) (s : List ℕ) (n : ℕ) → w (c ∷ s) ≡ n → stretch (c ∷ s) ≡ 0 → filter (λ p. not (isNil p)) (behind (c ∷ s)) ≡ words w (c ∷ s)
   unfolding words behind stretch
   behind-at c s zero q e = let z : suc (stretch s) ≡ 0 = rw (q, stretch) at e in absurd (omega (arith, z))
-  behind-at c s (suc n) q e = ap (λ k. keep (λ p. not (isNil p)) (pieces w 0 (drop (pred k) s))) q ∙ sym (words-mark c s n q)
+  behind-at c s (suc n) q e = ap (λ k. filter (λ p. not (isNil p)) (pieces w 0 (drop (pred k) s))) q ∙ sym (words-mark c s n q)
 
   -- where no word stands, what is left behind the first piece is the words
-  behind-words : (s : List ℕ) → stretch s ≡ 0 → keep (λ p. not (isNil p)) (behind s) ≡ words w s
+  behind-words : (s : List ℕ) → stretch s ≡ 0 → filter (λ p. not (isNil p)) (behind s) ≡ words w s
   unfolding words behind pieces
   behind-words [] e = refl
   behind-words (c ∷ s) e = behind-at c s (w (c ∷ s)) refl e
@@ -79,5 +79,5 @@ module _ (w : List ℕ → ℕ) where
   pub words-word : (c : ℕ) (s : List ℕ) → w (c ∷ s) ≡ 0 → words w (c ∷ s) ≡ take (stretch (c ∷ s)) (c ∷ s) ∷ words w (drop (stretch (c ∷ s)) (c ∷ s))
   unfolding words
   words-word c s e =
-      ap (keep (λ p. not (isNil p))) (first-piece (c ∷ s))
+      ap (filter (λ p. not (isNil p))) (first-piece (c ∷ s))
       ∙ rw (one-more c s e) (ap ((c ∷ take (stretch s) s) ∷_) (behind-words (drop (stretch s) s) (stops s)))

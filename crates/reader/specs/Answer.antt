@@ -8,9 +8,9 @@ use lib.ListN.{length}
 use Rattle.laws.specs.Lists.{sum, any}
 use Rattle.laws.specs.Bytes.{le32, zeros}
 use Rattle.standard.specs.Keys.{Key}
-use Rattle.reader.specs.Text.{isUtf8, isBlank, rows}
-use Rattle.reader.specs.Steps.{Step, refuse, on, mine}
-use Rattle.reader.specs.Scan.{Item, born, reset, headed, keyed, metered, sung, played, Env, ScanState, scan, Out}
+use Rattle.reader.specs.Text.{isUtf8, isBlank, textLines}
+use Rattle.reader.specs.Steps.{Step, refuse, on, itemsOf}
+use Rattle.reader.specs.Scan.{Item, voiceDeclared, reset, keyInHeader, keyChange, meterChange, lyricLine, musicLine, Env, ScanState, scan, Out}
 use Rattle.reader.specs.Part.{Part, build, emptyPart}
 use Rattle.reader.specs.Records.{sections}
 
@@ -50,13 +50,13 @@ early text rl sl =
 -- THE PARTS
 -- an item of a music line
 unfoldable pub isMusic : Item → Bool
-isMusic (born b) = false
+isMusic (voiceDeclared b) = false
 isMusic reset = false
-isMusic headed = false
-isMusic (keyed k) = false
-isMusic (metered m) = false
-isMusic (sung b t) = false
-isMusic (played u m l) = true
+isMusic keyInHeader = false
+isMusic (keyChange k) = false
+isMusic (meterChange m) = false
+isMusic (lyricLine b t) = false
+isMusic (musicLine u m l) = true
 
 -- a part without a music line is empty: it has no measure, and its lyric lines fall on nothing
 unfoldable pub built : Env → List Item → Part
@@ -94,11 +94,11 @@ finish e f rl sl = ended (parts e f (max 1 (length (e .voices))) 0) rl sl
 -- after the scan
 unfoldable pub scanned : ℕ → ℕ → Out → Outcome
 scanned rl sl (refuse n l) = refusedWith n l rl sl
-scanned rl sl (on s a) = finish (s .env) (λ p. mine p a) rl sl
+scanned rl sl (on s a) = finish (s .env) (λ p. itemsOf p a) rl sl
 
 unfoldable pub unless : List ℕ → ℕ → ℕ → Option Outcome → Outcome
 unless text rl sl (some w) = w
-unless text rl sl none = scanned rl sl (scan (rows text))
+unless text rl sl none = scanned rl sl (scan (textLines text))
 
 -- THE CALL: a text, a reading store of rl bytes, a scratch store of sl
 unfoldable pub parseAbc : List ℕ → ℕ → ℕ → Outcome

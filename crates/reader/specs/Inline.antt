@@ -5,7 +5,7 @@ use mathlib.Core.Option.{Option, none, some}
 use mathlib.Core.List.{List}
 use lib.Dec.{ltb}
 use lib.ListN.{length, take, drop}
-use Rattle.laws.specs.Lists.{span, any}
+use Rattle.laws.specs.Lists.{countWhile, any}
 use Rattle.standard.specs.Bytes.{is, first}
 use Rattle.reader.specs.Keys.{keyOf}
 use Rattle.reader.specs.Fields.{meterOf, unitInline, middleWord}
@@ -36,8 +36,8 @@ fieldToken s =
 
 -- a field: a `]` to come, a colon before it, and no quote right behind the `[`; s stands behind the `[`
 unfoldable pub isInline : List ℕ → Bool
-isInline s = let n = span (λ c. not (is "]" c)) s in ltb n (length s) && not (is "\"" (first s)) && any (is ":") (take n s)
+isInline s = let n = countWhile (λ c. not (is "]" c)) s in ltb n (length s) && not (is "\"" (first s)) && any (is ":") (take n s)
 
 -- a field takes its brackets too
 unfoldable pub inlineAt : List ℕ → Taken
-inlineAt s = let n = span (λ c. not (is "]" c)) s in taken (fieldToken (take n s)) (2 + n)
+inlineAt s = let n = countWhile (λ c. not (is "]" c)) s in taken (fieldToken (take n s)) (2 + n)

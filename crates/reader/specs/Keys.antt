@@ -5,7 +5,7 @@ use mathlib.Core.Option.{Option, none, some}
 use mathlib.Core.List.{List, [], _∷_, _++_, map}
 use lib.Dec.{leb}
 use lib.ListN.{length, take}
-use Rattle.laws.specs.Lists.{any, keep, has, startsWith}
+use Rattle.laws.specs.Lists.{any, filter, elem, startsWith}
 use Rattle.standard.specs.Bytes.{ascii, is, isCapital, lower, first, last}
 use Rattle.standard.specs.Keys.{Key, tonic, inMode}
 use Rattle.reader.specs.Pieces.{fieldWords, trimmed}
@@ -29,7 +29,7 @@ clefs = ascii "treble" ∷ ascii "bass" ∷ ascii "alto" ∷ ascii "tenor" ∷ a
 
 -- a word of the key text
 unfoldable pub isKeyWord : List ℕ → Bool
-isKeyWord w = not (any (is "=") w || has (map lower w) clefs)
+isKeyWord w = not (any (is "=") w || elem (map lower w) clefs)
 
 -- words with one space between
 unfoldable pub joined : List (List ℕ) → List ℕ
@@ -39,7 +39,7 @@ joined (w ∷ v ∷ ws) = w ++ (32 ∷ joined (v ∷ ws))
 
 -- the key text: what clef words leave, joined by one space
 unfoldable pub keyText : List ℕ → List ℕ
-keyText value = joined (keep isKeyWord (fieldWords value))
+keyText value = joined (filter isKeyWord (fieldWords value))
 
 -- a byte before what was found
 unfoldable pub consSome : ℕ → Option (List ℕ) → Option (List ℕ)

@@ -4,7 +4,7 @@ use mathlib.Core.Bool.{Bool, true, false, cond, _&&_}
 use mathlib.Core.List.{List, [], _∷_}
 use lib.Dec.{ltb, leb, eqb}
 use lib.ListN.{take, drop}
-use Rattle.laws.specs.Lists.{span}
+use Rattle.laws.specs.Lists.{countWhile}
 use Rattle.standard.specs.Bytes.{is, isDigit, first, decimal}
 use Rattle.standard.specs.Lengths.{Fraction, lengthFraction, Value, ticks, forty}
 
@@ -21,12 +21,12 @@ number d (suc n) s = let v = decimal 0 (take (suc n) s) in cond (ltb v (2 ^ 32))
 
 -- after the slash: digits, or nothing, which reads 2 (ABC 2.1, 4.3: A/ is A/2). 000 skips a second slash: the one place where slashes count
 unfoldable pub denominator : ℕ → ℕ → List ℕ → Length
-denominator num used s = let n = span isDigit s in record { num = num; den = number 2 n s; used = used + 1 + n }
+denominator num used s = let n = countWhile isDigit s in record { num = num; den = number 2 n s; used = used + 1 + n }
 
 -- a length at the front
 unfoldable pub lengthOf : List ℕ → Length
 lengthOf s =
-    let n = span isDigit s in
+    let n = countWhile isDigit s in
     elim (is "/" (first (drop n s))) [ true ↦ denominator (number 1 n s) n (drop (suc n) s) | false ↦ record { num = number 1 n s; den = 1; used = n } ]
 
 -- a plain quarter, a plain longa

@@ -6,7 +6,7 @@ use lib.Dec.{ltb, eqb}
 use Rattle.laws.specs.Lists.{eqText, alterAt}
 use Rattle.standard.specs.Bytes.{ascii, is, first, last}
 use Rattle.standard.specs.Lyrics.{Syllabic, Word, skip, hold, syllable, syllables}
-use Rattle.reader.specs.Pieces.{words, mark, whiteAt}
+use Rattle.reader.specs.Pieces.{words, separator, whiteAt}
 use Rattle.reader.specs.State.{Sung}
 
 -- document 01, Lyric
@@ -30,7 +30,7 @@ wordOf w =
         | true ↦ skip ∷ []
         | false ↦ elim (eqText w (ascii "_")) [
           | true ↦ hold ∷ []
-          | false ↦ orSkip (syllables (is "-" (first w)) (is "-" (last w)) (words (mark (is "-")) w))
+          | false ↦ orSkip (syllables (is "-" (first w)) (is "-" (last w)) (words (separator (is "-")) w))
         ]
       ]
     ]

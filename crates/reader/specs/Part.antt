@@ -20,8 +20,8 @@ use Rattle.reader.specs.Pitches.{Scope, soundsOf, scopeAfterAll}
 use Rattle.reader.specs.Token.{Token, space, overlay, quoted, broken, tuplet, slur, graceOpen, graceClose, decoration, barline, volta, unit, meter, key, field, chord, rest, note, nothing, skipped, refused}
 use Rattle.reader.specs.Barlines.{leftOf}
 use Rattle.reader.specs.Tokens.{tokens}
-use Rattle.reader.specs.Scan.{Item, born, reset, headed, keyed, metered, sung, played}
-use Rattle.reader.specs.State.{Group, Note, Volta, voltaBegins, Measure, Half, Running, Line, Sung, Verses, PartState, withBeam, withValue, withGroup, withLeft, withRight, withMeter, withMark, withVolta, setKey, setScopes, setMeasures, setPending, setVerses, setLine, withRun, withOverlay, withHalf, withTuplet, withUnit, withTime, noScopes, newMeasure, newLine, newPart, onOpen, isEmpty, voiceNow, setVoice}
+use Rattle.reader.specs.Scan.{Item, voiceDeclared, reset, keyInHeader, keyChange, meterChange, lyricLine, musicLine}
+use Rattle.reader.specs.State.{Group, Note, Volta, voltaBegins, Measure, Half, Running, Line, Sung, Verses, PartState, withBeam, withValue, withGroup, withLeft, withRight, withMeter, withKeyMark, withVolta, setKey, setScopes, setMeasures, setPending, setVerses, setLine, withRun, withOverlay, withHalf, withTuplet, withUnit, withTime, noScopes, newMeasure, newLine, newPart, onOpen, isEmpty, voiceNow, setVoice}
 use Rattle.reader.specs.Voltas.{closed}
 use Rattle.reader.specs.Lyrics.{Syllable, sungBy}
 
@@ -177,7 +177,7 @@ onToken s (barline b o) = onBarline b o s
 onToken s (volta ps) = onOpen (withVolta voltaBegins ps) s
 onToken s (unit u) = setLine (withUnit u (s .line)) s
 onToken s (meter t) = onOpen (withMeter t) (setLine (withTime t (s .line)) s)
-onToken s (key k) = onOpen (withMark k) (hears k s)
+onToken s (key k) = onOpen (withKeyMark k) (hears k s)
 onToken s field = s
 onToken s (chord ws l b) = onSound ws l b s
 onToken s (rest k l) = append (restNote k (valueOf (s .line .unit) l)) s
@@ -212,7 +212,7 @@ onLyric placed t s =
 -- A BODY K LINE: "in a voice with no measure yet falls back to the header's key"
 unfoldable pub onKey : Key → Key → List Measure → PartState → PartState
 onKey header k [] s = hears header s
-onKey header k (m ∷ ms) s = onOpen (withMark k) (hears k s)
+onKey header k (m ∷ ms) s = onOpen (withKeyMark k) (hears k s)
 
 -- WHICH VOICES HEAR THE HEADER'S KEY ("of those only the current one hears it; voices first named later start with it"): the one place where
 -- its reach is decided. A part first named in the header starts with C major
@@ -221,13 +221,13 @@ firstKey header inHeader = cond inHeader plainKey header
 
 -- WHAT AN ITEM DOES
 unfoldable pub onItem : Key → PartState → Item → PartState
-onItem header s (born inHeader) = setKey (firstKey header inHeader) s
+onItem header s (voiceDeclared inHeader) = setKey (firstKey header inHeader) s
 onItem header s reset = setPending nothingPending s
-onItem header s headed = setKey header s
-onItem header s (keyed k) = onKey header k (s .measures) s
-onItem header s (metered t) = onOpen (withMeter t) s
-onItem header s (sung placed t) = onLyric placed t s
-onItem header s (played u t l) = onLine u t l s
+onItem header s keyInHeader = setKey header s
+onItem header s (keyChange k) = onKey header k (s .measures) s
+onItem header s (meterChange t) = onOpen (withMeter t) s
+onItem header s (lyricLine placed t) = onLyric placed t s
+onItem header s (musicLine u t l) = onLine u t l s
 
 -- THE END OF A PART
 -- its measures and, for each note of voice 0 that is no rest, its syllables
@@ -252,7 +252,7 @@ inOrder m =
 
 -- "The first measure always has a key mark"
 unfoldable pub markedBy : Key → Measure → Option Key → Measure
-markedBy header m none = withMark header m
+markedBy header m none = withKeyMark header m
 markedBy header m (some k) = m
 
 unfoldable pub marked : Key → List Measure → List Measure

@@ -5,10 +5,10 @@ use mathlib.Core.Option.{Option, none, some}
 use mathlib.Core.List.{List, [], _∷_, _++_}
 use lib.Dec.{ltb}
 use lib.ListN.{length, take}
-use Rattle.laws.specs.Lists.{span}
+use Rattle.laws.specs.Lists.{countWhile}
 use Rattle.standard.specs.Bytes.{is, isDigit, first, digits}
 use Rattle.standard.specs.Passes.{Item, pass, passes, passesOf}
-use Rattle.reader.specs.Pieces.{pieces, mark}
+use Rattle.reader.specs.Pieces.{pieces, separator}
 use Rattle.reader.specs.Token.{Token, volta, refused, Taken, taken}
 
 -- "numbers 1 to 32 without leading zero"
@@ -48,7 +48,7 @@ inTurn (some i) (some qs) = some (passesOf i ++ qs)
 -- "strictly rising": the items between commas, each above those before it
 unfoldable pub passList : ℕ → List (List ℕ) → Option (List ℕ)
 passList low [] = some []
-passList low (x ∷ xs) = let i = itemOf low (pieces (mark (is "-")) 0 x) in inTurn i (passList (lastPass low i) xs)
+passList low (x ∷ xs) = let i = itemOf low (pieces (separator (is "-")) 0 x) in inTurn i (passList (lastPass low i) xs)
 
 -- "digits, commas and hyphens"
 abbrev pub isPassByte : ℕ → Bool
@@ -61,4 +61,4 @@ voltaAs n s (some ps) = taken (volta ps) (suc n)
 
 -- a pass list behind the `[`, or refusal 14
 unfoldable pub voltaOf : List ℕ → Taken
-voltaOf s = let n = span isPassByte s in voltaAs n s (passList 0 (pieces (mark (is ",")) 0 (take n s)))
+voltaOf s = let n = countWhile isPassByte s in voltaAs n s (passList 0 (pieces (separator (is ",")) 0 (take n s)))

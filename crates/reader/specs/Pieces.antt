@@ -4,7 +4,7 @@ use mathlib.Core.Bool.{Bool, true, false, cond, not}
 use mathlib.Core.Option.{Option, none, some}
 use mathlib.Core.List.{List, [], _∷_}
 use lib.ListN.{take, drop}
-use Rattle.laws.specs.Lists.{keep, isNil}
+use Rattle.laws.specs.Lists.{filter, isNil}
 use Rattle.standard.specs.Bytes.{is, first, digits}
 use Rattle.reader.specs.Text.{isSpace, isBlank, push}
 
@@ -30,11 +30,11 @@ pieces w (suc k) (c ∷ s) = pieces w k s
 
 -- the pieces that are not empty
 unfoldable pub words : (List ℕ → ℕ) → List ℕ → List (List ℕ)
-words w s = keep (λ p. not (isNil p)) (pieces w 0 s)
+words w s = filter (λ p. not (isNil p)) (pieces w 0 s)
 
 -- a mark of one byte that passes
-abbrev pub mark : (ℕ → Bool) → List ℕ → ℕ
-mark p s = cond (p (first s)) 1 0
+abbrev pub separator : (ℕ → Bool) → List ℕ → ℕ
+separator p s = cond (p (first s)) 1 0
 
 -- the bytes of a character of Unicode's white space at the front, one to three; 0 if there is none
 unfoldable pub whiteAt : List ℕ → ℕ
@@ -42,7 +42,7 @@ whiteAt s = elim (isBlank (take 1 s)) [ true ↦ 1 | false ↦ elim (isBlank (ta
 
 -- the words of a field's value, which is ASCII (refusal 6)
 unfoldable pub fieldWords : List ℕ → List (List ℕ)
-fieldWords s = words (mark isSpace) s
+fieldWords s = words (separator isSpace) s
 
 -- without white space at the front (ASCII)
 unfoldable pub trimStart : List ℕ → List ℕ

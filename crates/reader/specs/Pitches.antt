@@ -5,7 +5,7 @@ use mathlib.Core.Option.{Option, none, some}
 use mathlib.Core.List.{List, [], _∷_}
 use lib.Dec.{leb, eqb}
 use lib.ListN.{drop}
-use Rattle.laws.specs.Lists.{span}
+use Rattle.laws.specs.Lists.{countWhile}
 use Rattle.standard.specs.Bytes.{is, first}
 use Rattle.standard.specs.Keys.{Key, keyAlter}
 use Rattle.standard.specs.Pitches.{Accidental, Written, Pitch, isLetter, stepOf, letterOctave, altered}
@@ -20,8 +20,8 @@ pub record Octave : Type 0 where
 -- the marks at the front of s, from the octave `start` on
 unfoldable pub octaveFrom : ℕ → List ℕ → Octave
 octaveFrom start s =
-    let down = span (is ",") s in
-    let up = span (is "'") (drop down s) in
+    let down = countWhile (is ",") s in
+    let up = countWhile (is "'") (drop down s) in
     record { octave = start - down + up; used = down + up; fine = leb down start && leb (start - down + up) 255 }
 
 -- the octave of the letter c with the marks behind it
@@ -42,25 +42,25 @@ moved up n a = cond up (min 255 (a + n)) (a - n)
 
 -- an accidental before a single note, and the bytes it takes
 pub record Before : Type 0 where
-  pub mark : Option Accidental
+  pub sign : Option Accidental
   pub used : ℕ
 
 -- n equal signs; one and a slash is a quarter tone
 unfoldable pub signs : Bool → ℕ → List ℕ → Before
 signs up n s =
     elim (eqb n 1 && is "/" (first (drop n s))) [
-      | true ↦ record { mark = some (quarterTone up); used = 2 }
-      | false ↦ record { mark = some (record { alter = moved up n 128; cents = 128 }); used = n }
+      | true ↦ record { sign = some (quarterTone up); used = 2 }
+      | false ↦ record { sign = some (record { alter = moved up n 128; cents = 128 }); used = n }
     ]
 
 -- the accidental at the front: a run of `^`, a run of `_`, or one `=`
 unfoldable pub accidentalOf : List ℕ → Before
 accidentalOf s =
     elim (is "^" (first s)) [
-      | true ↦ signs true (span (is "^") s) s
+      | true ↦ signs true (countWhile (is "^") s) s
       | false ↦ elim (is "_" (first s)) [
-        | true ↦ signs false (span (is "_") s) s
-        | false ↦ cond (is "=" (first s)) (record { mark = some natural; used = 1 }) (record { mark = none; used = 0 })
+        | true ↦ signs false (countWhile (is "_") s) s
+        | false ↦ cond (is "=" (first s)) (record { sign = some natural; used = 1 }) (record { sign = none; used = 0 })
       ]
     ]
 
@@ -78,7 +78,7 @@ isQuarter (some a) s = false
 -- a chord's pitch before the others, unless one is refused
 unfoldable pub consPitch : ℕ → Option Accidental → Octave → Option (List Written) → Option (List Written)
 consPitch c a o none = none
-consPitch c a o (some ps) = elim (o .fine) [ true ↦ some (record { step = stepOf c; octave = o .octave; mark = a } ∷ ps) | false ↦ none ]
+consPitch c a o (some ps) = elim (o .fine) [ true ↦ some (record { step = stepOf c; octave = o .octave; sign = a } ∷ ps) | false ↦ none ]
 
 -- the pitches up to the next `]` or the line's end; none for refusal 12. k: bytes still to pass; a: the accidental that waits
 unfoldable pub chordOf : ℕ → Option Accidental → List ℕ → Option (List Written)
@@ -116,7 +116,7 @@ soundBy k sc w (some a) = altered w a
 soundBy k sc w none = orKey k w (remembered sc w)
 
 unfoldable pub soundOf : Key → Scope → Written → Pitch
-soundOf k sc w = soundBy k sc w (w .mark)
+soundOf k sc w = soundBy k sc w (w .sign)
 
 -- an accidental written is remembered
 unfoldable pub scopeBy : Scope → Written → Option Accidental → Scope
@@ -124,7 +124,7 @@ scopeBy sc w (some a) = altered w a ∷ sc
 scopeBy sc w none = sc
 
 unfoldable pub scopeAfter : Scope → Written → Scope
-scopeAfter sc w = scopeBy sc w (w .mark)
+scopeAfter sc w = scopeBy sc w (w .sign)
 
 -- a chord's pitches, each after the ones before it
 unfoldable pub soundsOf : Key → Scope → List Written → List Pitch

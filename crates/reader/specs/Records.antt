@@ -5,7 +5,7 @@ use mathlib.Core.Option.{Option, none, some}
 use mathlib.Core.List.{List, [], _∷_, _++_, map}
 use lib.Dec.{ltb, eqb}
 use lib.ListN.{length, getD}
-use Rattle.laws.specs.Lists.{cat}
+use Rattle.laws.specs.Lists.{concat}
 use Rattle.laws.specs.Bytes.{le32}
 use Rattle.standard.specs.Keys.{Key}
 use Rattle.standard.specs.Pitches.{Pitch}
@@ -38,9 +38,9 @@ signed16 n = signed8 n ∷ cond (ltb n 128) 255 0 ∷ []
 
 -- MEASURE, 28 bytes
 -- "key mark (0 none, 1 major, 2 minor); fifths (signed, 0 if no mark)"
-unfoldable pub markBytes : Option Key → List ℕ
-markBytes none = 0 ∷ 0 ∷ []
-markBytes (some k) = modeCode (k .minor) ∷ signed8 (k .fifths) ∷ []
+unfoldable pub keyMarkBytes : Option Key → List ℕ
+keyMarkBytes none = 0 ∷ 0 ∷ []
+keyMarkBytes (some k) = modeCode (k .minor) ∷ signed8 (k .fifths) ∷ []
 
 -- "passes as u32, bit p−1 for pass p"
 unfoldable pub passBits : List ℕ → ℕ
@@ -57,7 +57,7 @@ unfoldable pub measureBytes : Measure → List ℕ
 measureBytes m =
     noteCounts (m .voices)
     ++ (barlineCode (m .left) ∷ barlineCode (m .right) ∷ m .meter .0 ∷ m .meter .1 ∷ [])
-    ++ markBytes (m .key)
+    ++ keyMarkBytes (m .key)
     ++ (voltaCode (m .volta) ∷ getD (m .passes) 0 0 ∷ le32 (passBits (m .passes)))
 
 -- NOTE, 12 bytes
@@ -118,20 +118,20 @@ lyricsOf i (x ∷ xs) (w ∷ ws) = elim (isSung x) [ true ↦ map (λ y. (i, y))
 
 -- a section after its count
 unfoldable pub section {ℓ} : {A : Type ℓ} → (A → List ℕ) → List A → List ℕ
-section f xs = le32 (length xs) ++ cat (map f xs)
+section f xs = le32 (length xs) ++ concat (map f xs)
 
 -- the notes, pitches, lyrics and lyric text of a part
 unfoldable pub notesOf : Part → List (ℕ × Note)
 notesOf p = allNotes (p .measures)
 
 unfoldable pub pitchesOf : Part → List Pitch
-pitchesOf p = cat (map (λ (x : ℕ × Note). x .1 .pitches) (notesOf p))
+pitchesOf p = concat (map (λ (x : ℕ × Note). x .1 .pitches) (notesOf p))
 
 unfoldable pub lyrics : Part → List (ℕ × Syllable)
 lyrics p = lyricsOf 0 (notesOf p) (p .words)
 
 unfoldable pub lyricText : Part → List ℕ
-lyricText p = cat (map (λ (x : ℕ × Syllable). x .1 .text) (lyrics p))
+lyricText p = concat (map (λ (x : ℕ × Syllable). x .1 .text) (lyrics p))
 
 -- THE FIVE SECTIONS: "measures, notes, pitches, lyrics, lyric text (bytes)"
 unfoldable pub sections : Part → List ℕ

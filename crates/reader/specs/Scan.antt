@@ -5,22 +5,22 @@ use mathlib.Core.Option.{Option, none, some}
 use mathlib.Core.List.{List, [], _∷_, _++_}
 use lib.Dec.{eqb, leb, ltb}
 use lib.ListN.{length}
-use Rattle.laws.specs.Lists.{has, indexOf}
+use Rattle.laws.specs.Lists.{elem, indexOf}
 use Rattle.standard.specs.Keys.{Key, plainKey}
 use Rattle.standard.specs.Fields.{Meter}
-use Rattle.reader.specs.Tokens.{Effect, counts, refuses, setsUnit, setsMeter, passes}
+use Rattle.reader.specs.Tokens.{Effect, counts, refuses, setsUnit, setsMeter, noEffect}
 use Rattle.reader.specs.Lines.{Kind, blank, refused, lyric, voice, key, meter, unit, tune, other, music, kindOf}
-use Rattle.reader.specs.Steps.{Row, Step, refuse, on, run}
+use Rattle.reader.specs.Steps.{TextLine, Step, refuse, on, run}
 
 -- WHAT GOES TO A PART: it is named for the first time (in the header: true); a V line of its; the header's K line, while it is the part
 -- being read; a later K field, M field; a lyric line (whether the part has a place for verses); a music line with the L and M in force where it begins
 pub data Item : Type 0 where
-  born : Bool → Item
-  reset headed : Item
-  keyed : Key → Item
-  metered : Meter → Item
-  sung : Bool → List ℕ → Item
-  played : ℕ → Meter → List ℕ → Item
+  voiceDeclared : Bool → Item
+  reset keyInHeader : Item
+  keyChange : Key → Item
+  meterChange : Meter → Item
+  lyricLine : Bool → List ℕ → Item
+  musicLine : ℕ → Meter → List ℕ → Item
 
 -- WHAT HOLDS FOR ALL PARTS and no line of a block changes: whether the first K line is still to come, the identifiers of the voices in the
 -- order of their parts, the header's key
@@ -72,7 +72,7 @@ noteCount (counts ∷ es) = suc (noteCount es)
 noteCount (refuses k ∷ es) = noteCount es
 noteCount (setsUnit u ∷ es) = noteCount es
 noteCount (setsMeter m ∷ es) = noteCount es
-noteCount (passes ∷ es) = noteCount es
+noteCount (noEffect ∷ es) = noteCount es
 
 unfoldable pub lastUnit : List Effect → ℕ → ℕ
 lastUnit [] u = u
@@ -80,7 +80,7 @@ lastUnit (counts ∷ es) u = lastUnit es u
 lastUnit (refuses k ∷ es) u = lastUnit es u
 lastUnit (setsUnit v ∷ es) u = lastUnit es v
 lastUnit (setsMeter m ∷ es) u = lastUnit es u
-lastUnit (passes ∷ es) u = lastUnit es u
+lastUnit (noEffect ∷ es) u = lastUnit es u
 
 unfoldable pub lastMeter : List Effect → Meter → Meter
 lastMeter [] m = m
@@ -88,7 +88,7 @@ lastMeter (counts ∷ es) m = lastMeter es m
 lastMeter (refuses k ∷ es) m = lastMeter es m
 lastMeter (setsUnit v ∷ es) m = lastMeter es m
 lastMeter (setsMeter n ∷ es) m = lastMeter es n
-lastMeter (passes ∷ es) m = lastMeter es m
+lastMeter (noEffect ∷ es) m = lastMeter es m
 
 unfoldable pub firstRefusal : ℕ → List Effect → Option ℕ
 firstRefusal n [] = none
@@ -96,7 +96,7 @@ firstRefusal n (counts ∷ es) = cond (ltb n mostNotes) (firstRefusal (suc n) es
 firstRefusal n (refuses k ∷ es) = some k
 firstRefusal n (setsUnit v ∷ es) = firstRefusal n es
 firstRefusal n (setsMeter m ∷ es) = firstRefusal n es
-firstRefusal n (passes ∷ es) = firstRefusal n es
+firstRefusal n (noEffect ∷ es) = firstRefusal n es
 
 -- ONE LINE FURTHER, with another env, L, M or part
 abbrev pub further : ScanState → Env → ℕ → Meter → ℕ → ScanState
@@ -135,7 +135,7 @@ playOn s es l (some k) = refuse k (suc (s .lines))
 playOn s es l none =
     on
     (record { env = s .env; unit = lastUnit es (s .unit); meter = lastMeter es (s .meter); part = s .part; notes = s .notes + noteCount es; lines = suc (s .lines); places = max (s .places) (suc (s .part)); opened = s .opened || eqb (s .part) 0 })
-    ((s .part, played (s .unit) (s .meter) l) ∷ [])
+    ((s .part, musicLine (s .unit) (s .meter) l) ∷ [])
 
 -- A V LINE for the voice v, where vs are known: whether it is one of them, whether there are as many as there may be, whether it has a
 -- `middle=` word (refusals 9 and 10)
@@ -145,7 +145,7 @@ voiceOn s v vs true full false = on (at s (withVoices (s .env) vs) (indexOf v vs
 voiceOn s v vs false true mid = refuse 9 (suc (s .lines))
 voiceOn s v vs false false true = refuse 10 (suc (s .lines))
 voiceOn s v vs false false false =
-    on (at s (withVoices (s .env) (vs ++ (v ∷ []))) (length vs)) ((length vs, born (s .env .inHeader)) ∷ ((length vs, reset) ∷ []))
+    on (at s (withVoices (s .env) (vs ++ (v ∷ []))) (length vs)) ((length vs, voiceDeclared (s .env .inHeader)) ∷ ((length vs, reset) ∷ []))
 
 -- AN L LINE
 unfoldable pub unitOn : ScanState → Option ℕ → Out
@@ -157,12 +157,12 @@ unfoldable pub act : ScanState → Kind → Bool → Out
 act s blank h = on (nextLine s) []
 act s (refused n) h = refuse n (suc (s .lines))
 act s (lyric t) true = on (nextLine s) []
-act s (lyric t) false = on (nextLine s) ((s .part, sung (ltb (s .part) (s .places)) t) ∷ [])
-act s (voice v mid) h = voiceOn s v (voicesBefore s) (has v (voicesBefore s)) (leb mostVoices (length (voicesBefore s))) mid
-act s (key k) true = on (at s (withHeaderKey (s .env) k) (s .part)) ((s .part, headed) ∷ [])
-act s (key k) false = on (nextLine s) ((s .part, keyed k) ∷ [])
+act s (lyric t) false = on (nextLine s) ((s .part, lyricLine (ltb (s .part) (s .places)) t) ∷ [])
+act s (voice v mid) h = voiceOn s v (voicesBefore s) (elem v (voicesBefore s)) (leb mostVoices (length (voicesBefore s))) mid
+act s (key k) true = on (at s (withHeaderKey (s .env) k) (s .part)) ((s .part, keyInHeader) ∷ [])
+act s (key k) false = on (nextLine s) ((s .part, keyChange k) ∷ [])
 act s (meter m) true = on (further s (s .env) (s .unit) m (s .part)) []
-act s (meter m) false = on (further s (s .env) (s .unit) m (s .part)) ((s .part, metered m) ∷ [])
+act s (meter m) false = on (further s (s .env) (s .unit) m (s .part)) ((s .part, meterChange m) ∷ [])
 act s (unit u) h = unitOn s u
 act s tune true = on (at s (s .env) 0) []
 act s tune false = refuse 7 (suc (s .lines))
@@ -172,9 +172,9 @@ act s (music true es l) false = refuse 6 (suc (s .lines))
 act s (music false es l) false = playOn s es l (firstRefusal (s .notes) es)
 
 -- a row; refusal 4 comes before anything in it
-unfoldable pub step : ScanState → Row → Out
+unfoldable pub step : ScanState → TextLine → Out
 step s r = cond (ltb (s .lines) mostLines) (act s (kindOf r) (s .env .inHeader)) (refuse 4 (suc (s .lines)))
 
 -- the rows of a text
-unfoldable pub scan : List Row → Out
+unfoldable pub scan : List TextLine → Out
 scan rs = run step begin rs

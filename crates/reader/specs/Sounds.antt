@@ -5,7 +5,7 @@ use mathlib.Core.Option.{Option, none, some}
 use mathlib.Core.List.{List, [], _∷_}
 use lib.Dec.{ltb}
 use lib.ListN.{length, drop}
-use Rattle.laws.specs.Lists.{span}
+use Rattle.laws.specs.Lists.{countWhile}
 use Rattle.standard.specs.Bytes.{is}
 use Rattle.standard.specs.Pitches.{Written, isLetter, stepOf}
 use Rattle.standard.specs.Notes.{NoteKind, Behind}
@@ -37,7 +37,7 @@ chordTaken n s (some (p ∷ ps)) =
 -- a chord runs to the next `]`, or to the line's end; s stands behind the `[`
 unfoldable pub chordAt : List ℕ → Taken
 chordAt s =
-    let n = span (λ c. not (is "]" c)) s in
+    let n = countWhile (λ c. not (is "]" c)) s in
     chordTaken (cond (ltb n (length s)) (2 + n) (1 + n)) (drop (suc n) s) (chordOf 0 none s)
 
 -- a rest and its length
@@ -51,7 +51,7 @@ noteAs a c s =
     let l = lengthOf (drop (o .used) s) in
     let b = behind (drop (o .used + l .used) s) in
     elim (o .fine) [
-      | true ↦ taken (note (record { step = stepOf c; octave = o .octave; mark = a .mark }) l b) (a .used + 1 + o .used + l .used + b .used)
+      | true ↦ taken (note (record { step = stepOf c; octave = o .octave; sign = a .sign }) l b) (a .used + 1 + o .used + l .used + b .used)
       | false ↦ taken (refused 12) (a .used + 1 + length s)
     ]
 

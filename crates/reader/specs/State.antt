@@ -106,8 +106,8 @@ withRight r m = record { voices = m .voices; left = m .left; right = r; meter = 
 abbrev pub withMeter : Meter → Measure → Measure
 withMeter t m = record { voices = m .voices; left = m .left; right = m .right; meter = t; key = m .key; volta = m .volta; passes = m .passes }
 
-abbrev pub withMark : Key → Measure → Measure
-withMark k m = record { voices = m .voices; left = m .left; right = m .right; meter = m .meter; key = some k; volta = m .volta; passes = m .passes }
+abbrev pub withKeyMark : Key → Measure → Measure
+withKeyMark k m = record { voices = m .voices; left = m .left; right = m .right; meter = m .meter; key = some k; volta = m .volta; passes = m .passes }
 
 abbrev pub withVolta : Volta → List ℕ → Measure → Measure
 withVolta v ps m = record { voices = m .voices; left = m .left; right = m .right; meter = m .meter; key = m .key; volta = v; passes = ps }

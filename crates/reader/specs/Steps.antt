@@ -5,8 +5,8 @@ use mathlib.Core.List.{List, [], _∷_, _++_}
 use lib.Dec.{eqb}
 
 -- a row: the bytes of a line, with its line feed
-abbrev pub Row : Type 0
-Row = List ℕ
+abbrev pub TextLine : Type 0
+TextLine = List ℕ
 
 -- what one row, or a run of rows, comes to: a refusal with its number and line, or a state and items, each with the number of the part it is for
 pub data Step (S I : Type 0) : Type 0 where
@@ -20,14 +20,14 @@ module _ {S I : Type 0} where
   first a (on s b) = on s (a ++ b)
 
   -- the rows in order, to the first refusal
-  abbrev pub run : (S → Row → Step S I) → S → List Row → Step S I
+  abbrev pub run : (S → TextLine → Step S I) → S → List TextLine → Step S I
   run f s [] = on s []
   run f s (r ∷ rs) = elim (f s r) [ refuse n l ↦ refuse n l | on t a ↦ first a (run f t rs) ]
 
 -- the items of part p, in order
-abbrev pub mine {ℓ} : {I : Type ℓ} → ℕ → List (ℕ × I) → List I
-mine p [] = []
-mine p (x ∷ xs) = cond (eqb (x .0) p) (x .1 ∷ mine p xs) (mine p xs)
+abbrev pub itemsOf {ℓ} : {I : Type ℓ} → ℕ → List (ℕ × I) → List I
+itemsOf p [] = []
+itemsOf p (x ∷ xs) = cond (eqb (x .0) p) (x .1 ∷ itemsOf p xs) (itemsOf p xs)
 
 -- items for part p
 abbrev pub tag {ℓ} : {I : Type ℓ} → ℕ → List I → List (ℕ × I)

@@ -3,7 +3,7 @@ use Prim.Native.Nat.{ℕ}
 use mathlib.Core.Bool.{Bool, not}
 use mathlib.Core.List.{List, map}
 use lib.ListN.{length}
-use Rattle.laws.specs.Lists.{keep}
+use Rattle.laws.specs.Lists.{filter}
 use Rattle.standard.specs.Notes.{isSounded}
 use Rattle.reader.specs.State.{Note}
 use Rattle.reader.specs.Part.{Part}
@@ -20,8 +20,8 @@ unfoldable pub countsOf : Part → Counts
 countsOf p =
     record {
       measures = length (p .measures);
-      sounded = length (keep (λ (x : ℕ × Note). isSounded (x .1 .kind)) (notesOf p));
-      rests = length (keep (λ (x : ℕ × Note). not (isSounded (x .1 .kind))) (notesOf p));
+      sounded = length (filter (λ (x : ℕ × Note). isSounded (x .1 .kind)) (notesOf p));
+      rests = length (filter (λ (x : ℕ × Note). not (isSounded (x .1 .kind))) (notesOf p));
       syllables = length (lyrics p);
     }
 

@@ -83,14 +83,14 @@ isAllWhite other = false
 unfoldable pub isBlank : List ℕ → Bool
 isBlank s = isAllWhite (foldl whiteStep white s)
 
--- LINES. A row is a line with its line feed; a last line that has none is a row too. `rows` cuts a text after each line feed
+-- LINES. A row is a line with its line feed; a last line that has none is a row too. `textLines` cuts a text after each line feed
 abbrev pub push : ℕ → List (List ℕ) → List (List ℕ)
 push c [] = (c ∷ []) ∷ []
 push c (r ∷ rs) = (c ∷ r) ∷ rs
 
-unfoldable pub rows : List ℕ → List (List ℕ)
-rows [] = []
-rows (c ∷ cs) = cond (eqb c 10) ((c ∷ []) ∷ rows cs) (push c (rows cs))
+unfoldable pub textLines : List ℕ → List (List ℕ)
+textLines [] = []
+textLines (c ∷ cs) = cond (eqb c 10) ((c ∷ []) ∷ textLines cs) (push c (textLines cs))
 
 -- "cut at the first `%`, even in quotes"
 unfoldable pub cut : List ℕ → List ℕ

@@ -4,7 +4,7 @@ use mathlib.Core.Bool.{Bool, true, false, not}
 use mathlib.Core.List.{List, [], _∷_, map}
 use lib.Dec.{ltb}
 use lib.ListN.{length, drop}
-use Rattle.laws.specs.Lists.{span}
+use Rattle.laws.specs.Lists.{countWhile}
 use Rattle.standard.specs.Bytes.{is, isDigit, first}
 use Rattle.standard.specs.Fields.{Meter}
 use Rattle.standard.specs.Pitches.{isLetter}
@@ -20,7 +20,7 @@ use Rattle.reader.specs.Sounds.{chordAt, restAs, noteOf}
 
 -- QUOTES AND DECORATIONS: to the next byte that passes, with it; s stands behind the first one. If there is none: `other`
 unfoldable pub closedBy : (ℕ → Bool) → Token → List ℕ → Taken → Taken
-closedBy p t s other = let n = span (λ c. not (p c)) s in elim (ltb n (length s)) [ true ↦ taken t (2 + n) | false ↦ other ]
+closedBy p t s other = let n = countWhile (λ c. not (p c)) s in elim (ltb n (length s)) [ true ↦ taken t (2 + n) | false ↦ other ]
 
 -- BROKEN RHYTHM, n signs. Refusal 13: "more than 255 equal `>` or `<` together"
 unfoldable pub brokenOf : Bool → ℕ → List ℕ → Taken
@@ -75,8 +75,8 @@ unfoldable pub tokenAs : Class → List ℕ → Taken
 tokenAs white s = taken space 1
 tokenAs ampersand s = taken overlay 1
 tokenAs quote s = closedBy (is "\"") quoted (drop 1 s) (taken quoted (length s))
-tokenAs more s = brokenOf true (suc (span (is ">") (drop 1 s))) s
-tokenAs less s = brokenOf false (suc (span (is "<") (drop 1 s))) s
+tokenAs more s = brokenOf true (suc (countWhile (is ">") (drop 1 s))) s
+tokenAs less s = brokenOf false (suc (countWhile (is "<") (drop 1 s))) s
 tokenAs paren s = orSlur (tupletOf (drop 1 s))
 tokenAs braceOpen s = taken graceOpen 1
 tokenAs braceClose s = taken graceClose 1
@@ -104,29 +104,29 @@ pub data Effect : Type 0 where
   refuses : ℕ → Effect
   setsUnit : ℕ → Effect
   setsMeter : Meter → Effect
-  passes : Effect
+  noEffect : Effect
 
 unfoldable pub effectOf : Token → Effect
-effectOf space = passes
-effectOf overlay = passes
-effectOf quoted = passes
-effectOf (broken up n) = passes
-effectOf (tuplet t) = passes
-effectOf slur = passes
-effectOf graceOpen = passes
-effectOf graceClose = passes
-effectOf decoration = passes
-effectOf (barline b o) = passes
-effectOf (volta ps) = passes
+effectOf space = noEffect
+effectOf overlay = noEffect
+effectOf quoted = noEffect
+effectOf (broken up n) = noEffect
+effectOf (tuplet t) = noEffect
+effectOf slur = noEffect
+effectOf graceOpen = noEffect
+effectOf graceClose = noEffect
+effectOf decoration = noEffect
+effectOf (barline b o) = noEffect
+effectOf (volta ps) = noEffect
 effectOf (unit u) = setsUnit u
 effectOf (meter m) = setsMeter m
-effectOf (key k) = passes
-effectOf field = passes
+effectOf (key k) = noEffect
+effectOf field = noEffect
 effectOf (chord ps l b) = counts
 effectOf (rest k l) = counts
 effectOf (note p l b) = counts
-effectOf nothing = passes
-effectOf skipped = passes
+effectOf nothing = noEffect
+effectOf skipped = noEffect
 effectOf (refused n) = refuses n
 
 -- the line as the scan of the whole text sees it

@@ -5,7 +5,7 @@ use mathlib.Core.Option.{Option, none, some}
 use mathlib.Core.List.{List, [], _∷_}
 use lib.Dec.{ltb, eqb}
 use lib.ListN.{take, drop}
-use Rattle.laws.specs.Lists.{span}
+use Rattle.laws.specs.Lists.{countWhile}
 use Rattle.standard.specs.Bytes.{is, isDigit, first, digits}
 use Rattle.standard.specs.Tuplets.{Tuplet, usualNormal}
 use Rattle.reader.specs.Token.{Token, tuplet, slur, Taken, taken}
@@ -17,7 +17,7 @@ notZero (some v) = cond (eqb v 0) none (some v)
 
 -- the number of the digits at the front, from 1 to top
 unfoldable pub positive : ℕ → List ℕ → Option ℕ
-positive top s = notZero (digits top (take (span isDigit s) s))
+positive top s = notZero (digits top (take (countWhile isDigit s) s))
 
 -- "else actual less 1"
 unfoldable pub orOneLess : ℕ → Option ℕ → ℕ
@@ -40,14 +40,14 @@ counted p q n (some r) = tupletToken p q r n
 unfoldable pub withCount : ℕ → ℕ → ℕ → List ℕ → Option Taken
 withCount p q n s =
     elim (is ":" (first s)) [
-      | true ↦ counted p q (n + 1 + span isDigit (drop 1 s)) (positive (2 ^ 64 - 1) (drop 1 s))
+      | true ↦ counted p q (n + 1 + countWhile isDigit (drop 1 s)) (positive (2 ^ 64 - 1) (drop 1 s))
       | false ↦ tupletToken p q p n
     ]
 
 -- "normal 0 or above 255 .. or an empty part after `:`"
 unfoldable pub withNormal : ℕ → ℕ → List ℕ → Option ℕ → Option Taken
 withNormal p n s none = none
-withNormal p n s (some q) = withCount p q (n + 1 + span isDigit (drop 1 s)) (drop (1 + span isDigit (drop 1 s)) s)
+withNormal p n s (some q) = withCount p q (n + 1 + countWhile isDigit (drop 1 s)) (drop (1 + countWhile isDigit (drop 1 s)) s)
 
 -- "Actual below 2 or above 255"
 unfoldable pub withActual : ℕ → List ℕ → Option ℕ → Option Taken
@@ -60,7 +60,7 @@ withActual n s (some p) =
 
 -- s stands behind the `(`
 unfoldable pub tupletOf : List ℕ → Option Taken
-tupletOf s = withActual (1 + span isDigit s) (drop (span isDigit s) s) (positive 255 s)
+tupletOf s = withActual (1 + countWhile isDigit s) (drop (countWhile isDigit s) s) (positive 255 s)
 
 -- "is a slur start instead"
 unfoldable pub orSlur : Option Taken → Taken

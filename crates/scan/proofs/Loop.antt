@@ -9,9 +9,9 @@ use lib.ListN.{length, drop}
 use borrow.Author.Tests.{lt-ltb, le-ltb}
 use Rattle.laws.specs.Bytes.{between}
 use Rattle.laws.proofs.Parts.{length-between, part-cut}
-use Rattle.reader.specs.Text.{rows}
+use Rattle.reader.specs.Text.{textLines}
 use Rattle.reader.specs.Lines.{kindOf, refused}
-use Rattle.reader.specs.Steps.{Row, Step, refuse, on, first, run}
+use Rattle.reader.specs.Steps.{TextLine, Step, refuse, on, first, run}
 use Rattle.reader.specs.Scan.{Item, Items, ScanState, Out, begin, act, step, scan}
 use Rattle.reader.specs.Answer.{scratchNeeded}
 use Rattle.text_lines.specs.Lines.{LineEnd, CleanEnd, kindAs, classOf}
@@ -30,7 +30,7 @@ use Rattle.scan.specs.Scanned.{Open, LinesFit, Line, scannedAs, Done, Sc
 use Rattle.scan.proofs.Music.{music-told}
 
 -- RUNS
-module _ {S I : Type 0} (f : S → Row → Step S I) where
+module _ {S I : Type 0} (f : S → TextLine → Step S I) where
   first-first : (a b : List (ℕ × I)) (x : Step S I) → first a (first b x) ≡ first (a ++ b) x
   first-first a b (refuse n l) = refl
   first-first a b (on s c) = ap (λ (d : List (ℕ × I)). on s d) (sym (append-assoc a b c))
@@ -40,23 +40,23 @@ module _ {S I : Type 0} (f : S → Row → Step S I) where
   first-none (on s b) = refl
 
   -- the rows behind one that came to x
-  abbrev pub onward : List Row → Step S I → Step S I
+  abbrev pub onward : List TextLine → Step S I → Step S I
   onward rs (refuse n l) = refuse n l
   onward rs (on t b) = first b (run f t rs)
 
-  run-row : (s : S) (r : Row) (rs : List Row) → run f s (r ∷ rs) ≡ onward rs (f s r)
+  run-row : (s : S) (r : TextLine) (rs : List TextLine) → run f s (r ∷ rs) ≡ onward rs (f s r)
   run-row s r rs = go (f s r)
     where
       go : (x : Step S I) → (elim x as (λ y. Step S I) [ refuse n l ↦ refuse n l | on t b ↦ first b (run f t rs) ]) ≡ onward rs x
       go (refuse n l) = refl
       go (on t b) = refl
 
-  first-onward : (a : List (ℕ × I)) (rs : List Row) (x : Step S I) → first a (onward rs x) ≡ onward rs (first a x)
+  first-onward : (a : List (ℕ × I)) (rs : List TextLine) (x : Step S I) → first a (onward rs x) ≡ onward rs (first a x)
   first-onward a rs (refuse n l) = refl
   first-onward a rs (on t b) = first-first a b (run f t rs)
 
   -- a row more
-  pub run-on : (a : List (ℕ × I)) (s : S) (r : Row) (rs : List Row) → first a (run f s (r ∷ rs)) ≡ onward rs (first a (f s r))
+  pub run-on : (a : List (ℕ × I)) (s : S) (r : TextLine) (rs : List TextLine) → first a (run f s (r ∷ rs)) ≡ onward rs (first a (f s r))
   run-on a s r rs = ap (first a) (run-row s r rs) ∙ first-onward a rs (f s r)
 
   -- no row more
@@ -126,7 +126,7 @@ pub record Head (text s₀ s : List ℕ) (st : State) (at : ℕ) : Type 0 where
   pub voices-fit : st .voices ≤ 32
   pub part-fits : st .part < 32
   pub items-fit : st .items ≤ at + st .voices
-  pub ahead : first (itemsIn text s (st .items)) (run step (held text s st) (rows (drop at text))) ≡ scan (rows text)
+  pub ahead : first (itemsIn text s (st .items)) (run step (held text s st) (textLines (drop at text))) ≡ scan (textLines text)
 
 module _ (text s₀ : List ℕ) where
   pub head-start : (st : State) → heldIn [] st ≡ begin → st .voices ≡ 0 → st .items ≡ 0 → Head text s₀ s₀ st 0
@@ -143,7 +143,7 @@ module _ (text s₀ : List ℕ) where
         voices-fit = omega arith;
         part-fits = omega arith;
         items-fit = omega arith;
-        ahead = (λ j. first (a j) (run step (h j) (rows text))) ∙ first-none step (run step begin (rows text));
+        ahead = (λ j. first (a j) (run step (h j) (textLines text))) ∙ first-none step (run step begin (textLines text));
       }
 
   module _ (s : List ℕ) (st : State) (at : ℕ) (h : Head text s₀ s st at) where
@@ -154,18 +154,18 @@ module _ (text s₀ : List ℕ) where
 
     -- the run from a line on
     next : (to : ℕ) (s′ : List ℕ) (r : code.Step) → LineEnd text at to → Line text s st (step (held text s st) (between text at to)) s′ r
-        → onward step (rows (drop to text)) (reached text s′ r) ≡ scan (rows text)
+        → onward step (textLines (drop to text)) (reached text s′ r) ≡ scan (textLines text)
     next to s′ r e x =
-        ap (onward step (rows (drop to text))) (x .stepped .is)
-        ∙ sym (run-on step (itemsIn text s (st .items)) (held text s st) (between text at to) (rows (drop to text)))
-        ∙ ap (λ (rs : List Row). first (itemsIn text s (st .items)) (run step (held text s st) rs)) (sym (e .rest))
+        ap (onward step (textLines (drop to text))) (x .stepped .is)
+        ∙ sym (run-on step (itemsIn text s (st .items)) (held text s st) (between text at to) (textLines (drop to text)))
+        ∙ ap (λ (rs : List TextLine). first (itemsIn text s (st .items)) (run step (held text s st) rs)) (sym (e .rest))
         ∙ h .ahead
 
     pub head-refused : (to : ℕ) (s′ : List ℕ) (r : code.Step) (n l : ℕ) → LineEnd text at to → Line text s st (step (held text s st) (between text at to)) s′ r → r ≡ Refused n l
         → ScanIs text s′ (scannedAs r)
     head-refused to s′ r n l e x q =
         subst (λ (t : code.Step). ScanIs text s′ (scannedAs t)) (sym q)
-        (record { answered = sym (subst (λ (t : code.Step). onward step (rows (drop to text)) (reached text s′ t) ≡ scan (rows text)) q (next to s′ r e x)) })
+        (record { answered = sym (subst (λ (t : code.Step). onward step (textLines (drop to text)) (reached text s′ t) ≡ scan (textLines text)) q (next to s′ r e x)) })
 
     pub head-turn : (to : ℕ) (s′ : List ℕ) (r : code.Step) (t : State) → LineEnd text at to → Line text s st (step (held text s st) (between text at to)) s′ r → r ≡ On t → length s′ ≡ length s
         → Head text s₀ s′ t to
@@ -179,21 +179,21 @@ module _ (text s₀ : List ℕ) where
           voices-fit = f .1 .0;
           part-fits = f .1 .1 .0;
           items-fit = omega (arith, f .1 .1 .1, h .items-fit, e .past);
-          ahead = subst (λ (y : code.Step). onward step (rows (drop to text)) (reached text s′ y) ≡ scan (rows text)) q (next to s′ r e x);
+          ahead = subst (λ (y : code.Step). onward step (textLines (drop to text)) (reached text s′ y) ≡ scan (textLines text)) q (next to s′ r e x);
         }
 
     -- every line was read
     pub head-done : length text ≤ at → ScanIs text s (scannedAs (On st))
     head-done w =
-        let run-all : scan (rows text) ≡ on (held text s st) (itemsIn text s (st .items)) =
-        sym (h .ahead) ∙ ap (λ (rs : List Row). first (itemsIn text s (st .items)) (run step (held text s st) rs)) (rows-over text at w) ∙ run-end step (itemsIn text s (st .items)) (held text s st) in
+        let run-all : scan (textLines text) ≡ on (held text s st) (itemsIn text s (st .items)) =
+        sym (h .ahead) ∙ ap (λ (rs : List TextLine). first (itemsIn text s (st .items)) (run step (held text s st) rs)) (rows-over text at w) ∙ run-end step (itemsIn text s (st .items)) (held text s st) in
         record {
           answered = record {
             state = held text s st;
             scanned = run-all;
             voices = refl;
             key = refl;
-            music = music-told (rows text) (held text s st) (itemsIn text s (st .items)) run-all;
+            music = music-told (textLines text) (held text s st) (itemsIn text s (st .items)) run-all;
             few-voices = h .voices-fit;
             room = omega (arith, h .items-fit, h .within);
           };

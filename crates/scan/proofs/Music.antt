@@ -8,13 +8,13 @@ use native.Mathlib.Omega.{arith}
 use lib.Dec.{ltb, leb}
 use lib.ListN.{length}
 use borrow.Author.Tests.{lt-ltb}
-use Rattle.laws.specs.Lists.{any, has}
+use Rattle.laws.specs.Lists.{any, elem}
 use Rattle.laws.proofs.Bools.{by-test}
 use Rattle.laws.proofs.Lists.{any-append}
-use Rattle.reader.specs.Text.{rows}
+use Rattle.reader.specs.Text.{textLines}
 use Rattle.reader.specs.Tokens.{Effect}
 use Rattle.reader.specs.Lines.{Kind, blank, refused, lyric, voice, key, meter, unit, tune, other, music, kindOf}
-use Rattle.reader.specs.Steps.{Row, Step, refuse, on, first, run}
+use Rattle.reader.specs.Steps.{TextLine, Step, refuse, on, first, run}
 use Rattle.reader.specs.Scan.{Item, Items, ScanState, Out, begin, mostVoices, mostLines, firstRefusal, voicesBefore, playOn, voiceOn, unitOn, act, step, scan}
 use Rattle.reader.specs.Answer.{isMusic}
 use Rattle.scan.specs.Scanned.{hasMusic}
@@ -60,7 +60,7 @@ act-tells s blank h = nothing-more _
 act-tells s (refused k) h = tt
 act-tells s (lyric t) true = nothing-more _
 act-tells s (lyric t) false = nothing-more _
-act-tells s (voice v mid) h = voice-tells s v (voicesBefore s) (has v (voicesBefore s)) (leb mostVoices (length (voicesBefore s))) mid
+act-tells s (voice v mid) h = voice-tells s v (voicesBefore s) (elem v (voicesBefore s)) (leb mostVoices (length (voicesBefore s))) mid
 act-tells s (key k) true = nothing-more _
 act-tells s (key k) false = nothing-more _
 act-tells s (meter m) true = nothing-more _
@@ -73,7 +73,7 @@ act-tells s (music hi es l) true = nothing-more _
 act-tells s (music true es l) false = tt
 act-tells s (music false es l) false = play-tells s es l (firstRefusal (s .notes) es)
 
-step-tells : (s : ScanState) (r : Row) → Tells s (step s r)
+step-tells : (s : ScanState) (r : TextLine) → Tells s (step s r)
 unfolding step
 step-tells s r = by-test (ltb (s .lines) mostLines) (λ e. rw e (act-tells s (kindOf r) (s .env .inHeader))) (λ e. rw e tt)
 
@@ -83,7 +83,7 @@ first-tells s t a e (on u b) h =
     h ∙ ap (λ (x : Bool). x || hasMusic b) e ∙ or-assoc (ltb 0 (s .places)) (hasMusic a) (hasMusic b)
     ∙ ap (λ (x : Bool). ltb 0 (s .places) || x) (sym (any-append (λ (x : ℕ × Item). isMusic (x .1)) a b))
 
-run-tells : (rs : List Row) (s : ScanState) → Tells s (run step s rs)
+run-tells : (rs : List TextLine) (s : ScanState) → Tells s (run step s rs)
 run-tells [] s = nothing-more _
 run-tells (r ∷ rs) s = go (step s r) refl (step-tells s r) (λ t. run-tells rs t)
   where
@@ -91,6 +91,6 @@ run-tells (r ∷ rs) s = go (step s r) refl (step-tells s r) (λ t. run-tells rs
     go (refuse n l) e k f = rw (e, run) tt
     go (on t a) e k f = rw (e, run) (first-tells s t a k (run step t rs) (f t))
 
-pub music-told : (rs : List Row) (t : ScanState) (a : Items) → scan rs ≡ on t a → ltb 0 (t .places) ≡ hasMusic a
+pub music-told : (rs : List TextLine) (t : ScanState) (a : Items) → scan rs ≡ on t a → ltb 0 (t .places) ≡ hasMusic a
 unfolding scan begin
 music-told rs t a e = subst (Tells begin) e (run-tells rs begin)

@@ -9,12 +9,12 @@ use native.Mathlib.Omega.{arith}
 use lib.Dec.{eqb, ltb, leb}
 use lib.ListN.{length, length-append}
 use borrow.Author.Tests.{leb-false}
-use Rattle.laws.specs.Lists.{has}
+use Rattle.laws.specs.Lists.{elem}
 use Rattle.laws.proofs.Bools.{by-test}
-use Rattle.reader.specs.Text.{push, rows}
+use Rattle.reader.specs.Text.{push, textLines}
 use Rattle.reader.specs.Tokens.{Effect}
 use Rattle.reader.specs.Lines.{Kind, blank, refused, lyric, voice, key, meter, unit, tune, other, music, kindOf}
-use Rattle.reader.specs.Steps.{Row, Step, refuse, on, first, run}
+use Rattle.reader.specs.Steps.{TextLine, Step, refuse, on, first, run}
 use Rattle.reader.specs.Scan.{Items, ScanState, Out, begin, mostVoices, mostLines, firstRefusal, withUnnamed, voicesBefore, playOn, voiceOn, unitOn, act, step, scan}
 use Rattle.reader.specs.Answer.{scratchNeeded}
 use Rattle.scan_table.specs.Rows.{tableEnd}
@@ -70,7 +70,7 @@ act-grows s (lyric t) false = same s 1
 act-grows s (voice v mid) h =
     let vs = voicesBefore s in
     let f = found (s .opened) (s .env .voices) in
-    voice-grows s v vs (f .0) (f .1) (has v vs) (leb mostVoices (length vs)) mid refl
+    voice-grows s v vs (f .0) (f .1) (elem v vs) (leb mostVoices (length vs)) mid refl
 act-grows s (key k) true = same s 1
 act-grows s (key k) false = same s 1
 act-grows s (meter m) true = less s
@@ -83,7 +83,7 @@ act-grows s (music hi es l) true = less s
 act-grows s (music true es l) false = tt
 act-grows s (music false es l) false = play-grows s es l (firstRefusal (s .notes) es)
 
-step-grows : (s : ScanState) (r : Row) → Grows 1 s (step s r)
+step-grows : (s : ScanState) (r : TextLine) → Grows 1 s (step s r)
 unfolding step
 step-grows s r = by-test (ltb (s .lines) mostLines) (λ e. rw e (act-grows s (kindOf r) (s .env .inHeader))) (λ e. rw e tt)
 
@@ -91,7 +91,7 @@ first-grows : (n : ℕ) (s t : ScanState) (a : Items) → (count s ≤ 32 → co
 first-grows n s t a f e (refuse k l) h = tt
 first-grows n s t a f e (on u b) h = (λ x. h .0 (f x), omega (arith, e, h .1, length-append a b))
 
-run-grows : (rs : List Row) (s : ScanState) → Grows (length rs) s (run step s rs)
+run-grows : (rs : List TextLine) (s : ScanState) → Grows (length rs) s (run step s rs)
 run-grows [] s = same s 0
 run-grows (r ∷ rs) s = go (step s r) refl (step-grows s r) (λ t. run-grows rs t)
   where
@@ -100,21 +100,21 @@ run-grows (r ∷ rs) s = go (step s r) refl (step-grows s r) (λ t. run-grows rs
     go (on t a) e k f = rw (e, run) (first-grows (length rs) s t a (k .0) (k .1) (run step t rs) (f t))
 
 -- each row has a byte
-push-few : (c : ℕ) (rs : List Row) → length (push c rs) ≤ suc (length rs)
+push-few : (c : ℕ) (rs : List TextLine) → length (push c rs) ≤ suc (length rs)
 push-few c [] = omega arith
 push-few c (r ∷ rs) = omega arith
 
-pub few-rows : (t : List ℕ) → length (rows t) ≤ length t
-unfolding rows
+pub few-rows : (t : List ℕ) → length (textLines t) ≤ length t
+unfolding textLines
 few-rows [] = omega arith
 few-rows (c ∷ t) =
     let h = few-rows t in
-    by-test (eqb c 10) (λ e. rw e (omega arith)) (λ e. rw e (omega (arith, push-few c (rows t))))
+    by-test (eqb c 10) (λ e. rw e (omega arith)) (λ e. rw e (omega (arith, push-few c (textLines t))))
 
-module _ (text : List ℕ) (t : ScanState) (a : Items) (e : scan (rows text) ≡ on t a) where
-  grown : (0 ≤ 32 → count t ≤ 32) × (length a + 0 ≤ length (rows text) + count t)
+module _ (text : List ℕ) (t : ScanState) (a : Items) (e : scan (textLines text) ≡ on t a) where
+  grown : (0 ≤ 32 → count t ≤ 32) × (length a + 0 ≤ length (textLines text) + count t)
   unfolding scan begin
-  grown = subst (Grows (length (rows text)) begin) e (run-grows (rows text) begin)
+  grown = subst (Grows (length (textLines text)) begin) e (run-grows (textLines text) begin)
 
   -- 32 voices, and items for each row and each voice
   pub few-voices : length (t .env .voices) ≤ 32

@@ -6,7 +6,7 @@ use mathlib.Core.List.{List}
 use lib.Dec.{ltb}
 use lib.ListN.{length}
 use Rattle.laws.specs.Lists.{any}
-use Rattle.reader.specs.Text.{rows}
+use Rattle.reader.specs.Text.{textLines}
 use Rattle.reader.specs.Steps.{refuse, on}
 use Rattle.reader.specs.Scan.{Item, Items, ScanState, Out, scan}
 use Rattle.reader.specs.Answer.{isMusic}
@@ -48,7 +48,7 @@ hasMusic a = any (λ (x : ℕ × Item). isMusic (x .1)) a
 -- and one more where it names a new voice
 pub record Done (text s : List ℕ) (h : Shared) : Type 0 where
   pub state : ScanState
-  pub scanned : scan (rows text) ≡ on state (itemsIn text s (h .items))
+  pub scanned : scan (textLines text) ≡ on state (itemsIn text s (h .items))
   pub voices : state .env .voices ≡ voicesIn text s (h .voices)
   pub key : state .env .headerKey ≡ record { fifths = h .fifths; minor = h .minor }
   pub music : h .music ≡ hasMusic (itemsIn text s (h .items))
@@ -57,7 +57,7 @@ pub record Done (text s : List ℕ) (h : Shared) : Type 0 where
 
 abbrev pub Answered : List ℕ → List ℕ → code.Scanned → Type 0
 Answered text s (C.Done h) = Done text s h
-Answered text s (C.Refused n l) = scan (rows text) ≡ refuse n l
+Answered text s (C.Refused n l) = scan (textLines text) ≡ refuse n l
 
 pub record ScanIs (text s : List ℕ) (r : code.Scanned) : Type 0 where
   pub answered : Answered text s r

@@ -12,10 +12,10 @@ use borrow.Author.Tests.{lt-ltb, le-ltb}
 use Rattle.laws.specs.Bytes.{between}
 use Rattle.laws.proofs.Parts.{part-cut}
 use Rattle.reader.specs.Text.{hasHigh}
-use Rattle.reader.specs.Tokens.{Effect, counts, refuses, setsUnit, setsMeter, passes, tokenOf, effectOf, effects}
+use Rattle.reader.specs.Tokens.{Effect, counts, refuses, setsUnit, setsMeter, noEffect, tokenOf, effectOf, effects}
 use Rattle.reader.specs.Lines.{music}
 use Rattle.reader.specs.Steps.{refuse, on, first}
-use Rattle.reader.specs.Scan.{played, noteCount, lastUnit, lastMeter, firstRefusal, playOn, act}
+use Rattle.reader.specs.Scan.{musicLine, noteCount, lastUnit, lastMeter, firstRefusal, playOn, act}
 use Rattle.reader.proofs.TokenLaws.{tokens-at, tokens-end}
 use Rattle.reader.proofs.TokenBounds.{token-within}
 use Rattle.tokens.specs.Tokens.{effectFor, effectedFor}
@@ -72,11 +72,11 @@ meter-set p t b es = go (firstRefusal (p .notes) es)
     go (some k) = refl
     go none = refl
 
-pub passed : (p : Count) (es : List Effect) → playedOn (On p) es ≡ playedFor p (passes ∷ es)
+pub passed : (p : Count) (es : List Effect) → playedOn (On p) es ≡ playedFor p (noEffect ∷ es)
 unfolding playedOn playedFor firstRefusal playedAs noteCount lastUnit lastMeter
 passed p es = go (firstRefusal (p .notes) es)
   where
-    go : (o : Option ℕ) → playedAs p es o ≡ playedAs p (passes ∷ es) o
+    go : (o : Option ℕ) → playedAs p es o ≡ playedAs p (noEffect ∷ es) o
     go (some k) = refl
     go none = refl
 
@@ -87,7 +87,7 @@ effect-back counts = refl
 effect-back (refuses k) = refl
 effect-back (setsUnit u) = refl
 effect-back (setsMeter m) = refl
-effect-back passes = refl
+effect-back noEffect = refl
 
 module _ (line : List ℕ) (at : ℕ) where
   pub none-left : (p : Count) → length line ≤ at → playedFor p (effects (drop at line)) ≡ On p
@@ -165,7 +165,7 @@ module _ (text s : List ℕ) (st : State) (from end : ℕ) (body : st .in_header
       go none x = let z : _≡_ {A = ℕ} 0 1 = cc in absurd (omega arith)
 
   pub line-played : (s′ : List ℕ) (q : Count) (r : State) → On q ≡ playedFor (countOf st) es → st .voices ≤ 32 → st .part < 32 → r ≡ playedTo st q
-      → reached text s′ (S.On r) ≡ on (held text s (playedTo st q)) (itemsIn text s (st .items) ++ ((st .part, played (st .unit) (st .top, st .bottom) line) ∷ []))
+      → reached text s′ (S.On r) ≡ on (held text s (playedTo st q)) (itemsIn text s (st .items) ++ ((st .part, musicLine (st .unit) (st .top, st .bottom) line) ∷ []))
       → Stepped text s st (act (held text s st) (kindAs line C.Music) (st .in_header)) s′ (S.On r)
   unfolding playedFor playedAs playOn
   line-played s′ q r e v p f x =
@@ -174,9 +174,9 @@ module _ (text s : List ℕ) (st : State) (from end : ℕ) (body : st .in_header
         follows = rw f (refl, (v, (p, omega arith)));
       }
     where
-      go : (o : Option ℕ) → On q ≡ playedAs (countOf st) es o → playOn (held text s st) es line o ≡ on (held text s (playedTo st q)) ((st .part, played (st .unit) (st .top, st .bottom) line) ∷ [])
+      go : (o : Option ℕ) → On q ≡ playedAs (countOf st) es o → playOn (held text s st) es line o ≡ on (held text s (playedTo st q)) ((st .part, musicLine (st .unit) (st .top, st .bottom) line) ∷ [])
       go (some j) x = let z : _≡_ {A = ℕ} 0 1 = cc in absurd (omega arith)
       go none x =
           let c : Count = record { notes = st .notes + noteCount es; unit = lastUnit es (st .unit); top = lastMeter es (st .top, st .bottom) .0; bottom = lastMeter es (st .top, st .bottom) .1 } in
           let y : c ≡ q = cc in
-          ap (λ (d : Count). on (held text s (playedTo st d)) ((st .part, played (st .unit) (st .top, st .bottom) line) ∷ [])) y
+          ap (λ (d : Count). on (held text s (playedTo st d)) ((st .part, musicLine (st .unit) (st .top, st .bottom) line) ∷ [])) y

@@ -4,7 +4,7 @@ use mathlib.Core.Bool.{Bool, false, _||_}
 use mathlib.Core.Option.{Option, none, some}
 use mathlib.Core.List.{List, _∷_}
 use lib.Dec.{eqb, ltb}
-use Rattle.reader.specs.Tokens.{Effect, counts, refuses, setsUnit, setsMeter, passes}
+use Rattle.reader.specs.Tokens.{Effect, counts, refuses, setsUnit, setsMeter, noEffect}
 use Rattle.reader.specs.Scan.{noteCount, lastUnit, lastMeter, firstRefusal}
 use Rattle.tokens.specs.declared.Effect as code
 use Rattle.tokens.specs.declared.Effect.the-variants as effect
@@ -19,7 +19,7 @@ effectAs effect.Counts = counts
 effectAs (effect.Refuses n) = refuses n
 effectAs (effect.SetsUnit u) = setsUnit u
 effectAs (effect.SetsMeter t b) = setsMeter (t, b)
-effectAs effect.Passes = passes
+effectAs effect.NoEffect = noEffect
 
 -- effects, after these notes and with this L and M, unless one is refused
 unfoldable pub playedAs : Count → List Effect → Option ℕ → Played

@@ -9,7 +9,7 @@ ghost use Rattle.laws.specs.Bytes.{between};
 ghost use Rattle.reader.specs.Tokens as tokens;
 ghost use Rattle.reader.specs.Tokens.{effects};
 ghost use Rattle.reader.specs.Steps.{on};
-ghost use Rattle.reader.specs.Scan.{played, act};
+ghost use Rattle.reader.specs.Scan.{musicLine, act};
 ghost use Rattle.token_symbols.specs.Classes.{classTable};
 ghost use Rattle.text_lines.specs.declared.Class.{Class};
 ghost use Rattle.text_lines.specs.Lines.{kindAs};
@@ -72,7 +72,7 @@ fn after_effect(p: Count, e: Effect) -> Played
             };
             Played::On(r)
         }
-        Effect::Passes => {
+        Effect::NoEffect => {
             let r = Count {
                 notes: p.notes,
                 unit: p.unit,
@@ -149,7 +149,7 @@ fn add_played(scratch: &mut [u8], st: State, from: usize, end: usize, q: Count) 
     requires { ⌜ Ready (length (now scratch)) st ⌝ }
     requires { ⌜ (from < 2 ^ 32) × (end < 2 ^ 32) ⌝ }
     ensures { λ r. ⌜ r ≡ playedTo st q ⌝ }
-    ensures { λ r. ⌜ ((text : List ℕ) → reached text (now (scratch .exit)) (Step.On r) ≡ on (held text (now (scratch .entry)) (playedTo st q)) (itemsIn text (now (scratch .entry)) (st .items) ++ ((st .part, played (st .unit) (st .top, st .bottom) (between text from end)) ∷ []))) ⌝ }
+    ensures { λ r. ⌜ ((text : List ℕ) → reached text (now (scratch .exit)) (Step.On r) ≡ on (held text (now (scratch .entry)) (playedTo st q)) (itemsIn text (now (scratch .entry)) (st .items) ++ ((st .part, musicLine (st .unit) (st .top, st .bottom) (between text from end)) ∷ []))) ⌝ }
 {
     let row = Row {
         kind: 6,

@@ -13,7 +13,7 @@ use Rattle.laws.proofs.Lists.{drop-next, map-append, index-zero, index-suc}
 use Rattle.laws.proofs.Numbers.{littleAt-little, littleAt-part}
 use Rattle.laws.proofs.Parts.{part-cut, getD-part, part-past, part-rest, between-none}
 use Rattle.laws.proofs.Rows.{length-rows, rows-none, rows-push, rows-get, rows-below, rows-above}
-use Rattle.reader.specs.Scan.{Item, born, reset, headed, keyed, metered, sung, played}
+use Rattle.reader.specs.Scan.{Item, voiceDeclared, reset, keyInHeader, keyChange, meterChange, lyricLine, musicLine}
 use Rattle.scan_table.specs.declared.Place.{Place}
 use Rattle.scan_table.specs.declared.Row.{Row}
 use Rattle.scan_table.specs.Rows.{decVoice, voiceIn, voicesIn, decItem, encItem, itemAs, itemIn, itemsIn, Cut, PlaceIs, RowIs}
@@ -63,13 +63,13 @@ cut-short n at end h k =
 same-item : (k : ℕ) (text : List ℕ) (q r : Row) → r .a ≡ q .a → r .b ≡ q .b → r .unit ≡ q .unit → between text (r .at) (r .end) ≡ between text (q .at) (q .end)
     → itemAs k text r ≡ itemAs k text q
 unfolding itemAs
-same-item zero text q r a b u p = λ i. born (eqb (a i) 1)
+same-item zero text q r a b u p = λ i. voiceDeclared (eqb (a i) 1)
 same-item (suc zero) text q r a b u p = refl
 same-item (suc (suc zero)) text q r a b u p = refl
-same-item (suc (suc (suc zero))) text q r a b u p = λ i. keyed (record { fifths = a i; minor = eqb (b i) 1 })
-same-item (suc (suc (suc (suc zero)))) text q r a b u p = λ i. metered (a i, b i)
-same-item (suc (suc (suc (suc (suc zero))))) text q r a b u p = λ i. sung (eqb (a i) 1) (p i)
-same-item (suc (suc (suc (suc (suc (suc k)))))) text q r a b u p = λ i. played (u i) (a i, b i) (p i)
+same-item (suc (suc (suc zero))) text q r a b u p = λ i. keyChange (record { fifths = a i; minor = eqb (b i) 1 })
+same-item (suc (suc (suc (suc zero)))) text q r a b u p = λ i. meterChange (a i, b i)
+same-item (suc (suc (suc (suc (suc zero))))) text q r a b u p = λ i. lyricLine (eqb (a i) 1) (p i)
+same-item (suc (suc (suc (suc (suc (suc k)))))) text q r a b u p = λ i. musicLine (u i) (a i, b i) (p i)
 
 pub row-read : (text s : List ℕ) (from : ℕ) (r : Row) → r .kind ≡ getD s from 0 → r .part ≡ getD s (from + 1) 0 → r .a ≡ getD s (from + 2) 0
     → r .b ≡ getD s (from + 3) 0 → r .unit ≡ u32At s (from + 12) → Cut (length text) (u32At s (from + 4)) (u32At s (from + 8)) (record { at = r .at; end = r .end })

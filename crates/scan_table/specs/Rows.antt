@@ -5,7 +5,7 @@ use mathlib.Core.List.{List, [], _∷_, _++_, map}
 use lib.Dec.{eqb}
 use lib.ListN.{length, getD}
 use Rattle.laws.specs.Bytes.{between, le32, u32At, rows}
-use Rattle.reader.specs.Scan.{Item, born, reset, headed, keyed, metered, sung, played, Items}
+use Rattle.reader.specs.Scan.{Item, voiceDeclared, reset, keyInHeader, keyChange, meterChange, lyricLine, musicLine, Items}
 use Rattle.scan_table.specs.declared.Place.{Place}
 use Rattle.scan_table.specs.declared.Row.{Row}
 
@@ -45,13 +45,13 @@ encItem r = (r .kind ∷ r .part ∷ r .a ∷ r .b ∷ []) ++ le32 (r .at) ++ le
 
 -- an item by its kind's number
 unfoldable pub itemAs : ℕ → List ℕ → Row → Item
-itemAs zero text r = born (eqb (r .a) 1)
+itemAs zero text r = voiceDeclared (eqb (r .a) 1)
 itemAs (suc zero) text r = reset
-itemAs (suc (suc zero)) text r = headed
-itemAs (suc (suc (suc zero))) text r = keyed (record { fifths = r .a; minor = eqb (r .b) 1 })
-itemAs (suc (suc (suc (suc zero)))) text r = metered (r .a, r .b)
-itemAs (suc (suc (suc (suc (suc zero))))) text r = sung (eqb (r .a) 1) (between text (r .at) (r .end))
-itemAs (suc (suc (suc (suc (suc (suc k)))))) text r = played (r .unit) (r .a, r .b) (between text (r .at) (r .end))
+itemAs (suc (suc zero)) text r = keyInHeader
+itemAs (suc (suc (suc zero))) text r = keyChange (record { fifths = r .a; minor = eqb (r .b) 1 })
+itemAs (suc (suc (suc (suc zero)))) text r = meterChange (r .a, r .b)
+itemAs (suc (suc (suc (suc (suc zero))))) text r = lyricLine (eqb (r .a) 1) (between text (r .at) (r .end))
+itemAs (suc (suc (suc (suc (suc (suc k)))))) text r = musicLine (r .unit) (r .a, r .b) (between text (r .at) (r .end))
 
 -- a row as the definition's item, with the number of its part
 unfoldable pub itemIn : List ℕ → Row → ℕ × Item

@@ -7,7 +7,7 @@ use native.Mathlib.Omega.{arith}
 use lib.Dec.{leb}
 use lib.ListN.{length}
 use borrow.Author.Tests.{le-leb, lt-leb}
-use Rattle.laws.specs.Lists.{has, indexOf}
+use Rattle.laws.specs.Lists.{elem, indexOf}
 use Rattle.laws.specs.Bytes.{between, splice, le32}
 use Rattle.laws.proofs.Bools.{by-test}
 use Rattle.laws.proofs.Lists.{index-lt, index-none}
@@ -15,7 +15,7 @@ use Rattle.laws.proofs.Parts.{between-none}
 use Rattle.laws.proofs.Splices.{length-splice}
 use Rattle.reader.specs.Lines.{voice}
 use Rattle.reader.specs.Steps.{refuse, on, first}
-use Rattle.reader.specs.Scan.{Item, Items, born, reset, ScanState, Out, withUnnamed, voicesBefore, voiceOn, act}
+use Rattle.reader.specs.Scan.{Item, Items, voiceDeclared, reset, ScanState, Out, withUnnamed, voicesBefore, voiceOn, act}
 use Rattle.scan_table.specs.declared.Row.{Row}
 use Rattle.scan_table.specs.Rows.{voicesIn, itemIn, itemsIn, encItem}
 use Rattle.scan_table.proofs.Rows.{length-voice, length-voices, voices-none, voices-push, voices-below, items-push, items-above}
@@ -60,10 +60,10 @@ module _ (text s : List ℕ) (st : State) where
 
 -- A NEW VOICE: its row, then the item that it is born, then one more
 pub new-voice : (text s s₂ s₃ : List ℕ) (n m a b : ℕ) (row : Row) (h : Bool) → s₂ ≡ splice s (8 * n) (le32 a ++ le32 b) → s₃ ≡ splice s₂ (256 + 16 * m) (encItem row)
-    → n < 32 → a < 2 ^ 32 → b < 2 ^ 32 → row .at < 2 ^ 32 → row .end < 2 ^ 32 → row .unit < 2 ^ 32 → itemIn text row ≡ (n, born h) → 256 + 16 * m + 16 ≤ length s → (t : State) (x : ℕ × Item)
+    → n < 32 → a < 2 ^ 32 → b < 2 ^ 32 → row .at < 2 ^ 32 → row .end < 2 ^ 32 → row .unit < 2 ^ 32 → itemIn text row ≡ (n, voiceDeclared h) → 256 + 16 * m + 16 ≤ length s → (t : State) (x : ℕ × Item)
     → x ≡ (n, reset)
     → on (heldIn (voicesIn text s₃ (n + 1)) t) (itemsIn text s₃ (m + 1) ++ (x ∷ []))
-    ≡ on (heldIn (voicesIn text s n ++ (between text a b ∷ [])) t) (itemsIn text s m ++ ((n, born h) ∷ ((n, reset) ∷ [])))
+    ≡ on (heldIn (voicesIn text s n ++ (between text a b ∷ [])) t) (itemsIn text s m ++ ((n, voiceDeclared h) ∷ ((n, reset) ∷ [])))
 new-voice text s s₂ s₃ n m a b row h e₂ e₃ nh ah bh rh re ru ri room t x ex =
     let l : length s₂ ≡ length s = ap length e₂ ∙ length-splice s (8 * n) (le32 a ++ le32 b) in
     let vs : voicesIn text s₃ (n + 1) ≡ voicesIn text s n ++ (between text a b ∷ []) =
@@ -71,19 +71,19 @@ new-voice text s s₂ s₃ n m a b row h e₂ e₃ nh ah bh rh re ru ri room t x
     ∙ ap (λ (z : List ℕ). voicesIn text z (n + 1)) e₂ ∙ voices-push text s n a b ah bh (omega arith) in
     let was : itemsIn text s₂ m ≡ itemsIn text s m =
     ap (λ (z : List ℕ). itemsIn text z m) e₂ ∙ items-above text s m (8 * n) (le32 a ++ le32 b) (rw length-voice (omega arith)) in
-    let is : itemsIn text s₃ (m + 1) ≡ itemsIn text s m ++ ((n, born h) ∷ []) =
+    let is : itemsIn text s₃ (m + 1) ≡ itemsIn text s m ++ ((n, voiceDeclared h) ∷ []) =
     ap (λ (z : List ℕ). itemsIn text z (m + 1)) e₃ ∙ items-push text s₂ m row rh re ru (omega arith) ∙ (λ i. was i ++ (ri i ∷ [])) in
-    (λ i. on (heldIn (vs i) t) (is i ++ (ex i ∷ []))) ∙ ap (λ (z : Items). on (heldIn (voicesIn text s n ++ (between text a b ∷ [])) t) z) (append-assoc (itemsIn text s m) ((n, born h) ∷ []) ((n, reset) ∷ []))
+    (λ i. on (heldIn (vs i) t) (is i ++ (ex i ∷ []))) ∙ ap (λ (z : Items). on (heldIn (voicesIn text s n ++ (between text a b ∷ [])) t) z) (append-assoc (itemsIn text s m) ((n, voiceDeclared h) ∷ []) ((n, reset) ∷ []))
 
 -- WHICH CASE OF A V LINE it is
-has-below : (v : List ℕ) (vs : List (List ℕ)) → indexOf v vs < length vs → has v vs ≡ true
-has-below v vs h = by-test (has v vs) (λ e. e) (λ e. absurd (no (index-none v vs e)))
+has-below : (v : List ℕ) (vs : List (List ℕ)) → indexOf v vs < length vs → elem v vs ≡ true
+has-below v vs h = by-test (elem v vs) (λ e. e) (λ e. absurd (no (index-none v vs e)))
   where
     no : indexOf v vs ≡ length vs → ⊥
     no e = omega arith
 
-has-past : (v : List ℕ) (vs : List (List ℕ)) → length vs ≤ indexOf v vs → has v vs ≡ false
-has-past v vs h = by-test (has v vs) (λ e. absurd (no (index-lt v vs e))) (λ e. e)
+has-past : (v : List ℕ) (vs : List (List ℕ)) → length vs ≤ indexOf v vs → elem v vs ≡ false
+has-past v vs h = by-test (elem v vs) (λ e. absurd (no (index-lt v vs e))) (λ e. e)
   where
     no : indexOf v vs < length vs → ⊥
     no e = omega arith
@@ -93,14 +93,14 @@ module _ (text s : List ℕ) (st : State) (s₁ : List ℕ) (n : ℕ) (u : Unnam
   vs = voicesIn text s₁ n
 
   -- the V line among the n voices
-  line : (known full mid : Bool) → has v vs ≡ known → leb 32 (length vs) ≡ full → act (held text s st) (voice v mid) (st .in_header) ≡ voiceOn (held text s st) v vs known full mid
+  line : (known full mid : Bool) → elem v vs ≡ known → leb 32 (length vs) ≡ full → act (held text s st) (voice v mid) (st .in_header) ≡ voiceOn (held text s st) v vs known full mid
   unfolding act voicesBefore
-  line known full mid k g = ap (λ (ws : List (List ℕ)). voiceOn (held text s st) v ws (has v ws) (leb 32 (length ws)) mid) (sym (u .voices)) ∙ (λ j. voiceOn (held text s st) v vs (k j) (g j) mid)
+  line known full mid k g = ap (λ (ws : List (List ℕ)). voiceOn (held text s st) v ws (elem v ws) (leb 32 (length ws)) mid) (sym (u .voices)) ∙ (λ j. voiceOn (held text s st) v vs (k j) (g j) mid)
 
-  is-known : i < n → has v vs ≡ true
+  is-known : i < n → elem v vs ≡ true
   is-known h = has-below v vs (rw (← f, length-voices) h)
 
-  is-new : n ≤ i → has v vs ≡ false
+  is-new : n ≤ i → elem v vs ≡ false
   is-new h = has-past v vs (rw (← f, length-voices) h)
 
   is-full : 32 ≤ n → leb 32 (length vs) ≡ true
@@ -135,14 +135,14 @@ module _ (text s : List ℕ) (st : State) (s₁ : List ℕ) (n : ℕ) (u : Unnam
 
   -- a voice that is new
   pub on-new : n ≤ i → n < 32 → (s₂ : List ℕ) (r : State) → Moved st (n + 1) n (st .items + 2) r
-      → reached text s₂ (On r) ≡ on (heldIn (vs ++ (v ∷ [])) (movedTo st n)) (itemsIn text s₁ (st .items) ++ ((n, born (st .in_header)) ∷ ((n, reset) ∷ [])))
+      → reached text s₂ (On r) ≡ on (heldIn (vs ++ (v ∷ [])) (movedTo st n)) (itemsIn text s₁ (st .items) ++ ((n, voiceDeclared (st .in_header)) ∷ ((n, reset) ∷ [])))
       → Stepped text s st (act (held text s st) (voice v false) (st .in_header)) s₂ (On r)
   unfolding voiceOn
   on-new h k s₂ r m e =
       let c : n ≡ length vs = sym (length-voices text s₁ n) in
       record {
         is = e
-            ∙ (λ j. on (heldIn (vs ++ (v ∷ [])) (movedTo st (c j))) (u .items j ++ ((c j, born (st .in_header)) ∷ ((c j, reset) ∷ []))))
+            ∙ (λ j. on (heldIn (vs ++ (v ∷ [])) (movedTo st (c j))) (u .items j ++ ((c j, voiceDeclared (st .in_header)) ∷ ((c j, reset) ∷ []))))
             ∙ sym (ap (first (itemsIn text s (st .items))) (line false false false (is-new h) (not-full k)));
         follows = (m .lines, (omega (arith, m .voices), (omega (arith, m .part), omega (arith, m .items, m .voices, u .low))));
       }

@@ -5,7 +5,7 @@ ghost use Prim.Native.Nat.{ℕ, _+_, _*_, _^_, _≤_, _<_};
 ghost use lib.ListN.{length};
 ghost use Rattle.laws.specs.Bytes.{between};
 ghost use Rattle.reader.specs.Lines.{voice};
-ghost use Rattle.reader.specs.Scan.{born, reset, act};
+ghost use Rattle.reader.specs.Scan.{voiceDeclared, reset, act};
 ghost use Rattle.reader.specs.Steps.{on};
 ghost use Rattle.scan_table.specs.Rows.{voicesIn, itemsIn};
 ghost use Rattle.scan_states.specs.States.{heldIn, held, reached, Ready, Stepped};
@@ -57,11 +57,11 @@ fn new_voice(scratch: &mut [u8], st: State, n: usize, a: usize, b: usize) -> Sta
     requires { ⌜ Ready (length (now scratch)) st ⌝ }
     requires { ⌜ (n < 32) × (a < 2 ^ 32) × (b < 2 ^ 32) ⌝ }
     ensures { λ r. ⌜ Moved st (n + 1) n (st .items + 2) r ⌝ }
-    ensures { λ r. ⌜ ((text : List ℕ) → reached text (now (scratch .exit)) (Step.On r) ≡ on (heldIn (voicesIn text (now (scratch .entry)) n ++ (between text a b ∷ [])) (movedTo st n)) (itemsIn text (now (scratch .entry)) (st .items) ++ ((n, born (st .in_header)) ∷ ((n, reset) ∷ [])))) ⌝ }
+    ensures { λ r. ⌜ ((text : List ℕ) → reached text (now (scratch .exit)) (Step.On r) ≡ on (heldIn (voicesIn text (now (scratch .entry)) n ++ (between text a b ∷ [])) (movedTo st n)) (itemsIn text (now (scratch .entry)) (st .items) ++ ((n, voiceDeclared (st .in_header)) ∷ ((n, reset) ∷ [])))) ⌝ }
 {
     scan_table::push_voice(scratch, n, a, b);
     let part = n as u8;
-    let born = Row {
+    let voiceDeclared = Row {
         kind: 0,
         part,
         a: scan_states::flag(st.in_header),
@@ -71,7 +71,7 @@ fn new_voice(scratch: &mut [u8], st: State, n: usize, a: usize, b: usize) -> Sta
         unit: 0,
     };
     let m = st.items;
-    scan_table::put_item(scratch, m, born);
+    scan_table::put_item(scratch, m, voiceDeclared);
     let mut r = st;
     r.voices = n + 1;
     r.part = part;

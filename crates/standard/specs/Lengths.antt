@@ -1,7 +1,7 @@
 -- LENGTHS: fractions of a whole note (ABC 2.1, 4.3), written values with their dots, broken rhythm (4.4).
 use Prim.Native.Nat.{ℕ, suc, _+_, _-_, _*_, _^_, max, min}
 use mathlib.Core.List.{List, [], _∷_, map}
-use Rattle.laws.specs.Lists.{cat}
+use Rattle.laws.specs.Lists.{concat}
 
 pub record Fraction : Type 0 where
   pub over : ℕ
@@ -35,7 +35,7 @@ withDots v =
 
 -- the forty written values, the longest first
 unfoldable pub forty : List Value
-forty = cat (map withDots tenValues)
+forty = concat (map withDots tenValues)
 
 -- 4.4: `>` dots the first note, `>>` double dots it; three dots at most
 unfoldable pub dotted : ℕ → Value → Value

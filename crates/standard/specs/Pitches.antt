@@ -50,7 +50,7 @@ alterOf sign =
 pub record Written : Type 0 where
   pub step : ℕ
   pub octave : ℕ
-  pub mark : Option Accidental
+  pub sign : Option Accidental
 
 -- a pitch as sounded
 pub record Pitch : Type 0 where

@@ -8,7 +8,7 @@ use native.Mathlib.Omega.{arith}
 use lib.Dec.{eqb}
 use lib.Seq.{drop-drop, drop-at, take-at, getD-drop}
 use lib.ListN.{length, take, drop, getD, length-append, length-drop, length-map}
-use Rattle.laws.specs.Lists.{All, keep, cat}
+use Rattle.laws.specs.Lists.{All, filter, concat}
 use Rattle.laws.specs.Bytes.{part, little, littleAt, le32, u32At, zeros}
 use Rattle.laws.proofs.Bools.{by-test}
 use Rattle.laws.proofs.Lists.{All-every}
@@ -22,13 +22,13 @@ use Rattle.reader.specs.State.{Note, Measure}
 use Rattle.reader.specs.Lyrics.{Syllable}
 use Rattle.reader.specs.Part.{Part}
 use Rattle.reader.specs.Records.{section, sections, notesOf, pitchesOf, lyrics, lyricText, measureBytes, noteBytes, pitchBytes, lyricBytes}
-use Rattle.reader.specs.Steps.{mine}
+use Rattle.reader.specs.Steps.{itemsOf}
 use Rattle.reader.specs.Scan.{Item, Env}
 use Rattle.reader.specs.Answer.{Verdict, refusal, reading, Outcome, parts, partBytes, encode, refusedWith, written, parseAbc}
 use Rattle.reader.specs.Tally.{Counts, countsOf, tally}
 use Rattle.reader.proofs.Sizes.{Four, Fours, built-fours, measure-bytes, note-bytes, pitch-bytes, lyric-bytes}
 use Rattle.bounds.specs.Ranges.{CountsFit}
-use Rattle.bounds.proofs.ScanCosts.{voiceCount}
+use Rattle.bounds.proofs.ScanWeights.{voiceCount}
 use Rattle.bounds.proofs.Reading.{partsAfter, outcome-cases}
 use Rattle.bounds.proofs.FourBytes.{reading-counts}
 use Rattle.tally_counts.specs.Counted.{behind, notesAt, pitchesAt, lyricsAt, textAt, partEnd, soundedIn, countsIn, countsFrom, PartsWithin}
@@ -52,10 +52,10 @@ number-here {s} {at} n b h x =
 
 -- A SECTION
 -- records of one width
-cat-length {ℓ} : {A : Type ℓ} (P : A → Type 0) (f : A → List ℕ) (w : ℕ) → ((x : A) → P x → length (f x) ≡ w) → (xs : List A) → All P xs → length (cat (map f xs)) ≡ w * length xs
-cat-length P f w h [] p = omega arith
-cat-length P f w h (x ∷ xs) p =
-    omega (arith, length-append (f x) (cat (map f xs)), h x (p .0), cat-length P f w h xs (p .1), mul-suc w (length xs))
+concat-length {ℓ} : {A : Type ℓ} (P : A → Type 0) (f : A → List ℕ) (w : ℕ) → ((x : A) → P x → length (f x) ≡ w) → (xs : List A) → All P xs → length (concat (map f xs)) ≡ w * length xs
+concat-length P f w h [] p = omega arith
+concat-length P f w h (x ∷ xs) p =
+    omega (arith, length-append (f x) (concat (map f xs)), h x (p .0), concat-length P f w h xs (p .1), mul-suc w (length xs))
 
 -- what is read off it: its count, its records, and what stands behind it
 pub record Section (s : List ℕ) (at w n : ℕ) (recs rest : List ℕ) : Type 0 where
@@ -64,14 +64,14 @@ pub record Section (s : List ℕ) (at w n : ℕ) (recs rest : List ℕ) : Type 0
   pub after : Here s (behind s w at) rest
 
 section-here {ℓ} : {A : Type ℓ} (P : A → Type 0) (f : A → List ℕ) (w : ℕ) → ((x : A) → P x → length (f x) ≡ w) → {s : List ℕ} {at : ℕ} (xs : List A) → All P xs → length xs < 2 ^ 32 → (rest : List ℕ)
-    → Here s at (section f xs ++ rest) → Section s at w (length xs) (cat (map f xs)) rest
+    → Here s at (section f xs ++ rest) → Section s at w (length xs) (concat (map f xs)) rest
 unfolding section behind
 section-here P f w h {s} {at} xs p small rest x =
-    let recs = cat (map f xs) in
+    let recs = concat (map f xs) in
     let y : Here s at (le32 (length xs) ++ (recs ++ rest)) = subst (Here s at) (append-assoc (le32 (length xs)) recs rest) x in
     let n : u32At s at ≡ length xs = number-here (length xs) (recs ++ rest) small y in
     let r : Here s (at + 4) (recs ++ rest) = past (le32 (length xs)) (recs ++ rest) 4 (length-little 4 (length xs)) y in
-    let e : length recs ≡ w * u32At s at = cat-length P f w h xs p ∙ ap (λ (k : ℕ). w * k) (sym n) in
+    let e : length recs ≡ w * u32At s at = concat-length P f w h xs p ∙ ap (λ (k : ℕ). w * k) (sym n) in
     record { count = n; records = r; after = past recs rest (w * u32At s at) e r }
 
 -- THE NOTES that are no rests
@@ -96,22 +96,22 @@ one-note : (b : Bool) (x : ℕ × Note) (xs : List (ℕ × Note)) → cond b 1 0
 one-note true x xs = omega arith
 one-note false x xs = omega arith
 
-sounded-notes : {s : List ℕ} {at : ℕ} (xs : List (ℕ × Note)) (rest : List ℕ) → Here s at (cat (map (λ (x : ℕ × Note). noteBytes (x .1)) xs) ++ rest)
-    → soundedIn s at (length xs) ≡ length (keep (λ (x : ℕ × Note). isSounded (x .1 .kind)) xs)
+sounded-notes : {s : List ℕ} {at : ℕ} (xs : List (ℕ × Note)) (rest : List ℕ) → Here s at (concat (map (λ (x : ℕ × Note). noteBytes (x .1)) xs) ++ rest)
+    → soundedIn s at (length xs) ≡ length (filter (λ (x : ℕ × Note). isSounded (x .1 .kind)) xs)
 unfolding noteBytes soundedIn
 sounded-notes [] rest h = refl
 sounded-notes {s} {at} (x ∷ xs) rest h =
     let b = noteBytes (x .1) in
-    let recs = cat (map (λ (x : ℕ × Note). noteBytes (x .1)) xs) in
+    let recs = concat (map (λ (x : ℕ × Note). noteBytes (x .1)) xs) in
     let y : Here s at (b ++ (recs ++ rest)) = subst (Here s at) (append-assoc b recs rest) h in
     let k : getD s at 0 ≡ kindCode (x .1 .kind) = ap (λ (i : ℕ). getD s i 0) (sym (add-zero at)) ∙ sym (getD-drop at s 0 0) ∙ ap (λ (l : List ℕ). getD l 0 0) (y .is) in
     let t : eqb (getD s at 0) 0 ≡ isSounded (x .1 .kind) = ap (λ (i : ℕ). eqb i 0) k ∙ kind-sounded (x .1 .kind) in
     sounded-front s at (length xs)
     ∙ (λ i. cond (t i) 1 0 + sounded-notes xs rest (past b (recs ++ rest) 12 (note-bytes x tt) y) i)
-    ∙ one-note (isSounded (x .1 .kind)) x (keep (λ (x : ℕ × Note). isSounded (x .1 .kind)) xs)
+    ∙ one-note (isSounded (x .1 .kind)) x (filter (λ (x : ℕ × Note). isSounded (x .1 .kind)) xs)
 
 -- those that are rests are the others
-others {ℓ} : {A : Type ℓ} (p : A → Bool) (xs : List A) → length xs ≡ length (keep p xs) + length (keep (λ x. not (p x)) xs)
+others {ℓ} : {A : Type ℓ} (p : A → Bool) (xs : List A) → length xs ≡ length (filter p xs) + length (filter (λ x. not (p x)) xs)
 others p [] = refl
 others p (x ∷ xs) = by-test (p x) (λ e. rw e (omega (arith, others p xs))) (λ e. rw e (omega (arith, others p xs)))
 
@@ -138,9 +138,9 @@ part-here {s} {at} p f c rest h =
     let q = section-here (λ x. Unit {0}) pitchBytes 5 pitch-bytes (pitchesOf p) (All-every _ (λ x. tt) (pitchesOf p)) (c .pitches-count) (sy ++ (st ++ rest)) (n .after) in
     let y = section-here (λ x. Unit {0}) fy 11 lyric-bytes (lyrics p) (All-every _ (λ x. tt) (lyrics p)) (c .lyrics-count) (st ++ rest) (q .after) in
     let t = section-here (λ x. Unit {0}) ft 1 (λ c u. refl) (lyricText p) (All-every _ (λ x. tt) (lyricText p)) (c .text-count) rest (y .after) in
-    let k : soundedIn s (notesAt s at + 4) (u32At s (notesAt s at)) ≡ length (keep (λ (x : ℕ × Note). isSounded (x .1 .kind)) (notesOf p)) =
+    let k : soundedIn s (notesAt s at + 4) (u32At s (notesAt s at)) ≡ length (filter (λ (x : ℕ × Note). isSounded (x .1 .kind)) (notesOf p)) =
     ap (soundedIn s (notesAt s at + 4)) (n .count) ∙ sounded-notes (notesOf p) (sp ++ (sy ++ (st ++ rest))) (n .records) in
-    let r : u32At s (notesAt s at) - soundedIn s (notesAt s at + 4) (u32At s (notesAt s at)) ≡ length (keep (λ (x : ℕ × Note). not (isSounded (x .1 .kind))) (notesOf p)) =
+    let r : u32At s (notesAt s at) - soundedIn s (notesAt s at + 4) (u32At s (notesAt s at)) ≡ length (filter (λ (x : ℕ × Note). not (isSounded (x .1 .kind))) (notesOf p)) =
     omega (arith, k, n .count, others (λ (x : ℕ × Note). isSounded (x .1 .kind)) (notesOf p)) in
     ((λ i. record { measures = m .count i; sounded = k i; rests = r i; syllables = y .count i }), t .after)
 
@@ -191,7 +191,7 @@ holds text rl sl =
     outcome-cases (Holds rl) text rl sl (λ n l h ps e. absurd (refused≢reading n l ps e)) (λ h ps e. absurd (refused≢reading 16 0 ps e))
     (λ t a h f len short ps e.
     let q : partsAfter t a ≡ ps = same-reading (partsAfter t a) ps e in
-    (subst (All (λ (p : Part). Fours (p .measures))) q (parts-fours (t .env) (λ p. mine p a) (voiceCount t) 0), ap (λ (qs : List Part). encode qs ++ zeros (rl - length (encode qs))) q))
+    (subst (All (λ (p : Part). Fours (p .measures))) q (parts-fours (t .env) (λ p. itemsOf p a) (voiceCount t) 0), ap (λ (qs : List Part). encode qs ++ zeros (rl - length (encode qs))) q))
 
 pub told-tally : (text : List ℕ) (rl sl : ℕ) (ps : List Part) → parseAbc text rl sl .verdict ≡ reading ps → Read (parseAbc text rl sl .reading) ps × (length ps ≤ 32)
 told-tally text rl sl ps e =

@@ -8,7 +8,7 @@ use lib.Dec.{leb}
 use lib.ListN.{length}
 use Rattle.laws.specs.Lists.{sum}
 use Rattle.laws.proofs.Bools.{by-test}
-use Rattle.reader.specs.Text.{isUtf8, isBlank, rows}
+use Rattle.reader.specs.Text.{isUtf8, isBlank, textLines}
 use Rattle.reader.specs.Steps.{refuse, on}
 use Rattle.reader.specs.Scan.{Out, scan}
 use Rattle.reader.specs.Answer.{Verdict, refusal, reading, Outcome, mostBytes, scratchNeeded, refusedWith, early, encode, measureCount, written, ended, finish, scanned, unless, parseAbc}
@@ -38,7 +38,7 @@ early-15 text rl sl h =
     (by-test (isUtf8 text)
     (λ b. rw b
     (by-test (isBlank text) (λ c. rw c (λ e. absurd (omega (arith, e))))
-    (λ c. rw (c, le-leb (scratchNeeded (length text)) sl h) (scanned-15 rl sl (scan (rows text)) (scan-out text (utf8-bytes text b))))))
+    (λ c. rw (c, le-leb (scratchNeeded (length text)) sl h) (scanned-15 rl sl (scan (textLines text)) (scan-out text (utf8-bytes text b))))))
     (λ b. rw b (λ e. absurd (omega (arith, e))))))
     (λ a. rw a (λ e. absurd (omega (arith, e))))
 

@@ -5,11 +5,11 @@ use mathlib.Core.Bool.{Bool, true, false, _&&_}
 use mathlib.Core.List.{List, [], _∷_, _++_}
 use native.Mathlib.Omega.{arith}
 use lib.ListN.{length, getD}
-use Rattle.laws.specs.Lists.{all, span}
+use Rattle.laws.specs.Lists.{all, countWhile}
 use Rattle.laws.specs.Bytes.{between}
 use Rattle.laws.specs.Spans.{endIn}
 use Rattle.laws.proofs.Bools.{and-true, and-left, and-right}
-use Rattle.laws.proofs.Spans.{span-yes}
+use Rattle.laws.proofs.Spans.{count-while-yes}
 use Rattle.laws.proofs.Parts.{between-first, between-none, between-cut, length-between}
 
 -- A BLOCK, of which j bytes are read: n says of those that each is of the kind
@@ -31,12 +31,12 @@ pub block-end : (p : ℕ → Bool) (text : List ℕ) (i e : ℕ) (n : Bool) → 
 block-end p text i e n h = sym (ap (λ (s : List ℕ). n && all p s) (between-none text i e h) ∙ and-true n)
 
 -- BLOCK BY BLOCK
-span-both : (p : ℕ → Bool) (s t : List ℕ) → all p s ≡ true → span p (s ++ t) ≡ length s + span p t
-span-both p [] t e = omega arith
-span-both p (c ∷ s) t e = rw (span-yes p c (s ++ t) (and-left (p c) (all p s) e)) (omega (arith, span-both p s t (and-right (p c) (all p s) e)))
+count-while-both : (p : ℕ → Bool) (s t : List ℕ) → all p s ≡ true → countWhile p (s ++ t) ≡ length s + countWhile p t
+count-while-both p [] t e = omega arith
+count-while-both p (c ∷ s) t e = rw (count-while-yes p c (s ++ t) (and-left (p c) (all p s) e)) (omega (arith, count-while-both p s t (and-right (p c) (all p s) e)))
 
 -- past a block of the kind the end is the same
 pub end-behind : (p : ℕ → Bool) (text : List ℕ) (i k e : ℕ) → i ≤ k → k ≤ e → e ≤ length text → all p (between text i k) ≡ true → endIn p text k e ≡ endIn p text i e
 end-behind p text i k e h l f y =
-    let s : span p (between text i e) ≡ length (between text i k) + span p (between text k e) = ap (span p) (between-cut text i e k h l) ∙ span-both p (between text i k) (between text k e) y in
+    let s : countWhile p (between text i e) ≡ length (between text i k) + countWhile p (between text k e) = ap (countWhile p) (between-cut text i e k h l) ∙ count-while-both p (between text i k) (between text k e) y in
     omega (arith, s, length-between text i k (omega arith))

@@ -9,13 +9,13 @@ use borrow.Author.Tests.{ltb-true, ltb-false, lt-ltb, le-ltb}
 use lib.Dec.{eqb, ltb}
 use lib.ListN.{length, getD, take, drop, length-drop, drop-of-length-le}
 use lib.Seq.{drop-cons, drop-drop}
-use Rattle.laws.specs.Lists.{span}
+use Rattle.laws.specs.Lists.{countWhile}
 use Rattle.laws.specs.Bytes.{part}
 use Rattle.laws.specs.Spans.{endIn}
 use Rattle.laws.proofs.Bools.{by-test, or-left, or-none}
-use Rattle.laws.proofs.Spans.{span-yes, span-no}
-use Rattle.laws.proofs.Parts.{span-part, endIn-le}
-use Rattle.reader.specs.Text.{push, rows, hasHigh}
+use Rattle.laws.proofs.Spans.{count-while-yes, count-while-no}
+use Rattle.laws.proofs.Parts.{count-while-part, endIn-le}
+use Rattle.reader.specs.Text.{push, textLines, hasHigh}
 use Rattle.text_lines.specs.Lines.{notByte, LineEnd}
 
 -- how long the first row is
@@ -24,8 +24,8 @@ rowLength [] = 0
 rowLength (c ∷ l) = cond (eqb c 10) 1 (suc (rowLength l))
 
 -- the first row, and the others
-pub rows-next : (c : ℕ) (l : List ℕ) → rows (c ∷ l) ≡ take (rowLength (c ∷ l)) (c ∷ l) ∷ rows (drop (rowLength (c ∷ l)) (c ∷ l))
-unfolding rows rowLength
+pub rows-next : (c : ℕ) (l : List ℕ) → textLines (c ∷ l) ≡ take (rowLength (c ∷ l)) (c ∷ l) ∷ textLines (drop (rowLength (c ∷ l)) (c ∷ l))
+unfolding textLines rowLength
 rows-next c [] = by-test (eqb c 10) (λ e. rw e) (λ e. rw e)
 rows-next c (d ∷ l) = let r = rows-next d l in by-test (eqb c 10) (λ e. rw e) (λ e. rw e (ap (push c) r))
 
@@ -36,7 +36,7 @@ row-some c (d ∷ l) =
     let r = row-some d l in
     by-test (eqb c 10) (λ e. rw e (omega arith, omega arith)) (λ e. rw e (omega arith, omega (arith, r .1)))
 
-first : (l : List ℕ) → 0 < length l → (0 < rowLength l) × (rowLength l ≤ length l) × (rows l ≡ take (rowLength l) l ∷ rows (drop (rowLength l) l))
+first : (l : List ℕ) → 0 < length l → (0 < rowLength l) × (rowLength l ≤ length l) × (textLines l ≡ take (rowLength l) l ∷ textLines (drop (rowLength l) l))
 first [] h = absurd (omega arith)
 first (c ∷ l) h = (row-some c l .0, row-some c l .1, rows-next c l)
 
@@ -50,12 +50,12 @@ row-is t i e h x =
     record {
       past = omega (arith, x, f .0);
       inside = omega (arith, x, f .1, length-drop i t);
-      rest = f .2 ∙ (λ j. take (k j) (drop i t) ∷ rows (drop-drop n i t j)) ∙ ap (λ (m : ℕ). take (e - i) (drop i t) ∷ rows (drop m t)) (sym x);
+      rest = f .2 ∙ (λ j. take (k j) (drop i t) ∷ textLines (drop-drop n i t j)) ∙ ap (λ (m : ℕ). take (e - i) (drop i t) ∷ textLines (drop m t)) (sym x);
     }
 
 -- no row past the end
-pub rows-over : (t : List ℕ) (i : ℕ) → length t ≤ i → rows (drop i t) ≡ []
-unfolding rows
+pub rows-over : (t : List ℕ) (i : ℕ) → length t ≤ i → textLines (drop i t) ≡ []
+unfolding textLines
 rows-over t i h = rw (drop-of-length-le t h)
 
 -- the greater of two is above 127 where one of them is
@@ -89,16 +89,16 @@ high-over t i m h k = sym (last (ltb 127 m)) ∙ ap (λ (l : List ℕ). ltb 127 
     last false = refl
 
 -- THE END OF A ROW, by its first line feed
-row-span : (l : List ℕ) → rowLength l ≡ min (length l) (suc (span (notByte 10) l))
+row-count-while : (l : List ℕ) → rowLength l ≡ min (length l) (suc (countWhile (notByte 10) l))
 unfolding rowLength
-row-span [] = refl
-row-span (c ∷ l) =
-    by-test (eqb c 10) (λ e. rw (e, span-no (notByte 10) c l (ap not e)) (omega arith))
-    (λ e. rw (e, span-yes (notByte 10) c l (ap not e)) (omega (arith, row-span l)))
+row-count-while [] = refl
+row-count-while (c ∷ l) =
+    by-test (eqb c 10) (λ e. rw (e, count-while-no (notByte 10) c l (ap not e)) (omega arith))
+    (λ e. rw (e, count-while-yes (notByte 10) c l (ap not e)) (omega (arith, row-count-while l)))
 
 module _ (t : List ℕ) (at i : ℕ) (e : i ≡ endIn (notByte 10) t at (length t)) (h : at < length t) where
   first-feed : rowLength (drop at t) ≡ min (length t - at) (suc (i - at))
-  first-feed = omega (arith, e, row-span (drop at t), length-drop at t, span-part (notByte 10) t at 0 (length t - at))
+  first-feed = omega (arith, e, row-count-while (drop at t), length-drop at t, count-while-part (notByte 10) t at 0 (length t - at))
 
   -- it goes with the row; the last row may have none
   pub row-fed : i < length t → LineEnd t at (i + 1)

@@ -7,7 +7,7 @@ use lib.Dec.{eqb}
 use lib.ListN.{length, drop}
 use Rattle.laws.specs.Lists.{foldl, isNil}
 use Rattle.laws.specs.Bytes.{between}
-use Rattle.reader.specs.Text.{within, White, whiteStep, isAllWhite, rows, trim, clean, hasHigh}
+use Rattle.reader.specs.Text.{within, White, whiteStep, isAllWhite, textLines, trim, clean, hasHigh}
 use Rattle.reader.specs.Fields.{meterOf, unitOf}
 use Rattle.reader.specs.Tokens.{effects}
 use Rattle.reader.specs.Lines.{isV, isK, isL, isM, isX, isLyric, isField, Kind, blank, refused, lyric, meter, unit, tune, other, music, voiceKind, keyKind}
@@ -20,7 +20,7 @@ use Rattle.text_lines.specs.declared.Class.the-variants as C
 pub record LineEnd (text : List ℕ) (at e : ℕ) : Type 0 where
   pub past : at < e
   pub inside : e ≤ length text
-  pub rest : rows (drop at text) ≡ between text at e ∷ rows (drop e text)
+  pub rest : textLines (drop at text) ≡ between text at e ∷ textLines (drop e text)
 
 -- a byte other than b
 abbrev pub notByte : ℕ → ℕ → Bool

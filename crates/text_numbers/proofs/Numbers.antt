@@ -9,10 +9,10 @@ use lib.Dec.{leb, eqb}
 use lib.ListN.{length, getD, take, drop, length-drop}
 use lib.Seq.{take-all}
 use borrow.Author.Tests.{lt-leb, leb-true, leb-false, eq-eqb, ne-eqb}
-use Rattle.laws.specs.Lists.{all, span}
+use Rattle.laws.specs.Lists.{all, countWhile}
 use Rattle.laws.specs.Spans.{run, endOf}
 use Rattle.laws.proofs.Bools.{by-test, and-left, and-right}
-use Rattle.laws.proofs.Spans.{run-within, run-on, run-off, end-on, end-off, run-passes, span-all, span-whole, span-le}
+use Rattle.laws.proofs.Spans.{run-within, run-on, run-off, end-on, end-off, run-passes, count-while-all, count-while-whole, count-while-le}
 use Rattle.standard.specs.Bytes.{isDigit, decimal, digits}
 use Rattle.text_numbers.specs.declared.Digits.{Digits}
 use Rattle.text_numbers.specs.declared.Digits.the-variants.{Nothing, Value, Past}
@@ -138,7 +138,7 @@ module _ (top : ℕ) (line : List ℕ) (at : ℕ) (r : Read) (e : r ≡ numberAt
   unfolding numberAt
   read-option = rw e (option-run top (drop at line))
 
-  pub read-next : r .next ≡ at + span isDigit (drop at line)
+  pub read-next : r .next ≡ at + countWhile isDigit (drop at line)
   unfolding numberAt
   read-next = rw e
 
@@ -151,15 +151,15 @@ module _ (top : ℕ) (s : List ℕ) (r : Read) (e : r ≡ numberAt top s 0) wher
   -- the digits end before the text does
   pub whole-short : r .next < length s → digits top s ≡ none
   unfolding numberAt
-  whole-short h = digits-other top s (by-test (all isDigit s) (λ a. absurd (omega (arith, span-all isDigit s a, rw e at h))) (λ n. n))
+  whole-short h = digits-other top s (by-test (all isDigit s) (λ a. absurd (omega (arith, count-while-all isDigit s a, rw e at h))) (λ n. n))
 
   -- they are the text
   pub whole-all : length s ≤ r .next → option (r .digits) ≡ digits top s
   unfolding numberAt
   whole-all h =
-      let n : span isDigit s ≡ length s = omega (arith, span-le isDigit s, rw e at h) in
+      let n : countWhile isDigit s ≡ length s = omega (arith, count-while-le isDigit s, rw e at h) in
       let k : run isDigit s ≡ s = rw n (take-all (length s) s (omega arith)) in
-      rw (e, k) (option-digits top s (span-whole isDigit s n))
+      rw (e, k) (option-digits top s (count-while-whole isDigit s n))
 
 -- with a plus sign, and without one
 pub numeral-plus : (top : ℕ) (s : List ℕ) → getD s 0 0 ≡ 43 → numeral top s ≡ digits top (drop 1 s)

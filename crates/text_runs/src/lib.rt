@@ -45,7 +45,7 @@ pub fn find(line: &[u8], from: usize, to: usize, b: u8) -> usize
 }
 
 // Every `-` and `)` right behind a note (000, apply_abc_note_annotations).
-pub fn note_annotations(line: &[u8], at: usize) -> Behind
+pub fn apply_abc_note_annotations(line: &[u8], at: usize) -> Behind
     ensures { λ r. ⌜ r ≡ behindFor at (behind (drop at (now (line .entry)))) ⌝ }
 {
     let mut tie = false;

@@ -8,7 +8,7 @@ use native.Mathlib.Nat.{not-suc-le-zero, le-of-suc-le-suc}
 use native.Mathlib.Numerals.{add-one}
 use native.Mathlib.Omega.{arith}
 use lib.ListN.{length, drop}
-use Rattle.laws.specs.Lists.{span, any}
+use Rattle.laws.specs.Lists.{countWhile, any}
 use Rattle.laws.specs.Bytes.{between}
 use Rattle.laws.specs.Spans.{run, endIn}
 use Rattle.laws.proofs.Bools.{by-test}
@@ -23,30 +23,30 @@ module _ (p : ℕ → Bool) where
   pub before-run : (t : List ℕ) → before p t ≡ run no t
   unfolding before
   before-run [] = refl
-  before-run (c ∷ t) = by-test (p c) (λ e. rw (e, before, span)) (λ e. rw (e, before, span) (ap (λ (l : List ℕ). c ∷ l) (before-run t)))
+  before-run (c ∷ t) = by-test (p c) (λ e. rw (e, before, countWhile)) (λ e. rw (e, before, countWhile) (ap (λ (l : List ℕ). c ∷ l) (before-run t)))
 
   -- what stands after it
-  pub after-some : (t : List ℕ) → span no t < length t → after p t ≡ some (drop (suc (span no t)) t)
+  pub after-some : (t : List ℕ) → countWhile no t < length t → after p t ≡ some (drop (suc (countWhile no t)) t)
   unfolding after
   after-some [] h = absurd (not-suc-le-zero h)
   after-some (c ∷ t) h =
-      by-test (p c) (λ e. rw (e, after, span)) (λ e. rw (e, after, span) (after-some t (le-of-suc-le-suc (rw (e, span) at h))))
+      by-test (p c) (λ e. rw (e, after, countWhile)) (λ e. rw (e, after, countWhile) (after-some t (le-of-suc-le-suc (rw (e, countWhile) at h))))
 
   -- nothing where none passes
-  pub after-none : (t : List ℕ) → length t ≤ span no t → after p t ≡ none
+  pub after-none : (t : List ℕ) → length t ≤ countWhile no t → after p t ≡ none
   unfolding after
   after-none [] h = refl
   after-none (c ∷ t) h =
-      by-test (p c) (λ e. absurd (not-suc-le-zero (rw (e, span) at h))) (λ e. rw (e, after) (after-none t (le-of-suc-le-suc (rw (e, span) at h))))
+      by-test (p c) (λ e. absurd (not-suc-le-zero (rw (e, countWhile) at h))) (λ e. rw (e, after) (after-none t (le-of-suc-le-suc (rw (e, countWhile) at h))))
 
   -- some byte passes, or none does
-  pub any-some : (t : List ℕ) → span no t < length t → any p t ≡ true
+  pub any-some : (t : List ℕ) → countWhile no t < length t → any p t ≡ true
   any-some [] h = absurd (not-suc-le-zero h)
-  any-some (c ∷ t) h = by-test (p c) (λ e. rw e) (λ e. rw e (any-some t (le-of-suc-le-suc (rw (e, span) at h))))
+  any-some (c ∷ t) h = by-test (p c) (λ e. rw e) (λ e. rw e (any-some t (le-of-suc-le-suc (rw (e, countWhile) at h))))
 
-  pub any-no : (t : List ℕ) → length t ≤ span no t → any p t ≡ false
+  pub any-no : (t : List ℕ) → length t ≤ countWhile no t → any p t ≡ false
   any-no [] h = refl
-  any-no (c ∷ t) h = by-test (p c) (λ e. absurd (not-suc-le-zero (rw (e, span) at h))) (λ e. rw e (any-no t (le-of-suc-le-suc (rw (e, span) at h))))
+  any-no (c ∷ t) h = by-test (p c) (λ e. absurd (not-suc-le-zero (rw (e, countWhile) at h))) (λ e. rw e (any-no t (le-of-suc-le-suc (rw (e, countWhile) at h))))
 
   -- BY POSITION
   module _ (s : List ℕ) (a b : ℕ) where
@@ -55,7 +55,7 @@ module _ (p : ℕ → Bool) where
 
     pub after-at : b ≤ length s → endIn no s a b < b → after p (between s a b) ≡ some (between s (endIn no s a b + 1) b)
     after-at l h =
-        let n = span no (between s a b) in
+        let n = countWhile no (between s a b) in
         after-some (between s a b) (omega (arith, length-between s a b l))
         ∙ ap some (ap (λ (k : ℕ). drop k (between s a b)) (sym (add-one n)) ∙ after-between no s a b)
 

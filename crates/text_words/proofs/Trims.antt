@@ -7,7 +7,7 @@ use native.Mathlib.Omega.{arith}
 use lib.Dec.{ltb}
 use lib.ListN.{length, getD, take, drop, length-take}
 use borrow.Author.Tests.{ltb-true, ltb-false}
-use Rattle.laws.specs.Lists.{span}
+use Rattle.laws.specs.Lists.{countWhile}
 use Rattle.laws.specs.Bytes.{between}
 use Rattle.laws.specs.Spans.{endIn}
 use Rattle.laws.proofs.Bools.{by-test, and-left, and-right}
@@ -55,10 +55,10 @@ pub trimEnd-le : (t : List ℕ) → length (trimEnd t) ≤ length t
 trimEnd-le t = omega (arith, ap length (trimEnd-front t), length-take (length (trimEnd t)) t)
 
 -- what is left at the front: the text from its first byte that is no white space
-pub trimStart-drop : (t : List ℕ) → trimStart t ≡ drop (span isSpace t) t
+pub trimStart-drop : (t : List ℕ) → trimStart t ≡ drop (countWhile isSpace t) t
 unfolding trimStart
 trimStart-drop [] = refl
-trimStart-drop (c ∷ t) = by-test (isSpace c) (λ e. rw (e, trimStart, span) (trimStart-drop t)) (λ e. rw (e, trimStart, span))
+trimStart-drop (c ∷ t) = by-test (isSpace c) (λ e. rw (e, trimStart, countWhile) (trimStart-drop t)) (λ e. rw (e, trimStart, countWhile))
 
 -- BY POSITION
 module _ (s : List ℕ) (a b : ℕ) where

@@ -5,27 +5,27 @@ use mathlib.Core.Bool.{true, false, not}
 use mathlib.Core.List.{List, [], _∷_}
 use native.Mathlib.Omega.{arith}
 use lib.ListN.{length, getD, drop}
-use Rattle.laws.specs.Lists.{span, keep, isNil}
+use Rattle.laws.specs.Lists.{countWhile, filter, isNil}
 use Rattle.laws.specs.Bytes.{between}
 use Rattle.laws.specs.Spans.{run, endIn}
 use Rattle.laws.proofs.Bools.{by-test}
-use Rattle.laws.proofs.Spans.{run-yes, span-behind}
+use Rattle.laws.proofs.Spans.{run-yes, count-while-behind}
 use Rattle.laws.proofs.Parts.{run-between, behind-between, between-first, between-none, endIn-ge, endIn-le, endIn-more, endIn-stops}
 use Rattle.reader.specs.Text.{isSpace, push}
-use Rattle.reader.specs.Pieces.{pieces, words, mark, fieldWords}
+use Rattle.reader.specs.Pieces.{pieces, words, separator, fieldWords}
 use Rattle.text_words.specs.Words.{notSpace}
 
 -- the pieces behind the first one
 rest : List ℕ → List (List ℕ)
 rest [] = []
-rest (c ∷ s) = pieces (mark isSpace) 0 s
+rest (c ∷ s) = pieces (separator isSpace) 0 s
 
-pieces-first : (t : List ℕ) → pieces (mark isSpace) 0 t ≡ run notSpace t ∷ rest (drop (span notSpace t) t)
+pieces-first : (t : List ℕ) → pieces (separator isSpace) 0 t ≡ run notSpace t ∷ rest (drop (countWhile notSpace t) t)
 unfolding pieces rest
 pieces-first [] = refl
 pieces-first (c ∷ t) =
-    by-test (isSpace c) (λ e. rw (e, pieces, span))
-    (λ e. rw (e, pieces, span) (ap (push c) (pieces-first t)))
+    by-test (isSpace c) (λ e. rw (e, pieces, countWhile))
+    (λ e. rw (e, pieces, countWhile) (ap (push c) (pieces-first t)))
 
 -- no words
 pub words-none : fieldWords [] ≡ []
@@ -37,26 +37,26 @@ pub words-space : (c : ℕ) (t : List ℕ) → isSpace c ≡ true → fieldWords
 unfolding fieldWords words pieces
 words-space c t e = rw (e, pieces)
 
-pub words-start : (t : List ℕ) → fieldWords t ≡ fieldWords (drop (span isSpace t) t)
+pub words-start : (t : List ℕ) → fieldWords t ≡ fieldWords (drop (countWhile isSpace t) t)
 words-start [] = refl
-words-start (c ∷ t) = by-test (isSpace c) (λ e. words-space c t e ∙ words-start t ∙ rw (e, span)) (λ e. rw (e, span))
+words-start (c ∷ t) = by-test (isSpace c) (λ e. words-space c t e ∙ words-start t ∙ rw (e, countWhile)) (λ e. rw (e, countWhile))
 
 -- what stands behind the first piece, if that is empty, is all
-rest-words : (t : List ℕ) → span notSpace t ≡ 0 → keep (λ p. not (isNil p)) (rest t) ≡ fieldWords t
+rest-words : (t : List ℕ) → countWhile notSpace t ≡ 0 → filter (λ p. not (isNil p)) (rest t) ≡ fieldWords t
 unfolding fieldWords words pieces rest
 rest-words [] e = refl
 rest-words (c ∷ t) e = by-test (isSpace c) (λ q. rw (q, pieces)) (λ q. absurd (some-more q e))
   where
-    some-more : isSpace c ≡ false → span notSpace (c ∷ t) ≡ 0 → ⊥
-    some-more q z = let k : suc (span notSpace t) ≡ 0 = rw (q, span) at z in omega (arith, k)
+    some-more : isSpace c ≡ false → countWhile notSpace (c ∷ t) ≡ 0 → ⊥
+    some-more q z = let k : suc (countWhile notSpace t) ≡ 0 = rw (q, countWhile) at z in omega (arith, k)
 
 -- a word at the front is taken
-pub words-word : (c : ℕ) (t : List ℕ) → isSpace c ≡ false → fieldWords (c ∷ t) ≡ run notSpace (c ∷ t) ∷ fieldWords (drop (span notSpace (c ∷ t)) (c ∷ t))
+pub words-word : (c : ℕ) (t : List ℕ) → isSpace c ≡ false → fieldWords (c ∷ t) ≡ run notSpace (c ∷ t) ∷ fieldWords (drop (countWhile notSpace (c ∷ t)) (c ∷ t))
 unfolding fieldWords words
 words-word c t e =
     let y : notSpace c ≡ true = ap not e in
-    ap (keep (λ p. not (isNil p))) (pieces-first (c ∷ t))
-    ∙ rw (run-yes notSpace c t y) (ap (λ (l : List (List ℕ)). (c ∷ run notSpace t) ∷ l) (rest-words (drop (span notSpace (c ∷ t)) (c ∷ t)) (span-behind notSpace (c ∷ t))))
+    ap (filter (λ p. not (isNil p))) (pieces-first (c ∷ t))
+    ∙ rw (run-yes notSpace c t y) (ap (λ (l : List (List ℕ)). (c ∷ run notSpace t) ∷ l) (rest-words (drop (countWhile notSpace (c ∷ t)) (c ∷ t)) (count-while-behind notSpace (c ∷ t))))
 
 -- BY POSITION
 module _ (s : List ℕ) (i b : ℕ) where
@@ -73,7 +73,7 @@ module _ (s : List ℕ) (i b : ℕ) where
       → fieldWords (between s i b) ≡ between s i (endIn notSpace s i b) ∷ fieldWords (between s (endIn notSpace s i b) b)
   words-at h l e =
       ap fieldWords (between-first s i b h l) ∙ words-word (getD s i 0) (between s (i + 1) b) e
-      ∙ ap (λ (t : List ℕ). run notSpace t ∷ fieldWords (drop (span notSpace t) t)) (sym (between-first s i b h l))
+      ∙ ap (λ (t : List ℕ). run notSpace t ∷ fieldWords (drop (countWhile notSpace t) t)) (sym (between-first s i b h l))
       ∙ ap₂ (λ (w r : List ℕ). w ∷ fieldWords r) (run-between notSpace s i b (omega arith)) (behind-between notSpace s i b)
 
 -- A LOOP OVER THE WORDS, at i: a word stands there, or no word is left

@@ -9,10 +9,10 @@ use lib.Dec.{ltb, eqb}
 use lib.ListN.{length, drop, length-drop, drop-of-length-le}
 use lib.Seq.{drop-drop}
 use borrow.Author.Tests.{lt-ltb, le-ltb, ltb-true, ltb-false}
-use Rattle.laws.specs.Lists.{span}
+use Rattle.laws.specs.Lists.{countWhile}
 use Rattle.laws.specs.Spans.{endOf}
 use Rattle.laws.proofs.Bools.{by-test}
-use Rattle.laws.proofs.Spans.{span-le}
+use Rattle.laws.proofs.Spans.{count-while-le}
 use Rattle.standard.specs.Pitches.{Written}
 use Rattle.standard.specs.Notes as standard
 use Rattle.reader.specs.Lengths.{Length, lengthOf}
@@ -30,7 +30,7 @@ use Rattle.token_lexemes.specs.declared.Lexeme.the-variants.{Chord, Nothing, Re
 module _ (line : List ℕ) (at close : ℕ) (h : at < length line) (k : close ≡ endOf (λ c. not (eqb c 93)) line (at + 1)) where
   -- the bytes before the `]`, and those of the chord
   inner : ℕ
-  inner = span (λ c. not (eqb c 93)) (drop (at + 1) line)
+  inner = countWhile (λ c. not (eqb c 93)) (drop (at + 1) line)
 
   whole : ℕ
   whole = cond (ltb inner (length (drop (at + 1) line))) (2 + inner) (1 + inner)
@@ -44,7 +44,7 @@ module _ (line : List ℕ) (at close : ℕ) (h : at < length line) (k : close �
 
   bound : inner ≤ length (drop (at + 1) line)
   unfolding inner
-  bound = span-le (λ c. not (eqb c 93)) (drop (at + 1) line)
+  bound = count-while-le (λ c. not (eqb c 93)) (drop (at + 1) line)
 
   -- the position after it
   after : closedAt line close ≡ at + whole

@@ -8,7 +8,7 @@ use lib.Dec.{eqb}
 use lib.ListN.{length, getD, drop, length-drop}
 use lib.Seq.{drop-drop}
 use borrow.Author.Tests.{ltb-true}
-use Rattle.laws.specs.Lists.{span}
+use Rattle.laws.specs.Lists.{countWhile}
 use Rattle.laws.specs.Bytes.{between, part}
 use Rattle.laws.specs.Spans.{endOf}
 use Rattle.laws.proofs.Bools.{and-left}
@@ -42,15 +42,15 @@ module _ (line : List ℕ) (at : ℕ) where
       pub field-closes : close < length line
       unfolding isInline
       field-closes =
-          let n = span (λ c. not (eqb c 93)) (drop (at + 1) line) in
+          let n = countWhile (λ c. not (eqb c 93)) (drop (at + 1) line) in
           let l : n < length (drop (at + 1) line) = ltb-true _ _ (and-left _ _ (and-left _ _ i)) in
           omega (arith, length-drop (at + 1) line, k)
 
       pub is-field : taken (fieldToken (between line (at + 1) close)) (close + 1 - at) ≡ tokenAs bracket (drop at line)
       unfolding tokenAs bracketOf inlineAt part
       is-field =
-          let n : close + 1 - at ≡ 2 + span (λ c. not (eqb c 93)) (drop (at + 1) line) = omega (arith, k) in
-          let m : close - (at + 1) ≡ span (λ c. not (eqb c 93)) (drop (at + 1) line) = omega (arith, k) in
+          let n : close + 1 - at ≡ 2 + countWhile (λ c. not (eqb c 93)) (drop (at + 1) line) = omega (arith, k) in
+          let m : close - (at + 1) ≡ countWhile (λ c. not (eqb c 93)) (drop (at + 1) line) = omega (arith, k) in
           rw behind (rw (ap isDigit (first-at line (at + 1)) ∙ d, bracketOf) (rw (i, n, m)))
 
     -- a chord

@@ -52,7 +52,7 @@ fn chord(line: &[u8], at: usize, close: usize) -> Cut
             next: after_length,
         };
     }
-    let behind = text_runs::note_annotations(line, after_length);
+    let behind = text_runs::apply_abc_note_annotations(line, after_length);
     Cut {
         lexeme: Lexeme::Chord {
             place: at + 1,

@@ -9,10 +9,10 @@ use lib.Dec.{leb, ltb, eqb}
 use lib.ListN.{length, getD, take, drop}
 use lib.Seq.{drop-drop, getD-drop}
 use borrow.Author.Tests.{leb-true, leb-false, le-leb, lt-ltb, le-ltb, eq-eqb, ne-eqb}
-use Rattle.laws.specs.Lists.{span}
+use Rattle.laws.specs.Lists.{countWhile}
 use Rattle.laws.specs.Spans.{run}
 use Rattle.laws.proofs.Bools.{by-test}
-use Rattle.laws.proofs.Spans.{span-yes, span-no, span-on, span-off, run-on, run-off, run-within}
+use Rattle.laws.proofs.Spans.{count-while-yes, count-while-no, count-while-on, count-while-off, run-on, run-off, run-within}
 use Rattle.standard.specs.Bytes.{isDigit, is, first, decimal}
 use Rattle.reader.specs.Lengths.{number, denominator, lengthOf}
 use Rattle.text_numbers.specs.declared.Digits.{Digits}
@@ -35,12 +35,12 @@ up-to-32 d v =
     (λ e. rw (e, le-ltb v (2 ^ 32) (omega (arith, leb-false v (2 ^ 32 - 1) e))))
 
 -- the reader's number is that of the digits at the front
-pub number-run : (d : ℕ) (s : List ℕ) → orElse d (written (2 ^ 32 - 1) (run isDigit s)) ≡ number d (span isDigit s) s
+pub number-run : (d : ℕ) (s : List ℕ) → orElse d (written (2 ^ 32 - 1) (run isDigit s)) ≡ number d (countWhile isDigit s) s
 unfolding written number
 number-run d [] = refl
 number-run d (c ∷ s) =
-    by-test (isDigit c) (λ e. rw (span-yes isDigit c s e) (up-to-32 d (decimal 0 (c ∷ take (span isDigit s) s))))
-    (λ e. rw (span-no isDigit c s e))
+    by-test (isDigit c) (λ e. rw (count-while-yes isDigit c s e) (up-to-32 d (decimal 0 (c ∷ take (countWhile isDigit s) s))))
+    (λ e. rw (count-while-no isDigit c s e))
 
 -- by position: what was read is x
 pub number-at : (d : ℕ) (line : List ℕ) (at : ℕ) (r : Read) → r ≡ numberAt (2 ^ 32 - 1) line at → (x : Digits) → r .digits ≡ x
@@ -51,7 +51,7 @@ number-at d line at r e x f = rw (← f, e, number-run d (drop at line))
 -- no digit
 pub number-none : (d : ℕ) (line : List ℕ) (at : ℕ) → isDigit (getD line at 0) ≡ false → record { value = d; next = at } ≡ numberOr d line at
 unfolding numberOr number
-number-none d line at n = rw (span-off isDigit refl line at n, add-zero at)
+number-none d line at n = rw (count-while-off isDigit refl line at n, add-zero at)
 
 -- one digit
 pub number-one : (d : ℕ) (line : List ℕ) (at : ℕ) → isDigit (getD line at 0) ≡ true → isDigit (getD line (at + 1) 0) ≡ false
@@ -62,8 +62,8 @@ number-one d line at y n =
     let one : run isDigit (drop at line) ≡ c ∷ [] = run-on isDigit refl line at y ∙ ap (λ s. c ∷ s) (run-off isDigit refl line (at + 1) n) in
     let z : 0 * 10 + (c - 48) ≡ c - 48 = omega arith in
     let small : leb (c - 48) (2 ^ 32 - 1) ≡ true = le-leb (c - 48) (2 ^ 32 - 1) (omega (arith, digit-high c y)) in
-    let v : number d (span isDigit (drop at line)) (drop at line) ≡ c - 48 = sym (number-run d (drop at line)) ∙ ap (λ s. orElse d (written (2 ^ 32 - 1) s)) one ∙ rw (z, small) refl in
-    let k : span isDigit (drop at line) ≡ 1 = span-on isDigit refl line at y ∙ ap suc (span-off isDigit refl line (at + 1) n) in
+    let v : number d (countWhile isDigit (drop at line)) (drop at line) ≡ c - 48 = sym (number-run d (drop at line)) ∙ ap (λ s. orElse d (written (2 ^ 32 - 1) s)) one ∙ rw (z, small) refl in
+    let k : countWhile isDigit (drop at line) ≡ 1 = count-while-on isDigit refl line at y ∙ ap suc (count-while-off isDigit refl line (at + 1) n) in
     λ i. record { value = sym v i; next = at + sym k i }
 
 -- where the slash is looked for, and where the denominator begins
@@ -79,7 +79,7 @@ module _ (line : List ℕ) (at : ℕ) where
       → record { num = numberOr 1 line at .value; den = 1; next = numberOr 1 line at .next } ≡ suffixAt line at
   unfolding numberOr suffixAt lengthOf
   suffix-plain h =
-      let n = span isDigit (drop at line) in
+      let n = countWhile isDigit (drop at line) in
       let e : is "/" (first (drop n (drop at line))) ≡ false = rw (slash-there line at n) (ne-eqb _ _ h) in
       rw (e, lengthOf)
 
@@ -92,9 +92,9 @@ module _ (line : List ℕ) (at : ℕ) where
       } ≡ suffixAt line at
   unfolding numberOr suffixAt lengthOf denominator
   suffix-slash h =
-      let n = span isDigit (drop at line) in
+      let n = countWhile isDigit (drop at line) in
       let e : is "/" (first (drop n (drop at line))) ≡ true = rw (slash-there line at n) (eq-eqb _ _ h) in
-      let k : at + (n + 1 + span isDigit (drop (at + n + 1) line)) ≡ at + n + 1 + span isDigit (drop (at + n + 1) line) = omega arith in
+      let k : at + (n + 1 + countWhile isDigit (drop (at + n + 1) line)) ≡ at + n + 1 + countWhile isDigit (drop (at + n + 1) line) = omega arith in
       rw (e, lengthOf, rest-there line at n, k)
 
 -- a slash stands within the line

@@ -4,7 +4,7 @@ use mathlib.Core.Bool.{Bool, true, false, cond}
 use mathlib.Core.List.{List, [], _∷_}
 use lib.Dec.{ltb, eqb}
 use lib.ListN.{drop}
-use Rattle.laws.specs.Lists.{span}
+use Rattle.laws.specs.Lists.{countWhile}
 use Rattle.standard.specs.Bytes.{isDigit}
 use Rattle.standard.specs.Lengths.{Fraction, Value, ticks, dotted, halved}
 use Rattle.reader.specs.Lengths.{number, lengthOf}
@@ -30,7 +30,7 @@ lengthAs w = Written (w .value) (w .dots)
 
 -- the number at a position, and the position after its digits
 unfoldable pub numberOr : ℕ → List ℕ → ℕ → Number
-numberOr other line at = record { value = number other (span isDigit (drop at line)) (drop at line); next = at + span isDigit (drop at line) }
+numberOr other line at = record { value = number other (countWhile isDigit (drop at line)) (drop at line); next = at + countWhile isDigit (drop at line) }
 
 -- the length at a position, and the position after it
 unfoldable pub suffixAt : List ℕ → ℕ → Suffix

@@ -7,9 +7,9 @@ use mathlib.Core.List.{List, [], _∷_}
 use native.Mathlib.Omega.{arith}
 use lib.Dec.{ltb, leb, eqb}
 use borrow.Author.Tests.{ltb-true, lt-leb, eqb-true}
-use Rattle.laws.specs.Lists.{span}
+use Rattle.laws.specs.Lists.{countWhile}
 use Rattle.laws.proofs.Bools.{by-test, both-true, and-no-left, and-no-right, or-either}
-use Rattle.laws.proofs.Spans.{span-off}
+use Rattle.laws.proofs.Spans.{count-while-off}
 use Rattle.standard.specs.Bytes.{isDigit, first}
 use Rattle.standard.specs.Pitches.{stepOf, letterOctave}
 use Rattle.reader.specs.Lengths.{number, lengthOf}
@@ -32,8 +32,8 @@ module _ (c : ℕ) (h : isPlain c ≡ true) where
 
 -- what stands from the plain byte on
 module _ (s : List ℕ) (h : isPlain (first s) ≡ true) where
-  no-run : (x : ℕ) → eqb 0 x ≡ false → isPlain x ≡ false → span (λ c. eqb c x) s ≡ 0
-  no-run x z k = span-off (λ c. eqb c x) z s 0 (no-sign (first s) h x k)
+  no-run : (x : ℕ) → eqb 0 x ≡ false → isPlain x ≡ false → countWhile (λ c. eqb c x) s ≡ 0
+  no-run x z k = count-while-off (λ c. eqb c x) z s 0 (no-sign (first s) h x k)
 
   no-marks : (c : ℕ) → octaveOf c s ≡ record { octave = letterOctave c; used = 0; fine = true }
   unfolding octaveOf octaveFrom letterOctave
@@ -41,7 +41,7 @@ module _ (s : List ℕ) (h : isPlain (first s) ≡ true) where
 
   no-length : lengthOf s ≡ record { num = 1; den = 1; used = 0 }
   unfolding lengthOf number
-  no-length = let n : span isDigit s ≡ 0 = span-off isDigit refl s 0 (no-digit (first s) h) in rw (n, lengthOf) (rw (no-sign (first s) h 47 refl, n))
+  no-length = let n : countWhile isDigit s ≡ 0 = count-while-off isDigit refl s 0 (no-digit (first s) h) in rw (n, lengthOf) (rw (no-sign (first s) h 47 refl, n))
 
 no-behind : (s : List ℕ) → isPlain (first s) ≡ true → behind s ≡ record { tie = false; slur = false; used = 0 }
 unfolding behind
@@ -49,7 +49,7 @@ no-behind [] h = refl
 no-behind (c ∷ s) h = rw (no-sign c h 45 refl, behind) (rw (no-sign c h 41 refl))
 
 pub plain-note : (a : Before) (c : ℕ) (s : List ℕ) → isPlain (first s) ≡ true
-    → noteAs a c s ≡ taken (note (record { step = stepOf c; octave = letterOctave c; mark = a .mark }) (record { num = 1; den = 1; used = 0 }) (record { tie = false; slur = false; used = 0 })) (a .used + 1)
+    → noteAs a c s ≡ taken (note (record { step = stepOf c; octave = letterOctave c; sign = a .sign }) (record { num = 1; den = 1; used = 0 }) (record { tie = false; slur = false; used = 0 })) (a .used + 1)
 unfolding noteAs
 plain-note a c s h =
     let f : octaveOf c s .fine ≡ true = ap (λ (o : Octave). o .fine) (no-marks s h c) in

@@ -7,7 +7,7 @@ use native.Mathlib.Omega.{arith}
 use lib.Dec.{ltb}
 use lib.ListN.{drop}
 use lib.Seq.{drop-drop}
-use Rattle.laws.specs.Lists.{span}
+use Rattle.laws.specs.Lists.{countWhile}
 use Rattle.laws.proofs.Bools.{by-test}
 use Rattle.standard.specs.Bytes.{is, isDigit, first}
 use Rattle.standard.specs.Tuplets as standard
@@ -38,13 +38,13 @@ count-form : (p q n : ℕ) (s : List ℕ) → Form (withCount p q n s)
 unfolding withCount Form
 count-form p q n s =
     by-test (is ":" (first s))
-    (λ e. rw (e, withCount) (counted-form p q (n + 1 + span isDigit (drop 1 s)) (positive (2 ^ 64 - 1) (drop 1 s))))
+    (λ e. rw (e, withCount) (counted-form p q (n + 1 + countWhile isDigit (drop 1 s)) (positive (2 ^ 64 - 1) (drop 1 s))))
     (λ e. rw (e, withCount) (record { of = record { actual = p; normal = q; count = p }; is-it = refl }))
 
 normal-form : (p n : ℕ) (s : List ℕ) (o : Option ℕ) → Form (withNormal p n s o)
 unfolding withNormal Form
 normal-form p n s none = tt
-normal-form p n s (some q) = count-form p q (n + 1 + span isDigit (drop 1 s)) (drop (1 + span isDigit (drop 1 s)) s)
+normal-form p n s (some q) = count-form p q (n + 1 + countWhile isDigit (drop 1 s)) (drop (1 + countWhile isDigit (drop 1 s)) s)
 
 actual-form : (n : ℕ) (s : List ℕ) (o : Option ℕ) → Form (withActual n s o)
 unfolding withActual Form
@@ -59,7 +59,7 @@ actual-form n s (some p) =
 
 pub form : (s : List ℕ) → Form (tupletOf s)
 unfolding tupletOf
-form s = actual-form (1 + span isDigit s) (drop (span isDigit s) s) (positive 255 s)
+form s = actual-form (1 + countWhile isDigit s) (drop (countWhile isDigit s) s) (positive 255 s)
 
 -- none
 none-by : (at : ℕ) (o : Option Taken) → Form o → tupletFor at o ≡ Nothing → record { lexeme = lexeme.Slur; next = at + 1 } ≡ cutFor at (orSlur o)

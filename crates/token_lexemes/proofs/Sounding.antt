@@ -19,8 +19,8 @@ use Rattle.token_lengths.specs.Values.{suffixAt}
 use Rattle.text_runs.proofs.Places.{drop-here, first-at}
 use Rattle.text_runs.specs.declared.Behind as runs
 use Rattle.text_runs.specs.Behind.{behindFor}
-use Rattle.token_pitches.specs.Pitches.{noteChar, markFor, markOf, beforeFor, octaveFor}
-use Rattle.token_pitches.specs.declared.Mark.{Mark}
+use Rattle.token_pitches.specs.Pitches.{noteChar, signFor, signOf, beforeFor, octaveFor}
+use Rattle.token_pitches.specs.declared.Sign.{Sign}
 use Rattle.token_pitches.specs.declared.NoteChar.{NoteChar}
 use Rattle.token_pitches.specs.declared.Octave.the-variants.{At, Out}
 use Rattle.token_pitches.specs.declared.Before as code
@@ -38,7 +38,7 @@ note-out a c s f at = rw (f, noteAs)
 
 note-fine : (a : Before) (c : ℕ) (s : List ℕ) → octaveOf c s .fine ≡ true → (at : ℕ)
     → record {
-      lexeme = Note (record { step = stepOf c; octave = octaveOf c s .octave; mark = markFor (a .mark) }) (lengthOf (drop (octaveOf c s .used) s) .num) (lengthOf (drop (octaveOf c s .used) s) .den)
+      lexeme = Note (record { step = stepOf c; octave = octaveOf c s .octave; sign = signFor (a .sign) }) (lengthOf (drop (octaveOf c s .used) s) .num) (lengthOf (drop (octaveOf c s .used) s) .den)
           (behind (drop (octaveOf c s .used + lengthOf (drop (octaveOf c s .used) s) .used) s) .tie) (behind (drop (octaveOf c s .used + lengthOf (drop (octaveOf c s .used) s) .used) s) .slur);
       next = at + (a .used + 1 + octaveOf c s .used + lengthOf (drop (octaveOf c s .used) s) .used + behind (drop (octaveOf c s .used + lengthOf (drop (octaveOf c s .used) s) .used) s) .used);
     }
@@ -46,13 +46,13 @@ note-fine : (a : Before) (c : ℕ) (s : List ℕ) → octaveOf c s .fine ≡ tru
 unfolding noteAs lexemeFor
 note-fine a c s f at = rw (f, noteAs)
 
-module _ (line : List ℕ) (at : ℕ) (h : at < length line) (mark : Mark) (l : NoteChar) (e : l ≡ noteChar (getD line at 0)) where
+module _ (line : List ℕ) (at : ℕ) (h : at < length line) (sign : Sign) (l : NoteChar) (e : l ≡ noteChar (getD line at 0)) where
   marks : octaveFrom (l .octave) (drop (at + 1) line) ≡ octaveOf (getD line at 0) (drop (at + 1) line)
   unfolding octaveOf
   marks = rw e
 
   pub letter-out : octaveFor (at + 1) (octaveFrom (l .octave) (drop (at + 1) line)) ≡ Out
-      → record { lexeme = Refused 12; next = length line } ≡ cutFor at (noteAs (record { mark = markOf mark; used = 0 }) (getD line at 0) (drop (at + 1) line))
+      → record { lexeme = Refused 12; next = length line } ≡ cutFor at (noteAs (record { sign = signOf sign; used = 0 }) (getD line at 0) (drop (at + 1) line))
   letter-out r =
       let s = drop (at + 1) line in
       let o = octaveOf (getD line at 0) s in
@@ -60,22 +60,22 @@ module _ (line : List ℕ) (at : ℕ) (h : at < length line) (mark : Mark) (l : 
       let n : length line ≡ at + (0 + 1 + length s) = omega (arith, length-drop (at + 1) line) in
       by-test (o .fine)
       (λ f. let k = fine (at + 1) o f in let z : _≡_ {A = ℕ} 0 1 = cc in absurd (omega arith))
-      (λ f. ap (λ x. record { lexeme = Refused 12; next = x }) n ∙ note-out (record { mark = markOf mark; used = 0 }) (getD line at 0) s f at)
+      (λ f. ap (λ x. record { lexeme = Refused 12; next = x }) n ∙ note-out (record { sign = signOf sign; used = 0 }) (getD line at 0) s f at)
 
   -- a letter alone
   pub letter-plain : isPlain (getD line (at + 1) 0) ≡ true
-      → record { lexeme = Note (record { step = l .step; octave = l .octave; mark = mark }) 1 1 false false; next = at + 1 } ≡ cutFor at (noteAs (record { mark = markOf mark; used = 0 }) (getD line at 0) (drop (at + 1) line))
+      → record { lexeme = Note (record { step = l .step; octave = l .octave; sign = sign }) 1 1 false false; next = at + 1 } ≡ cutFor at (noteAs (record { sign = signOf sign; used = 0 }) (getD line at 0) (drop (at + 1) line))
   unfolding lexemeFor
   letter-plain p =
       let q : isPlain (first (drop (at + 1) line)) ≡ true = ap isPlain (first-at line (at + 1)) ∙ p in
-      let m : mark ≡ markFor (markOf mark) = sym (mark-forth mark) in
-      (λ j. record { lexeme = Note (record { step = e j .step; octave = e j .octave; mark = m j }) 1 1 false false; next = at + 1 })
-      ∙ ap (cutFor at) (sym (plain-note (record { mark = markOf mark; used = 0 }) (getD line at 0) (drop (at + 1) line) q))
+      let m : sign ≡ signFor (signOf sign) = sym (mark-forth sign) in
+      (λ j. record { lexeme = Note (record { step = e j .step; octave = e j .octave; sign = m j }) 1 1 false false; next = at + 1 })
+      ∙ ap (cutFor at) (sym (plain-note (record { sign = signOf sign; used = 0 }) (getD line at 0) (drop (at + 1) line) q))
 
   pub letter-in : (octave next : ℕ) (r : octaveFor (at + 1) (octaveFrom (l .octave) (drop (at + 1) line)) ≡ At octave next)
       (len : Suffix) → len ≡ suffixAt line next → (b : runs.Behind) → b ≡ behindFor (len .next) (behind (drop (len .next) line))
-      → record { lexeme = Note (record { step = l .step; octave = octave; mark = mark }) (len .num) (len .den) (b .tie) (b .slur); next = b .next }
-      ≡ cutFor at (noteAs (record { mark = markOf mark; used = 0 }) (getD line at 0) (drop (at + 1) line))
+      → record { lexeme = Note (record { step = l .step; octave = octave; sign = sign }) (len .num) (len .den) (b .tie) (b .slur); next = b .next }
+      ≡ cutFor at (noteAs (record { sign = signOf sign; used = 0 }) (getD line at 0) (drop (at + 1) line))
   unfolding suffixAt
   letter-in octave next r len el b eb =
       let s = drop (at + 1) line in
@@ -86,7 +86,7 @@ module _ (line : List ℕ) (at : ℕ) (h : at < length line) (mark : Mark) (l : 
       let a : octave ≡ o .octave = cc in
       let n : at + 1 + o .used ≡ next = cc in
       let st : l .step ≡ stepOf (getD line at 0) = ap (λ (x : NoteChar). x .step) e in
-      let m : mark ≡ markFor (markOf mark) = sym (mark-forth mark) in
+      let m : sign ≡ signFor (signOf sign) = sym (mark-forth sign) in
       let d : drop next line ≡ drop (o .used) s = ap (λ i. drop i line) (sym n) ∙ sym (drop-drop (o .used) (at + 1) line) in
       let g : lengthOf (drop next line) ≡ lengthOf (drop (o .used) s) = ap lengthOf d in
       let len-num : len .num ≡ lengthOf (drop (o .used) s) .num = ap (λ (x : Suffix). x .num) el ∙ ap (λ (x : Length). x .num) g in
@@ -100,23 +100,23 @@ module _ (line : List ℕ) (at : ℕ) (h : at < length line) (mark : Mark) (l : 
       let b-slur : b .slur ≡ behind (drop (o .used + lengthOf (drop (o .used) s) .used) s) .slur = ap (λ (x : runs.Behind). x .slur) eb ∙ ap (λ (x : standard.Behind). x .slur) w in
       let b-next : b .next ≡ len .next + behind (drop (o .used + lengthOf (drop (o .used) s) .used) s) .used = ap (λ (x : runs.Behind). x .next) eb ∙ ap (λ (x : standard.Behind). len .next + x .used) w in
       let u : b .next ≡ at + (0 + 1 + o .used + lengthOf (drop (o .used) s) .used + behind (drop (o .used + lengthOf (drop (o .used) s) .used) s) .used) = omega arith in
-      (λ j. record { lexeme = Note (record { step = st j; octave = a j; mark = m j }) (len-num j) (len-den j) (b-tie j) (b-slur j); next = u j })
-      ∙ note-fine (record { mark = markOf mark; used = 0 }) (getD line at 0) s f at)
+      (λ j. record { lexeme = Note (record { step = st j; octave = a j; sign = m j }) (len-num j) (len-den j) (b-tie j) (b-slur j); next = u j })
+      ∙ note-fine (record { sign = signOf sign; used = 0 }) (getD line at 0) s f at)
       (λ f. let k = refused (at + 1) o f in let z : _≡_ {A = ℕ} 0 1 = cc in absurd (omega arith))
 
 -- WITH WHAT STANDS BEFORE IT
-shift : (a : Before) (c : ℕ) (s : List ℕ) (at : ℕ) → cutFor (at + a .used) (noteAs (record { mark = a .mark; used = 0 }) c s) ≡ cutFor at (noteAs a c s)
+shift : (a : Before) (c : ℕ) (s : List ℕ) (at : ℕ) → cutFor (at + a .used) (noteAs (record { sign = a .sign; used = 0 }) c s) ≡ cutFor at (noteAs a c s)
 shift a c s at =
     let o = octaveOf c s in
     by-test (o .fine)
     (λ f. let l = lengthOf (drop (o .used) s) in
     let b = behind (drop (o .used + l .used) s) in
     let n : at + a .used + (0 + 1 + o .used + l .used + b .used) ≡ at + (a .used + 1 + o .used + l .used + b .used) = omega arith in
-    sym (note-fine (record { mark = a .mark; used = 0 }) c s f (at + a .used))
-    ∙ ap (λ x. record { lexeme = Note (record { step = stepOf c; octave = o .octave; mark = markFor (a .mark) }) (l .num) (l .den) (b .tie) (b .slur); next = x }) n
+    sym (note-fine (record { sign = a .sign; used = 0 }) c s f (at + a .used))
+    ∙ ap (λ x. record { lexeme = Note (record { step = stepOf c; octave = o .octave; sign = signFor (a .sign) }) (l .num) (l .den) (b .tie) (b .slur); next = x }) n
     ∙ note-fine a c s f at)
     (λ f. let n : at + a .used + (0 + 1 + length s) ≡ at + (a .used + 1 + length s) = omega arith in
-    sym (note-out (record { mark = a .mark; used = 0 }) c s f (at + a .used)) ∙ ap (λ x. record { lexeme = Refused 12; next = x }) n ∙ note-out a c s f at)
+    sym (note-out (record { sign = a .sign; used = 0 }) c s f (at + a .used)) ∙ ap (λ x. record { lexeme = Refused 12; next = x }) n ∙ note-out a c s f at)
 
 after-end : (a : Before) (s : List ℕ) (at : ℕ) → s ≡ [] → record { lexeme = Nothing; next = at + a .used } ≡ cutFor at (noteAfter a s)
 unfolding noteAfter lexemeFor
@@ -126,7 +126,7 @@ after-other : (a : Before) (s : List ℕ) (at c : ℕ) (t : List ℕ) → s ≡ 
 unfolding noteAfter lexemeFor
 after-other a s at c t e f = let n : at + a .used + 1 ≡ at + suc (a .used) = omega arith in rw (e, f, noteAfter) (rw n)
 
-after-letter : (a : Before) (s : List ℕ) (at c : ℕ) (t : List ℕ) → s ≡ c ∷ t → isLetter c ≡ true → cutFor (at + a .used) (noteAs (record { mark = a .mark; used = 0 }) c t) ≡ cutFor at (noteAfter a s)
+after-letter : (a : Before) (s : List ℕ) (at c : ℕ) (t : List ℕ) → s ≡ c ∷ t → isLetter c ≡ true → cutFor (at + a .used) (noteAs (record { sign = a .sign; used = 0 }) c t) ≡ cutFor at (noteAfter a s)
 unfolding noteAfter
 after-letter a s at c t e f = rw (e, f, noteAfter) (shift a c t at)
 
@@ -151,9 +151,9 @@ module _ (line : List ℕ) (at : ℕ) (b : code.Before) (e : b ≡ beforeFor at 
         ∙ after-other (accidentalOf (drop at line)) (drop (accidentalOf (drop at line) .used) (drop at line)) at (getD line (b .next) 0) (drop (b .next + 1) line) (there ∙ drop-here line (b .next) h) f
 
     pub note-letter : isLetter (getD line (b .next) 0) ≡ true
-        → cutFor (b .next) (noteAs (record { mark = markOf (b .mark); used = 0 }) (getD line (b .next) 0) (drop (b .next + 1) line)) ≡ cutFor at (tokenAs pitched (drop at line))
+        → cutFor (b .next) (noteAs (record { sign = signOf (b .sign); used = 0 }) (getD line (b .next) 0) (drop (b .next + 1) line)) ≡ cutFor at (tokenAs pitched (drop at line))
     unfolding tokenAs noteOf
     note-letter f =
-        let m : markOf (b .mark) ≡ accidentalOf (drop at line) .mark = ap (λ (x : code.Before). markOf (x .mark)) e ∙ mark-back (accidentalOf (drop at line) .mark) in
-        (λ j. cutFor (place j) (noteAs (record { mark = m j; used = 0 }) (getD line (b .next) 0) (drop (b .next + 1) line)))
+        let m : signOf (b .sign) ≡ accidentalOf (drop at line) .sign = ap (λ (x : code.Before). signOf (x .sign)) e ∙ mark-back (accidentalOf (drop at line) .sign) in
+        (λ j. cutFor (place j) (noteAs (record { sign = m j; used = 0 }) (getD line (b .next) 0) (drop (b .next + 1) line)))
         ∙ after-letter (accidentalOf (drop at line)) (drop (accidentalOf (drop at line) .used) (drop at line)) at (getD line (b .next) 0) (drop (b .next + 1) line) (there ∙ drop-here line (b .next) h) f

@@ -3,16 +3,16 @@ ghost use mathlib.Core.Path.{_≡_};
 ghost use Prim.Native.Nat.{suc, _+_, _<_};
 ghost use lib.Dec.{eqb};
 ghost use lib.ListN.{length, drop, getD};
-ghost use Rattle.laws.specs.Lists.{span};
+ghost use Rattle.laws.specs.Lists.{countWhile};
 ghost use Rattle.reader.specs.Lengths.{lengthOf};
 ghost use Rattle.reader.specs.Token.{decoration, skipped, taken};
 ghost use Rattle.reader.specs.PassLists.{voltaOf};
 ghost use Rattle.reader.specs.Sounds.{noteAs};
 ghost use Rattle.reader.specs.Tokens.{closedBy, brokenOf, quote, paren, bars, pitched, tokenAs};
-ghost use Rattle.token_pitches.specs.Pitches.{markOf};
+ghost use Rattle.token_pitches.specs.Pitches.{signOf};
 ghost use Rattle.token_lexemes.specs.Lexemes.{isPlain, cutFor, restFor};
-use token_pitches::Mark;
 use token_pitches::Pitch;
+use token_pitches::Sign;
 use token_symbols::Barline;
 
 // A token with its length as written, num / den of the unit. A chord's pitches are read again from `place` on (`next_chord_pitch`): no array in an enum.
@@ -122,7 +122,7 @@ pub fn decoration(line: &[u8], at: usize, b: u8) -> Cut
 // Broken rhythm: the equal signs `b` from `at` on, 255 at most (refusal 13).
 pub fn broken(line: &[u8], at: usize, b: u8, up: bool) -> Cut
     requires { ⌜ at < length (now line) ⌝ }
-    ensures { λ r. ⌜ r ≡ cutFor at (brokenOf up (suc (span (λ c. eqb c b) (drop 1 (drop at (now (line .entry)))))) (drop at (now (line .entry)))) ⌝ }
+    ensures { λ r. ⌜ r ≡ cutFor at (brokenOf up (suc (countWhile (λ c. eqb c b) (drop 1 (drop at (now (line .entry)))))) (drop at (now (line .entry)))) ⌝ }
 {
     let end = text_runs::run_end(line, at + 1, b);
     let count = end - at;
@@ -232,9 +232,9 @@ pub fn is_plain(b: u8) -> bool
 }
 
 // A note from its letter on, which stands at `at`, with the accidental before it; or refusal 12. Most are a letter alone.
-fn note_from_letter(line: &[u8], at: usize, mark: Mark) -> Cut
+fn note_from_letter(line: &[u8], at: usize, sign: Sign) -> Cut
     requires { ⌜ at < length (now line) ⌝ }
-    ensures { λ r. ⌜ r ≡ cutFor at (noteAs (record { mark = markOf mark; used = 0 }) (getD (now (line .entry)) at 0) (drop (at + 1) (now (line .entry)))) ⌝ }
+    ensures { λ r. ⌜ r ≡ cutFor at (noteAs (record { sign = signOf sign; used = 0 }) (getD (now (line .entry)) at 0) (drop (at + 1) (now (line .entry)))) ⌝ }
 {
     let letter = token_pitches::abc_note_char(line[at]);
     if is_plain(text_numbers::byte_at(line, at + 1)) {
@@ -243,7 +243,7 @@ fn note_from_letter(line: &[u8], at: usize, mark: Mark) -> Cut
                 pitch: Pitch {
                     step: letter.step,
                     octave: letter.octave,
-                    mark,
+                    sign,
                 },
                 num: 1,
                 den: 1,
@@ -265,13 +265,13 @@ fn note_from_letter(line: &[u8], at: usize, mark: Mark) -> Cut
     };
     let length = token_lengths::parse_duration_suffix(line, after_octave);
     let after_length = length.next;
-    let behind = text_runs::note_annotations(line, after_length);
+    let behind = text_runs::apply_abc_note_annotations(line, after_length);
     Cut {
         lexeme: Lexeme::Note {
             pitch: Pitch {
                 step: letter.step,
                 octave,
-                mark,
+                sign,
             },
             num: length.num,
             den: length.den,
@@ -288,7 +288,7 @@ pub fn note(line: &[u8], at: usize) -> Cut
     ensures { λ r. ⌜ r ≡ cutFor at (tokenAs pitched (drop at (now (line .entry)))) ⌝ }
 {
     let before = token_pitches::accidental_before(line, at);
-    let mark = before.mark;
+    let sign = before.sign;
     let place = before.next;
     if line.len() <= place {
         return Cut {
@@ -297,7 +297,7 @@ pub fn note(line: &[u8], at: usize) -> Cut
         };
     }
     if token_pitches::is_letter(line[place]) {
-        return note_from_letter(line, place, mark);
+        return note_from_letter(line, place, sign);
     }
     Cut {
         lexeme: Lexeme::Nothing,

@@ -13,7 +13,7 @@ use Rattle.laws.proofs.Bools.{by-test, both-true, and-left, and-right, and-no-r
 use Rattle.laws.proofs.Spans.{run-yes, run-no}
 use Rattle.standard.specs.Bytes.{is, isDigit, first}
 use Rattle.standard.specs.Passes.{Item, pass, passes, passesOf, rising}
-use Rattle.reader.specs.Pieces.{pieces, mark}
+use Rattle.reader.specs.Pieces.{pieces, separator}
 use Rattle.reader.specs.PassLists.{passNumber, single, range, itemOf, lastPass}
 use Rattle.text_numbers.specs.declared.Digits.{Digits}
 use Rattle.text_numbers.specs.Digits.{written, option}
@@ -107,7 +107,7 @@ module _ (line : List ℕ) (i low h : ℕ) (k : h ≡ endOf isDigit line i) wher
 
   -- a hyphen, and a second number up to e
   module _ (m : is "-" (getD line h 0) ≡ true) (e : ℕ) (j : e ≡ endOf isDigit line (h + 1)) where
-    cut-second : pieces (mark (is "-")) 0 (run isItemByte (drop i line)) ≡ run isDigit (drop i line) ∷ pieces (mark (is "-")) 0 (run isItemByte (drop (h + 1) line))
+    cut-second : pieces (separator (is "-")) 0 (run isItemByte (drop i line)) ≡ run isDigit (drop i line) ∷ pieces (separator (is "-")) 0 (run isItemByte (drop (h + 1) line))
     cut-second = pieces-on isItemByte isDigit (is "-") (λ c. refl) hyphen-apart refl line i h k m
 
     module _ (n : is "-" (getD line e 0) ≡ false) where
@@ -257,7 +257,7 @@ took-by low end (some (passes a b)) from to next g e =
 
 pub took : (low : ℕ) (line : List ℕ) (i end from to next : ℕ) → itemFor end (itemAt low line i) ≡ item.Passes from to next → (next ≡ end) × Took low (itemAt low line i) from to
 unfolding itemAt
-took low line i end from to next e = took-by low end (itemAt low line i) from to next (λ x k. item-rises low (pieces (mark (is "-")) 0 (run isItemByte (drop i line))) x k) e
+took low line i end from to next e = took-by low end (itemAt low line i) from to next (λ x k. item-rises low (pieces (separator (is "-")) 0 (run isItemByte (drop i line))) x k) e
 
 pub nothing-none : (end : ℕ) (o : Option Item) → itemFor end o ≡ item.Nothing → o ≡ none
 unfolding itemFor

@@ -9,7 +9,7 @@ use Rattle.laws.specs.Spans.{run}
 use Rattle.standard.specs.Bytes.{is, isDigit}
 use Rattle.standard.specs.Passes as standard
 use Rattle.standard.specs.Passes.{pass, passes}
-use Rattle.reader.specs.Pieces.{pieces, mark}
+use Rattle.reader.specs.Pieces.{pieces, separator}
 use Rattle.reader.specs.PassLists.{itemOf, passList, isPassByte}
 use Rattle.reader.specs.Records.{passBits}
 use Rattle.token_passes.specs.declared.Number as number
@@ -30,7 +30,7 @@ isItemByte c = isDigit c || is "-" c
 
 -- the item at a position, above `low`
 unfoldable pub itemAt : ℕ → List ℕ → ℕ → Option standard.Item
-itemAt low line at = itemOf low (pieces (mark (is "-")) 0 (run isItemByte (drop at line)))
+itemAt low line at = itemOf low (pieces (separator (is "-")) 0 (run isItemByte (drop at line)))
 
 -- an item, with the position after it
 unfoldable pub itemFor : ℕ → Option standard.Item → item.Item
@@ -40,7 +40,7 @@ itemFor next (some (passes a b)) = item-as.Passes a b next
 
 -- the passes at a position, above `low`
 unfoldable pub passesAt : ℕ → List ℕ → ℕ → Option (List ℕ)
-passesAt low line at = passList low (pieces (mark (is ",")) 0 (run isPassByte (drop at line)))
+passesAt low line at = passList low (pieces (separator (is ",")) 0 (run isPassByte (drop at line)))
 
 -- passes, by the first one and their bits, with the position after the list
 unfoldable pub passesFor : ℕ → Option (List ℕ) → Passes

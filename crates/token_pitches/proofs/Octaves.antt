@@ -8,7 +8,7 @@ use lib.Dec.{eqb, leb}
 use lib.ListN.{drop, getD}
 use lib.Seq.{drop-drop}
 use borrow.Author.Tests.{le-leb, lt-leb, ne-eqb}
-use Rattle.laws.specs.Lists.{span}
+use Rattle.laws.specs.Lists.{countWhile}
 use Rattle.laws.specs.Spans.{endOf}
 use Rattle.laws.proofs.Bools.{and-no-left, and-no-right, and-both}
 use Rattle.laws.proofs.Spans.{end-off}
@@ -26,14 +26,14 @@ refused at o e = rw (e, octaveFor)
 
 module _ (line : List ℕ) (at start down up : ℕ) (e : down ≡ endOf (λ c. eqb c 44) line at) (f : up ≡ endOf (λ c. eqb c 39) line down) where
   -- commas, and apostrophes behind them
-  commas : down - at ≡ span (λ c. eqb c 44) (drop at line)
+  commas : down - at ≡ countWhile (λ c. eqb c 44) (drop at line)
   commas = omega (arith, e)
 
-  rises : up - down ≡ span (λ c. eqb c 39) (drop (span (λ c. eqb c 44) (drop at line)) (drop at line))
+  rises : up - down ≡ countWhile (λ c. eqb c 39) (drop (countWhile (λ c. eqb c 44) (drop at line)) (drop at line))
   rises =
-      let q : drop (span (λ c. eqb c 44) (drop at line)) (drop at line) ≡ drop down line = drop-drop (span (λ c. eqb c 44) (drop at line)) at line ∙ ap (λ k. drop k line) (sym e) in
-      let n : up - down ≡ span (λ c. eqb c 39) (drop down line) = omega (arith, f) in
-      n ∙ ap (span (λ c. eqb c 39)) (sym q)
+      let q : drop (countWhile (λ c. eqb c 44) (drop at line)) (drop at line) ≡ drop down line = drop-drop (countWhile (λ c. eqb c 44) (drop at line)) at line ∙ ap (λ k. drop k line) (sym e) in
+      let n : up - down ≡ countWhile (λ c. eqb c 39) (drop down line) = omega (arith, f) in
+      n ∙ ap (countWhile (λ c. eqb c 39)) (sym q)
 
   -- the octave is fine where no mark leaves the bounds
   fine-by : octaveFrom start (drop at line) .fine ≡ (leb (down - at) start && leb (start - (down - at) + (up - down)) 255)

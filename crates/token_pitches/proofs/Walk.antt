@@ -14,7 +14,7 @@ use Rattle.standard.specs.Bytes.{is}
 use Rattle.standard.specs.Pitches.{Accidental, Written, isLetter, stepOf}
 use Rattle.reader.specs.Pitches.{natural, quarterTone, added, isQuarter, Octave, octaveOf, consPitch, chordOf}
 use Rattle.text_runs.proofs.Places.{drop-here}
-use Rattle.token_pitches.specs.Pitches.{markFor, markOf, pitchFor}
+use Rattle.token_pitches.specs.Pitches.{signFor, signOf, pitchFor}
 use Rattle.token_pitches.specs.Chords.{Met, over, out, met, further, signIn, letterMet, pitchMet, metFor, chordFor}
 use Rattle.token_pitches.specs.declared.Pitch.{Pitch}
 use Rattle.token_pitches.specs.declared.Met.the-variants as met-as
@@ -45,7 +45,7 @@ walked-on over c s = refl
 walked-on out c s = refl
 walked-on (met w n) c s = let e : 1 + n ≡ suc n = omega arith in rw e
 
-cons-fine : (c : ℕ) (a : Option Accidental) (o : Octave) (r : Option (List Written)) → o .fine ≡ true → consPitch c a o r ≡ before (record { step = stepOf c; octave = o .octave; mark = a }) r
+cons-fine : (c : ℕ) (a : Option Accidental) (o : Octave) (r : Option (List Written)) → o .fine ≡ true → consPitch c a o r ≡ before (record { step = stepOf c; octave = o .octave; sign = a }) r
 unfolding consPitch before
 cons-fine c a o none f = refl
 cons-fine c a o (some ps) f = rw (f, consPitch)
@@ -55,7 +55,7 @@ unfolding consPitch
 cons-out c a o none f = refl
 cons-out c a o (some ps) f = rw (f, consPitch)
 
-pub letter-fine : (c : ℕ) (a : Option Accidental) (o : Octave) → o .fine ≡ true → letterMet c a o ≡ met (record { step = stepOf c; octave = o .octave; mark = a }) (suc (o .used))
+pub letter-fine : (c : ℕ) (a : Option Accidental) (o : Octave) → o .fine ≡ true → letterMet c a o ≡ met (record { step = stepOf c; octave = o .octave; sign = a }) (suc (o .used))
 unfolding letterMet
 letter-fine c a o f = rw (f, letterMet)
 
@@ -67,7 +67,7 @@ letter-walk : (c : ℕ) (a : Option Accidental) (o : Octave) (s : List ℕ) → 
 unfolding walked
 letter-walk c a o s =
     by-test (o .fine)
-    (λ f. cons-fine c a o (chordOf (o .used) none s) f ∙ ap (before (record { step = stepOf c; octave = o .octave; mark = a })) (chord-drop (o .used) none s)
+    (λ f. cons-fine c a o (chordOf (o .used) none s) f ∙ ap (before (record { step = stepOf c; octave = o .octave; sign = a })) (chord-drop (o .used) none s)
     ∙ ap (λ m. walked m (c ∷ s)) (sym (letter-fine c a o f)))
     (λ f. cons-out c a o (chordOf (o .used) none s) f ∙ ap (λ m. walked m (c ∷ s)) (sym (letter-out c a o f)))
 
@@ -95,7 +95,7 @@ chord-walk (suc k) a (c ∷ s) = chord-walk k a s ∙ sym (walked-on (pitchMet k
 
 -- THE NEXT PITCH, BY POSITION
 -- an accidental in the code's type, and back
-pub mark-back : (a : Option Accidental) → markOf (markFor a) ≡ a
+pub mark-back : (a : Option Accidental) → signOf (signFor a) ≡ a
 mark-back none = refl
 mark-back (some a) = refl
 
@@ -125,11 +125,11 @@ pitch-drop (suc k) a (c ∷ s) =
     let e : 1 + k ≡ suc k = omega arith in
     ap (further 1) (pitch-drop k a s) ∙ further-further 1 k (pitchMet 0 a (drop k s)) ∙ ap (λ n. further n (pitchMet 0 a (drop k s))) e
 
-pub sign-quarter : (up : Bool) (a : Option Accidental) (s : List ℕ) → isQuarter a s ≡ true → signIn up a s ≡ record { mark = some (quarterTone up); used = 2 }
+pub sign-quarter : (up : Bool) (a : Option Accidental) (s : List ℕ) → isQuarter a s ≡ true → signIn up a s ≡ record { sign = some (quarterTone up); used = 2 }
 unfolding signIn
 sign-quarter up a s e = rw (e, signIn)
 
-pub sign-plain : (up : Bool) (a : Option Accidental) (s : List ℕ) → isQuarter a s ≡ false → signIn up a s ≡ record { mark = some (added up a); used = 1 }
+pub sign-plain : (up : Bool) (a : Option Accidental) (s : List ℕ) → isQuarter a s ≡ false → signIn up a s ≡ record { sign = some (added up a); used = 1 }
 unfolding signIn
 sign-plain up a s e = rw (e, signIn)
 
@@ -138,7 +138,7 @@ pub sign-takes : (up : Bool) (a : Option Accidental) (s : List ℕ) → 0 < sign
 sign-takes up a s = by-test (isQuarter a s) (λ e. rw (sign-quarter up a s e) (omega arith)) (λ e. rw (sign-plain up a s e) (omega arith))
 
 sign-step : (up : Bool) (c : ℕ) (a : Option Accidental) (s : List ℕ) → is "]" c ≡ false → (is "^" c || is "_" c) ≡ true → is "^" c ≡ up
-    → pitchMet 0 a (c ∷ s) ≡ further (signIn up a s .used) (pitchMet 0 (signIn up a s .mark) (drop (signIn up a s .used) (c ∷ s)))
+    → pitchMet 0 a (c ∷ s) ≡ further (signIn up a s .used) (pitchMet 0 (signIn up a s .sign) (drop (signIn up a s .used) (c ∷ s)))
 unfolding pitchMet
 sign-step up c a s e f u =
     by-test (isQuarter a s)
@@ -159,21 +159,21 @@ module _ (line : List ℕ) (i : ℕ) (a : Option Accidental) where
   -- a sign
   module _ (up : Bool) (h : i < length line) (e : is "]" (getD line i 0) ≡ false) (f : (is "^" (getD line i 0) || is "_" (getD line i 0)) ≡ true) (u : is "^" (getD line i 0) ≡ up) where
     met-sign : metFor i (pitchMet 0 a (drop i line))
-        ≡ metFor (i + signIn up a (drop (i + 1) line) .used) (pitchMet 0 (signIn up a (drop (i + 1) line) .mark) (drop (i + signIn up a (drop (i + 1) line) .used) line))
+        ≡ metFor (i + signIn up a (drop (i + 1) line) .used) (pitchMet 0 (signIn up a (drop (i + 1) line) .sign) (drop (i + signIn up a (drop (i + 1) line) .used) line))
     met-sign =
         let b = signIn up a (drop (i + 1) line) in
         ap (λ s. metFor i (pitchMet 0 a s)) (drop-here line i h)
         ∙ ap (metFor i) (sign-step up (getD line i 0) a (drop (i + 1) line) e f u)
-        ∙ further-at i (b .used) (pitchMet 0 (b .mark) (drop (b .used) (getD line i 0 ∷ drop (i + 1) line)))
-        ∙ ap (λ s. metFor (i + b .used) (pitchMet 0 (b .mark) (drop (b .used) s))) (sym (drop-here line i h))
-        ∙ ap (λ s. metFor (i + b .used) (pitchMet 0 (b .mark) s)) (drop-drop (b .used) i line)
+        ∙ further-at i (b .used) (pitchMet 0 (b .sign) (drop (b .used) (getD line i 0 ∷ drop (i + 1) line)))
+        ∙ ap (λ s. metFor (i + b .used) (pitchMet 0 (b .sign) (drop (b .used) s))) (sym (drop-here line i h))
+        ∙ ap (λ s. metFor (i + b .used) (pitchMet 0 (b .sign) s)) (drop-drop (b .used) i line)
 
   pub met-up : i < length line → getD line i 0 ≡ 94 → metFor i (pitchMet 0 a (drop i line))
-      ≡ metFor (i + signIn true a (drop (i + 1) line) .used) (pitchMet 0 (signIn true a (drop (i + 1) line) .mark) (drop (i + signIn true a (drop (i + 1) line) .used) line))
+      ≡ metFor (i + signIn true a (drop (i + 1) line) .used) (pitchMet 0 (signIn true a (drop (i + 1) line) .sign) (drop (i + signIn true a (drop (i + 1) line) .used) line))
   met-up h e = met-sign true h (rw e) (rw e) (rw e)
 
   pub met-down : i < length line → getD line i 0 ≡ 95 → metFor i (pitchMet 0 a (drop i line))
-      ≡ metFor (i + signIn false a (drop (i + 1) line) .used) (pitchMet 0 (signIn false a (drop (i + 1) line) .mark) (drop (i + signIn false a (drop (i + 1) line) .used) line))
+      ≡ metFor (i + signIn false a (drop (i + 1) line) .used) (pitchMet 0 (signIn false a (drop (i + 1) line) .sign) (drop (i + signIn false a (drop (i + 1) line) .used) line))
   met-down h e = met-sign false h (rw e) (rw e) (rw e)
 
   -- a natural

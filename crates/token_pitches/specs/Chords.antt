@@ -28,11 +28,11 @@ further n (met w k) = met w (n + k)
 
 -- a sign `^` (up) or `_` where a waits, with s behind it
 unfoldable pub signIn : Bool → Option Accidental → List ℕ → reader.Before
-signIn up a s = elim (isQuarter a s) [ true ↦ record { mark = some (quarterTone up); used = 2 } | false ↦ record { mark = some (added up a); used = 1 } ]
+signIn up a s = elim (isQuarter a s) [ true ↦ record { sign = some (quarterTone up); used = 2 } | false ↦ record { sign = some (added up a); used = 1 } ]
 
 -- the letter c with its octave marks
 unfoldable pub letterMet : ℕ → Option Accidental → Octave → Met
-letterMet c a o = elim (o .fine) [ true ↦ met (record { step = stepOf c; octave = o .octave; mark = a }) (suc (o .used)) | false ↦ out ]
+letterMet c a o = elim (o .fine) [ true ↦ met (record { step = stepOf c; octave = o .octave; sign = a }) (suc (o .used)) | false ↦ out ]
 
 -- the next pitch; k: bytes still to pass; a: the accidental that waits
 unfoldable pub pitchMet : ℕ → Option Accidental → List ℕ → Met

@@ -5,8 +5,8 @@ use mathlib.Core.Option.{Option, none, some}
 use Rattle.standard.specs.Pitches.{Accidental, Written, stepOf, letterOctave}
 use Rattle.reader.specs.Pitches as reader
 use Rattle.reader.specs.Pitches.{quarterTone}
-use Rattle.token_pitches.specs.declared.Mark.{Mark}
-use Rattle.token_pitches.specs.declared.Mark.the-variants as mark
+use Rattle.token_pitches.specs.declared.Sign.{Sign}
+use Rattle.token_pitches.specs.declared.Sign.the-variants as sign
 use Rattle.token_pitches.specs.declared.Pitch.{Pitch}
 use Rattle.token_pitches.specs.declared.NoteChar.{NoteChar}
 use Rattle.token_pitches.specs.declared.Before.{Before}
@@ -18,24 +18,24 @@ abbrev pub noteChar : ℕ → NoteChar
 noteChar c = record { step = stepOf c; octave = letterOctave c }
 
 -- an accidental, and back
-abbrev pub markFor : Option Accidental → Mark
-markFor none = mark.Nothing
-markFor (some a) = mark.Written (a .alter) (a .cents)
+abbrev pub signFor : Option Accidental → Sign
+signFor none = sign.Nothing
+signFor (some a) = sign.Written (a .alter) (a .cents)
 
-abbrev pub markOf : Mark → Option Accidental
-markOf mark.Nothing = none
-markOf (mark.Written a c) = some (record { alter = a; cents = c })
+abbrev pub signOf : Sign → Option Accidental
+signOf sign.Nothing = none
+signOf (sign.Written a c) = some (record { alter = a; cents = c })
 
-abbrev pub quarterFor : Bool → Mark
-quarterFor up = markFor (some (quarterTone up))
+abbrev pub quarterFor : Bool → Sign
+quarterFor up = signFor (some (quarterTone up))
 
 -- a pitch
 abbrev pub pitchFor : Written → Pitch
-pitchFor w = record { step = w .step; octave = w .octave; mark = markFor (w .mark) }
+pitchFor w = record { step = w .step; octave = w .octave; sign = signFor (w .sign) }
 
 -- an accidental before a note, with the position after it
 abbrev pub beforeFor : ℕ → reader.Before → Before
-beforeFor at b = record { mark = markFor (b .mark); next = at + b .used }
+beforeFor at b = record { sign = signFor (b .sign); next = at + b .used }
 
 -- an octave, with the position after its marks
 unfoldable pub octaveFor : ℕ → reader.Octave → Octave

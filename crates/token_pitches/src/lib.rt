@@ -4,14 +4,14 @@ ghost use mathlib.Core.Option.{none};
 ghost use Prim.Native.Nat.{_+_, _<_, _≤_};
 ghost use lib.Dec.{eqb};
 ghost use lib.ListN.{length, drop, getD};
-ghost use Rattle.laws.specs.Lists.{span};
+ghost use Rattle.laws.specs.Lists.{countWhile};
 ghost use Rattle.standard.specs.Pitches.{isLetter};
 ghost use Rattle.reader.specs.Pitches as written;
-ghost use Rattle.token_pitches.specs.Pitches.{noteChar, markOf, beforeFor, octaveFor, quarterFor};
+ghost use Rattle.token_pitches.specs.Pitches.{noteChar, signOf, beforeFor, octaveFor, quarterFor};
 ghost use Rattle.token_pitches.specs.Chords.{signIn, letterMet, pitchMet, metFor, closedAt, chordFor};
 
 // An accidental, or none.
-pub enum Mark {
+pub enum Sign {
     Nothing,
     Written { alter: u8, cents: u8 },
 }
@@ -19,7 +19,7 @@ pub enum Mark {
 pub struct Pitch {
     pub step: u8,
     pub octave: u8,
-    pub mark: Mark,
+    pub sign: Sign,
 }
 
 // A letter's step, C is 0 and B is 6, and octave.
@@ -30,7 +30,7 @@ pub struct NoteChar {
 
 // An accidental and the position after it.
 pub struct Before {
-    pub mark: Mark,
+    pub sign: Sign,
     pub next: usize,
 }
 
@@ -89,16 +89,16 @@ fn moved(up: bool, n: usize, from: u8) -> u8
     (a - n) as u8
 }
 
-fn quarter_tone(up: bool) -> Mark
+fn quarter_tone(up: bool) -> Sign
     ensures { λ r. ⌜ r ≡ quarterFor up ⌝ }
 {
     if up {
-        return Mark::Written {
+        return Sign::Written {
             alter: 128,
             cents: 178,
         };
     }
-    Mark::Written {
+    Sign::Written {
         alter: 128,
         cents: 78,
     }
@@ -106,18 +106,18 @@ fn quarter_tone(up: bool) -> Mark
 
 // A run of equal signs `b`; a single one with a slash behind it is a quarter tone.
 fn signs(line: &[u8], at: usize, up: bool, b: u8) -> Before
-    ensures { λ r. ⌜ r ≡ beforeFor at (written.signs up (span (λ c. eqb c b) (drop at (now (line .entry)))) (drop at (now (line .entry)))) ⌝ }
+    ensures { λ r. ⌜ r ≡ beforeFor at (written.signs up (countWhile (λ c. eqb c b) (drop at (now (line .entry)))) (drop at (now (line .entry)))) ⌝ }
 {
     let end = text_runs::run_end(line, at, b);
     let n = end - at;
     if n == 1 && text_numbers::byte_at(line, end) == b'/' {
         return Before {
-            mark: quarter_tone(up),
+            sign: quarter_tone(up),
             next: end + 1,
         };
     }
     Before {
-        mark: Mark::Written {
+        sign: Sign::Written {
             alter: moved(up, n, 128),
             cents: 128,
         },
@@ -138,7 +138,7 @@ pub fn accidental_before(line: &[u8], at: usize) -> Before
     }
     if first == b'=' {
         return Before {
-            mark: Mark::Written {
+            sign: Sign::Written {
                 alter: 128,
                 cents: 128,
             },
@@ -146,7 +146,7 @@ pub fn accidental_before(line: &[u8], at: usize) -> Before
         };
     }
     Before {
-        mark: Mark::Nothing,
+        sign: Sign::Nothing,
         next: at,
     }
 }
@@ -178,28 +178,28 @@ pub fn octave_marks(line: &[u8], at: usize, start: u8) -> Octave
 }
 
 // A sign `^` or `_` at `at` in a chord, where an accidental waits: signs add up, and one with nothing before it and a slash behind it is a quarter tone.
-fn chord_sign(line: &[u8], at: usize, up: bool, waits: Mark) -> Before
+fn chord_sign(line: &[u8], at: usize, up: bool, waits: Sign) -> Before
     requires { ⌜ at < length (now line) ⌝ }
-    ensures { λ r. ⌜ r ≡ beforeFor at (signIn up (markOf waits) (drop (at + 1) (now (line .entry)))) ⌝ }
+    ensures { λ r. ⌜ r ≡ beforeFor at (signIn up (signOf waits) (drop (at + 1) (now (line .entry)))) ⌝ }
 {
     match waits {
-        Mark::Nothing => {
+        Sign::Nothing => {
             if text_numbers::byte_at(line, at + 1) == b'/' {
                 return Before {
-                    mark: quarter_tone(up),
+                    sign: quarter_tone(up),
                     next: at + 2,
                 };
             }
             Before {
-                mark: Mark::Written {
+                sign: Sign::Written {
                     alter: moved(up, 1, 128),
                     cents: 128,
                 },
                 next: at + 1,
             }
         }
-        Mark::Written { alter, cents: _ } => Before {
-            mark: Mark::Written {
+        Sign::Written { alter, cents: _ } => Before {
+            sign: Sign::Written {
                 alter: moved(up, 1, alter),
                 cents: 128,
             },
@@ -209,9 +209,9 @@ fn chord_sign(line: &[u8], at: usize, up: bool, waits: Mark) -> Before
 }
 
 // The letter at `at` with its octave marks.
-fn chord_letter(line: &[u8], at: usize, waits: Mark) -> Met
+fn chord_letter(line: &[u8], at: usize, waits: Sign) -> Met
     requires { ⌜ at < length (now line) ⌝ }
-    ensures { λ r. ⌜ r ≡ metFor at (letterMet (getD (now (line .entry)) at 0) (markOf waits) (written.octaveOf (getD (now (line .entry)) at 0) (drop (at + 1) (now (line .entry))))) ⌝ }
+    ensures { λ r. ⌜ r ≡ metFor at (letterMet (getD (now (line .entry)) at 0) (signOf waits) (written.octaveOf (getD (now (line .entry)) at 0) (drop (at + 1) (now (line .entry))))) ⌝ }
 {
     let letter = abc_note_char(line[at]);
     let Octave::At { octave, next } = octave_marks(line, at + 1, letter.octave) else {
@@ -221,7 +221,7 @@ fn chord_letter(line: &[u8], at: usize, waits: Mark) -> Met
         pitch: Pitch {
             step: letter.step,
             octave,
-            mark: waits,
+            sign: waits,
         },
         next,
     }
@@ -231,7 +231,7 @@ fn chord_letter(line: &[u8], at: usize, waits: Mark) -> Met
 pub fn next_chord_pitch(line: &[u8], at: usize) -> Met
     ensures { λ r. ⌜ r ≡ metFor at (pitchMet 0 none (drop at (now (line .entry)))) ⌝ }
 {
-    let mut waits = Mark::Nothing;
+    let mut waits = Sign::Nothing;
     let mut i = at;
     while i < line.len() {
         let c = line[i];
@@ -240,18 +240,18 @@ pub fn next_chord_pitch(line: &[u8], at: usize) -> Met
         }
         if c == b'^' {
             let sign = chord_sign(line, i, true, waits);
-            waits = sign.mark;
+            waits = sign.sign;
             i = sign.next;
             continue;
         }
         if c == b'_' {
             let sign = chord_sign(line, i, false, waits);
-            waits = sign.mark;
+            waits = sign.sign;
             i = sign.next;
             continue;
         }
         if c == b'=' {
-            waits = Mark::Written {
+            waits = Sign::Written {
                 alter: 128,
                 cents: 128,
             };

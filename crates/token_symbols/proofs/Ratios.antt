@@ -9,7 +9,7 @@ use lib.Dec.{eqb}
 use lib.ListN.{getD, drop}
 use lib.Seq.{drop-drop}
 use borrow.Author.Tests.{lt-ltb, le-ltb, eq-eqb, ne-eqb}
-use Rattle.laws.specs.Lists.{span}
+use Rattle.laws.specs.Lists.{countWhile}
 use Rattle.laws.specs.Spans.{run, endOf}
 use Rattle.laws.proofs.Bools.{by-test}
 use Rattle.standard.specs.Bytes.{isDigit, first, digits}
@@ -79,8 +79,8 @@ module _ (line : List ℕ) (at a1 : ℕ) (k1 : a1 ≡ endOf isDigit line (at + 1
   begun : tupletOf (drop (at + 1) line) ≡ withActual (a1 - at) (drop a1 line) (positive 255 (drop (at + 1) line))
   unfolding tupletOf
   begun =
-      let n : 1 + span isDigit (drop (at + 1) line) ≡ a1 - at = omega (arith, k1) in
-      let d : drop (span isDigit (drop (at + 1) line)) (drop (at + 1) line) ≡ drop a1 line = drop-drop (span isDigit (drop (at + 1) line)) (at + 1) line ∙ ap (λ k. drop k line) (sym k1) in
+      let n : 1 + countWhile isDigit (drop (at + 1) line) ≡ a1 - at = omega (arith, k1) in
+      let d : drop (countWhile isDigit (drop (at + 1) line)) (drop (at + 1) line) ≡ drop a1 line = drop-drop (countWhile isDigit (drop (at + 1) line)) (at + 1) line ∙ ap (λ k. drop k line) (sym k1) in
       rw (n, d)
 
   -- no actual
@@ -121,9 +121,9 @@ module _ (line : List ℕ) (at a1 : ℕ) (k1 : a1 ≡ endOf isDigit line (at + 1
           with-count : tupletOf (drop (at + 1) line) ≡ withCount p q (a2 - at) (drop a2 line)
           unfolding withNormal
           with-count =
-              let n : a1 - at + 1 + span isDigit (drop (a1 + 1) line) ≡ a2 - at = omega (arith, k1, k2) in
-              let d : a1 + (1 + span isDigit (drop (a1 + 1) line)) ≡ a2 = omega (arith, k2) in
-              let g : drop (1 + span isDigit (drop (a1 + 1) line)) (drop a1 line) ≡ drop a2 line = drop-drop (1 + span isDigit (drop (a1 + 1) line)) a1 line ∙ ap (λ k. drop k line) d in
+              let n : a1 - at + 1 + countWhile isDigit (drop (a1 + 1) line) ≡ a2 - at = omega (arith, k1, k2) in
+              let d : a1 + (1 + countWhile isDigit (drop (a1 + 1) line)) ≡ a2 = omega (arith, k2) in
+              let g : drop (1 + countWhile isDigit (drop (a1 + 1) line)) (drop a1 line) ≡ drop a2 line = drop-drop (1 + countWhile isDigit (drop (a1 + 1) line)) a1 line ∙ ap (λ k. drop k line) d in
               rw (with-normal, f) (rw (behind, n, g))
 
           -- no colon behind it
@@ -138,7 +138,7 @@ module _ (line : List ℕ) (at a1 : ℕ) (k1 : a1 ≡ endOf isDigit line (at + 1
             unfolding withCount
             with-counted =
                 let b : eqb (first (drop a2 line)) 58 ≡ true = eq-eqb _ 58 (first-at line a2 ∙ x) in
-                let n : a2 - at + 1 + span isDigit (drop (a2 + 1) line) ≡ a3 - at = omega (arith, k1, k2, k3) in
+                let n : a2 - at + 1 + countWhile isDigit (drop (a2 + 1) line) ≡ a3 - at = omega (arith, k1, k2, k3) in
                 rw with-count (rw (b, withCount) (rw (drop-drop 1 a2 line, n)))
 
             -- "count 0 or past 64 bits"

@@ -8,13 +8,13 @@ use native.Mathlib.Omega.{arith}
 use lib.Dec.{ltb}
 use lib.ListN.{length, take, drop}
 use lib.Seq.{drop-drop}
-use Rattle.laws.specs.Lists.{span}
+use Rattle.laws.specs.Lists.{countWhile}
 use Rattle.laws.proofs.Bools.{by-test}
 use Rattle.standard.specs.Bytes.{is, isDigit, first}
 use Rattle.standard.specs.Bars.{Symbol, barSymbols, symbolAt}
 use Rattle.standard.specs.Pitches.{Written, isLetter}
 use Rattle.reader.specs.Lengths.{Length}
-use Rattle.reader.specs.Pieces.{pieces, mark}
+use Rattle.reader.specs.Pieces.{pieces, separator}
 use Rattle.reader.specs.Fields.{unitInline, middleWord}
 use Rattle.reader.specs.Pitches.{Before, octaveOf, accidentalOf, chordOf}
 use Rattle.reader.specs.Token.{Token, space, overlay, quoted, broken, tuplet, slur, graceOpen, graceClose, decoration, barline, volta, unit, meter, key, field, chord, rest, note, nothing, skipped, refused, Taken, taken}
@@ -54,7 +54,7 @@ pitchesIn (refused n) = none
 -- no other token is a chord
 closed-none : (p : ℕ → Bool) (t : Token) (s : List ℕ) (o : Taken) → pitchesIn t ≡ none → pitchesIn (o .token) ≡ none → pitchesIn (closedBy p t s o .token) ≡ none
 unfolding closedBy
-closed-none p t s o a b = by-test (ltb (span (λ c. not (p c)) s) (length s)) (λ e. rw (e, closedBy) a) (λ e. rw (e, closedBy) b)
+closed-none p t s o a b = by-test (ltb (countWhile (λ c. not (p c)) s) (length s)) (λ e. rw (e, closedBy) a) (λ e. rw (e, closedBy) b)
 
 broken-none : (up : Bool) (n : ℕ) (s : List ℕ) → pitchesIn (brokenOf up n s .token) ≡ none
 unfolding brokenOf pitchesIn
@@ -116,9 +116,9 @@ of-bracket : (s : List ℕ) (ps : List Written) → pitchesIn (bracketOf s .toke
 unfolding bracketOf voltaOf inlineAt chordAt
 of-bracket s ps e =
     by-test (isDigit (first s))
-    (λ d. never (voltaOf s .token) ps (volta-none (span isPassByte s) s (passList 0 (pieces (mark (is ",")) 0 (take (span isPassByte s) s)))) (rw (d, bracketOf) at e))
+    (λ d. never (voltaOf s .token) ps (volta-none (countWhile isPassByte s) s (passList 0 (pieces (separator (is ",")) 0 (take (countWhile isPassByte s) s)))) (rw (d, bracketOf) at e))
     (λ d. by-test (isInline s)
-    (λ i. never (inlineAt s .token) ps (field-none (take (span (λ c. not (is "]" c)) s) s)) (rw i at (rw (d, bracketOf) at e)))
+    (λ i. never (inlineAt s .token) ps (field-none (take (countWhile (λ c. not (is "]" c)) s) s)) (rw i at (rw (d, bracketOf) at e)))
     (λ i. chord-some _ _ (chordOf 0 none s) ps (rw i at (rw (d, bracketOf) at e))))
 
 of-class : (x : Class) (s : List ℕ) (ps : List Written) → pitchesIn (tokenAs x s .token) ≡ some ps → chordOf 0 none (drop 1 s) ≡ some ps
@@ -126,8 +126,8 @@ unfolding tokenAs barlineOf noteOf restAs pitchesIn
 of-class white s ps e = never space ps refl e
 of-class ampersand s ps e = never overlay ps refl e
 of-class quote s ps e = never (closedBy (is "\"") quoted (drop 1 s) (taken quoted (length s)) .token) ps (closed-none (is "\"") quoted (drop 1 s) (taken quoted (length s)) refl refl) e
-of-class more s ps e = never (brokenOf true (suc (span (is ">") (drop 1 s))) s .token) ps (broken-none true (suc (span (is ">") (drop 1 s))) s) e
-of-class less s ps e = never (brokenOf false (suc (span (is "<") (drop 1 s))) s .token) ps (broken-none false (suc (span (is "<") (drop 1 s))) s) e
+of-class more s ps e = never (brokenOf true (suc (countWhile (is ">") (drop 1 s))) s .token) ps (broken-none true (suc (countWhile (is ">") (drop 1 s))) s) e
+of-class less s ps e = never (brokenOf false (suc (countWhile (is "<") (drop 1 s))) s .token) ps (broken-none false (suc (countWhile (is "<") (drop 1 s))) s) e
 of-class paren s ps e = never (orSlur (tupletOf (drop 1 s)) .token) ps (slur-none (tupletOf (drop 1 s)) (form (drop 1 s))) e
 of-class braceOpen s ps e = never graceOpen ps refl e
 of-class braceClose s ps e = never graceClose ps refl e

@@ -165,6 +165,6 @@ pub effected : (at : ℕ) (t : Taken) → effectedIn (cutFor at t) ≡ effectedF
 effected at t = ap (λ x. record { effect = x; next = at + t .used }) (effect-token at (t .token))
 
 -- the scan does not see a note's accidental
-pub marked : (at : ℕ) (a b : Option Accidental) (c : ℕ) (s : List ℕ) → effectedFor at (noteAs (record { mark = a; used = 0 }) c s) ≡ effectedFor at (noteAs (record { mark = b; used = 0 }) c s)
+pub marked : (at : ℕ) (a b : Option Accidental) (c : ℕ) (s : List ℕ) → effectedFor at (noteAs (record { sign = a; used = 0 }) c s) ≡ effectedFor at (noteAs (record { sign = b; used = 0 }) c s)
 unfolding noteAs effectOf effectFor
 marked at a b c s = by-test (octaveOf c s .fine) (λ f. rw (f, noteAs)) (λ f. rw (f, noteAs))

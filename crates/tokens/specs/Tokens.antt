@@ -69,7 +69,7 @@ effectFor tokens.counts = effect.Counts
 effectFor (tokens.refuses n) = effect.Refuses n
 effectFor (tokens.setsUnit u) = effect.SetsUnit u
 effectFor (tokens.setsMeter m) = effect.SetsMeter (m .0) (m .1)
-effectFor tokens.passes = effect.Passes
+effectFor tokens.noEffect = effect.NoEffect
 
 abbrev pub effectedFor : ℕ → Taken → Effected
 effectedFor at t = record { effect = effectFor (effectOf (t .token)); next = at + t .used }
@@ -105,26 +105,26 @@ abbrev pub tokenisedIn : ℕ → Cut → Tokenised
 tokenisedIn unitLength c = record { token = valuedFor unitLength (c .lexeme); next = c .next }
 
 unfoldable pub effectIn : Lexeme → Effect
-effectIn lexeme.Space = effect.Passes
-effectIn lexeme.Overlay = effect.Passes
-effectIn lexeme.Quoted = effect.Passes
-effectIn (lexeme.Broken x0 x1) = effect.Passes
-effectIn (lexeme.Tuplet x0 x1 x2) = effect.Passes
-effectIn lexeme.Slur = effect.Passes
-effectIn lexeme.GraceOpen = effect.Passes
-effectIn lexeme.GraceClose = effect.Passes
-effectIn lexeme.Decoration = effect.Passes
-effectIn (lexeme.Barline x0 x1 x2) = effect.Passes
-effectIn (lexeme.Volta x0 x1) = effect.Passes
+effectIn lexeme.Space = effect.NoEffect
+effectIn lexeme.Overlay = effect.NoEffect
+effectIn lexeme.Quoted = effect.NoEffect
+effectIn (lexeme.Broken x0 x1) = effect.NoEffect
+effectIn (lexeme.Tuplet x0 x1 x2) = effect.NoEffect
+effectIn lexeme.Slur = effect.NoEffect
+effectIn lexeme.GraceOpen = effect.NoEffect
+effectIn lexeme.GraceClose = effect.NoEffect
+effectIn lexeme.Decoration = effect.NoEffect
+effectIn (lexeme.Barline x0 x1 x2) = effect.NoEffect
+effectIn (lexeme.Volta x0 x1) = effect.NoEffect
 effectIn (lexeme.Unit x) = effect.SetsUnit x
 effectIn (lexeme.Meter x0 x1) = effect.SetsMeter x0 x1
-effectIn (lexeme.Key x0 x1) = effect.Passes
-effectIn lexeme.Field = effect.Passes
+effectIn (lexeme.Key x0 x1) = effect.NoEffect
+effectIn lexeme.Field = effect.NoEffect
 effectIn (lexeme.Chord place count num den tied slurred) = effect.Counts
 effectIn (lexeme.Rest kind num den) = effect.Counts
 effectIn (lexeme.Note pitch num den tied slurred) = effect.Counts
-effectIn lexeme.Nothing = effect.Passes
-effectIn lexeme.Skipped = effect.Passes
+effectIn lexeme.Nothing = effect.NoEffect
+effectIn lexeme.Skipped = effect.NoEffect
 effectIn (lexeme.Refused x) = effect.Refuses x
 
 abbrev pub effectedIn : Cut → Effected

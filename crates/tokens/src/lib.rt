@@ -85,7 +85,7 @@ pub enum Effect {
     Refuses(u8),
     SetsUnit(u32),
     SetsMeter { top: u8, bottom: u8 },
-    Passes,
+    NoEffect,
 }
 
 pub struct Effected {
@@ -253,35 +253,35 @@ fn effect_of(lexeme: Lexeme) -> Effect
     ensures { λ r. ⌜ r ≡ effectIn lexeme ⌝ }
 {
     match lexeme {
-        Lexeme::Space => Effect::Passes,
-        Lexeme::Overlay => Effect::Passes,
-        Lexeme::Quoted => Effect::Passes,
-        Lexeme::Broken { up: _, count: _ } => Effect::Passes,
+        Lexeme::Space => Effect::NoEffect,
+        Lexeme::Overlay => Effect::NoEffect,
+        Lexeme::Quoted => Effect::NoEffect,
+        Lexeme::Broken { up: _, count: _ } => Effect::NoEffect,
         Lexeme::Tuplet {
             actual: _,
             normal: _,
             count: _,
-        } => Effect::Passes,
-        Lexeme::Slur => Effect::Passes,
-        Lexeme::GraceOpen => Effect::Passes,
-        Lexeme::GraceClose => Effect::Passes,
-        Lexeme::Decoration => Effect::Passes,
+        } => Effect::NoEffect,
+        Lexeme::Slur => Effect::NoEffect,
+        Lexeme::GraceOpen => Effect::NoEffect,
+        Lexeme::GraceClose => Effect::NoEffect,
+        Lexeme::Decoration => Effect::NoEffect,
         Lexeme::Barline {
             right: _,
             left: _,
             opens: _,
-        } => Effect::Passes,
+        } => Effect::NoEffect,
         Lexeme::Volta {
             first: _,
             passes: _,
-        } => Effect::Passes,
+        } => Effect::NoEffect,
         Lexeme::Unit(den) => Effect::SetsUnit(den),
         Lexeme::Meter { top, bottom } => Effect::SetsMeter { top, bottom },
         Lexeme::Key {
             fifths: _,
             minor: _,
-        } => Effect::Passes,
-        Lexeme::Field => Effect::Passes,
+        } => Effect::NoEffect,
+        Lexeme::Field => Effect::NoEffect,
         Lexeme::Chord {
             place: _,
             count: _,
@@ -302,8 +302,8 @@ fn effect_of(lexeme: Lexeme) -> Effect
             tie: _,
             slur: _,
         } => Effect::Counts,
-        Lexeme::Nothing => Effect::Passes,
-        Lexeme::Skipped => Effect::Passes,
+        Lexeme::Nothing => Effect::NoEffect,
+        Lexeme::Skipped => Effect::NoEffect,
         Lexeme::Refused(number) => Effect::Refuses(number),
     }
 }
@@ -311,7 +311,7 @@ fn effect_of(lexeme: Lexeme) -> Effect
 // What the scan wants of a note from its letter on, which stands at `at`: its end alone is sought.
 fn letter_effect(line: &[u8], at: usize) -> Effected
     requires { ⌜ at < length (now line) ⌝ }
-    ensures { λ r. ⌜ r ≡ effectedFor at (noteAs (record { mark = none; used = 0 }) (getD (now (line .entry)) at 0) (drop (at + 1) (now (line .entry)))) ⌝ }
+    ensures { λ r. ⌜ r ≡ effectedFor at (noteAs (record { sign = none; used = 0 }) (getD (now (line .entry)) at 0) (drop (at + 1) (now (line .entry)))) ⌝ }
 {
     if token_lexemes::is_plain(text_numbers::byte_at(line, at + 1)) {
         return Effected {
@@ -332,7 +332,7 @@ fn letter_effect(line: &[u8], at: usize) -> Effected
     };
     let length = token_lengths::parse_duration_suffix(line, after_octave);
     let after_length = length.next;
-    let behind = text_runs::note_annotations(line, after_length);
+    let behind = text_runs::apply_abc_note_annotations(line, after_length);
     Effected {
         effect: Effect::Counts,
         next: behind.next,
@@ -348,7 +348,7 @@ fn note_effect(line: &[u8], at: usize) -> Effected
     let place = before.next;
     if line.len() <= place {
         return Effected {
-            effect: Effect::Passes,
+            effect: Effect::NoEffect,
             next: place,
         };
     }
@@ -356,7 +356,7 @@ fn note_effect(line: &[u8], at: usize) -> Effected
         return letter_effect(line, place);
     }
     Effected {
-        effect: Effect::Passes,
+        effect: Effect::NoEffect,
         next: place + 1,
     }
 }
@@ -372,7 +372,7 @@ pub fn effect_at(line: &[u8], at: usize, classes: &[u8; 128]) -> Effected
     }
     if class == token_symbols::WHITE {
         return Effected {
-            effect: Effect::Passes,
+            effect: Effect::NoEffect,
             next: at + 1,
         };
     }

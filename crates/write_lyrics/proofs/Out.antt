@@ -10,10 +10,10 @@ use lib.Dec.{eqb}
 use borrow.Author.Tests.{eq-eqb, ne-eqb}
 use lib.Seq.{drop-drop}
 use lib.ListN.{length, getD, take, drop, length-append, length-take, length-drop, take-append-drop, drop-of-length-le, List·getD-eq-default}
-use Rattle.laws.specs.Lists.{All, cat, sum}
+use Rattle.laws.specs.Lists.{All, concat, sum}
 use Rattle.laws.specs.Bytes.{part, splice, encAll, le32}
 use Rattle.laws.proofs.Bools.{by-test, and-both, and-no-left, and-no-right}
-use Rattle.laws.proofs.Lists.{map-map, drop-next, cat-singles, keep-yes, keep-no, All-left, All-right}
+use Rattle.laws.proofs.Lists.{map-map, drop-next, concat-singles, filter-yes, filter-no, All-left, All-right}
 use Rattle.laws.proofs.Splices.{lent-back}
 use Rattle.laws.proofs.Numbers.{length-little}
 use Rattle.laws.proofs.Rows.{encAll-none, encAll-append, length-encAll}
@@ -133,7 +133,7 @@ out b x = piece b (x .0) (x .1)
 
 pieces-out : (b : Bool) (i : ℕ) (ys : List Syllable) → pieces b i ys ≡ encAll (out b) (map (λ y. (i, y)) ys)
 unfolding pieces encAll
-pieces-out b i ys = ap cat (sym (map-map (λ y. (i, y)) (out b) ys))
+pieces-out b i ys = ap concat (sym (map-map (λ y. (i, y)) (out b) ys))
 
 lyrics-nil : (i : ℕ) (ws : List (List Syllable)) → lyricsOf i [] ws ≡ []
 unfolding lyricsOf
@@ -185,11 +185,11 @@ note-case x other quiet sung =
 
 voice-own : (x : ℕ × Note) (xs : List (ℕ × Note)) → eqb (x .0) 0 ≡ true → ofVoice 0 (x ∷ xs) ≡ x ∷ ofVoice 0 xs
 unfolding ofVoice
-voice-own x xs e = keep-yes _ x xs e
+voice-own x xs e = filter-yes _ x xs e
 
 voice-other : (x : ℕ × Note) (xs : List (ℕ × Note)) → eqb (x .0) 0 ≡ false → ofVoice 0 (x ∷ xs) ≡ ofVoice 0 xs
 unfolding ofVoice
-voice-other x xs e = keep-no _ x xs e
+voice-other x xs e = filter-no _ x xs e
 
 -- how many are sung
 bit-yes : {b : Bool} (n : ℕ) → b ≡ true → bit b 1 + n ≡ suc n
@@ -207,8 +207,8 @@ sung-out s p (x ∷ xs) t =
     let ih = sung-out s (p + 16) xs (behind s p x xs t) in
     let e = sung-is s p x xs t in
     note-case x (λ v n. bit-no _ (e ∙ n) ∙ ih ∙ ap sungIn (sym (voice-other x xs v)))
-    (λ v n. bit-no _ (e ∙ n) ∙ ih ∙ ap length (sym (keep-no isSung x (ofVoice 0 xs) n)) ∙ ap sungIn (sym (voice-own x xs v)))
-    (λ v y. bit-yes _ (e ∙ y) ∙ ap suc ih ∙ ap length (sym (keep-yes isSung x (ofVoice 0 xs) y)) ∙ ap sungIn (sym (voice-own x xs v)))
+    (λ v n. bit-no _ (e ∙ n) ∙ ih ∙ ap length (sym (filter-no isSung x (ofVoice 0 xs) n)) ∙ ap sungIn (sym (voice-own x xs v)))
+    (λ v y. bit-yes _ (e ∙ y) ∙ ap suc ih ∙ ap length (sym (filter-yes isSung x (ofVoice 0 xs) y)) ∙ ap sungIn (sym (voice-own x xs v)))
 
 -- ONE MEASURE
 module _ (b : Bool) (ws : List (List Syllable)) (s : List ℕ) where
@@ -285,9 +285,9 @@ records-section ls =
     let e : length (encAll (out false) ls) / 11 ≡ length ls = omega (arith, n) in
     ap (λ (k : ℕ). le32 k ++ encAll (out false) ls) e
 
-texts-section : (ls : List (ℕ × Syllable)) → shownIn true ls ≡ section (λ (c : ℕ). c ∷ []) (cat (map (λ (x : ℕ × Syllable). x .1 .text) ls))
+texts-section : (ls : List (ℕ × Syllable)) → shownIn true ls ≡ section (λ (c : ℕ). c ∷ []) (concat (map (λ (x : ℕ × Syllable). x .1 .text) ls))
 unfolding section encAll
-texts-section ls = let ts = cat (map (λ (x : ℕ × Syllable). x .1 .text) ls) in ap (λ (l : List ℕ). le32 (length ts) ++ l) (sym (cat-singles ts))
+texts-section ls = let ts = concat (map (λ (x : ℕ × Syllable). x .1 .text) ls) in ap (λ (l : List ℕ). le32 (length ts) ++ l) (sym (concat-singles ts))
 
 section-out : (b : Bool) (ws : List (List Syllable)) {s : List ℕ} {heads n notes count : ℕ} {ms : List Head} {log : List (ℕ × Note)} → NotesIn s heads n notes count ms log
     → sectionOut b ws s heads n notes ≡ shownIn b (lyricsOf 0 (inOrder ms log) ws)
@@ -340,6 +340,6 @@ pub sections-say : {d e : List ℕ} {r : Wrote} (s : List ℕ) (heads n notes co
     → (ms : List Head) (log : List (ℕ × Note)) → PitchesIn s heads n notes pitches sounds ms log → length log ≡ count → WroteIs d (layout.sections (record { heads = ms; log = log; words = ws })) e r
 unfolding layout.sections layout.lyrics layout.lyricText layout.notesOf layout.pitchesOf
 sections-say s heads n notes count pitches sounds ws w ms log h l =
-    let lyrics = section-out false ws (h .held) ∙ records-section (lyricsOf 0 (inOrder ms log) ws) in
-    let texts = section-out true ws (h .held) ∙ texts-section (lyricsOf 0 (inOrder ms log) ws) in
+    let lyrics = section-out false ws (h .represents) ∙ records-section (lyricsOf 0 (inOrder ms log) ws) in
+    let texts = section-out true ws (h .represents) ∙ texts-section (lyricsOf 0 (inOrder ms log) ws) in
     wrote-as w (λ i. music-section h l i ++ lyrics i ++ texts i)

@@ -8,7 +8,7 @@ use native.Mathlib.Omega.{arith}
 use lib.Dec.{eqb}
 use borrow.Author.Tests.{eq-eqb, ne-eqb, le-leb, lt-leb}
 use lib.ListN.{length, getD, take, drop, length-append, length-take, length-drop, take-append-drop}
-use Rattle.laws.specs.Lists.{All, keep, sum}
+use Rattle.laws.specs.Lists.{All, filter, sum}
 use Rattle.laws.specs.Bytes.{part, splice, encAll, little, le32, u32At}
 use Rattle.laws.proofs.Lists.{sum-append, getD-sum, All-left, All-right}
 use Rattle.laws.proofs.Parts.{length-part, getD-part, part-none, part-cons, part-add, part-part}
@@ -22,7 +22,7 @@ use Rattle.reader.specs.Records.{isUnbeamed, flagByte, noteBytes, section}
 use Rattle.part_layout.specs.Log.{Head}
 use Rattle.part_layout.specs.Sections.{headBytes, notesIn, ofVoice, byVoice, inOrder}
 use Rattle.part_rows.specs.Table.{Table}
-use Rattle.part_rows.specs.Encoded.{marksByte, rowBytes, noteRow}
+use Rattle.part_rows.specs.Encoded.{flagsByte, rowBytes, noteRow}
 use Rattle.part_rows.proofs.Bytes.{length-note}
 use Rattle.part_measures.specs.Heads.{headRow}
 use Rattle.part_measures.proofs.Heads.{length-head, head-row, head-count}
@@ -162,8 +162,8 @@ unfolding bit
 bit-le true n = omega arith
 bit-le false n = omega arith
 
-marks-small : (f : Flags) → marksByte f % 32 ≡ marksByte f
-unfolding marksByte
+marks-small : (f : Flags) → flagsByte f % 32 ≡ flagsByte f
+unfolding flagsByte
 marks-small f = omega (arith, bit-le (f .tieStart) 1, bit-le (f .tieEnd) 2, bit-le (f .slurStart) 4, bit-le (f .slurEnd) 8, bit-le (f .grace) 16)
 
 module _ (s : List ℕ) (p : ℕ) (x : ℕ × Note) (e : part s p 16 ≡ noteRow x) where
@@ -183,7 +183,7 @@ module _ (s : List ℕ) (p : ℕ) (x : ℕ × Note) (e : part s p 16 ≡ noteRow
   lone = rw (byte-kind, byte 1 (omega arith), byte 4 (omega arith), kind-code)
 
   flags : flagsOut s p ≡ flagByte (x .1)
-  unfolding flagsOut flagByte rowBytes marksByte
+  unfolding flagsOut flagByte rowBytes flagsByte
   flags = rw (byte 3 (omega arith), lone) (ap (λ (k : ℕ). k + bit (isUnbeamed (x .1)) 32) (marks-small (x .1 .flags)))
 
   back : part s (p + 4) 8 ≡ part (noteRow x) 4 8
@@ -199,7 +199,7 @@ out x = noteBytes (x .1)
 
 kept-by : (v : ℕ) (x : ℕ × Note) (xs : List (ℕ × Note)) (b : Bool) → eqb (x .0) v ≡ b → cond b (out x) [] ++ encAll out (ofVoice v xs) ≡ encAll out (ofVoice v (x ∷ xs))
 unfolding ofVoice
-kept-by v x xs true e = rw e (sym (encAll-cons out x (keep (λ (x : ℕ × Note). eqb (x .0) v) xs)))
+kept-by v x xs true e = rw e (sym (encAll-cons out x (filter (λ (x : ℕ × Note). eqb (x .0) v) xs)))
 kept-by v x xs false e = rw e
 
 pub voice-out : (s : List ℕ) (v p : ℕ) (xs : List (ℕ × Note)) → Table noteRow 16 s p xs → voiceOut s v p (length xs) ≡ encAll out (ofVoice v xs)

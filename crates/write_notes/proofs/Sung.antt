@@ -7,9 +7,9 @@ use native.Mathlib.Omega.{arith}
 use lib.Dec.{eqb}
 use borrow.Author.Tests.{eqb-true, ne-eqb}
 use lib.ListN.{length, drop}
-use Rattle.laws.specs.Lists.{All, keep}
+use Rattle.laws.specs.Lists.{All, filter}
 use Rattle.laws.proofs.Bools.{by-test, and-no-left}
-use Rattle.laws.proofs.Lists.{All-append, All-map, keep-append, keep-none, keep-passes}
+use Rattle.laws.proofs.Lists.{All-append, All-map, filter-append, filter-none, filter-passes}
 use Rattle.reader.specs.State.{Note}
 use Rattle.reader.specs.Lyrics.{Syllable}
 use Rattle.reader.specs.Records.{isSung, lyricsOf}
@@ -18,7 +18,7 @@ use Rattle.write_notes.proofs.Out.{by-voice, length-by-voice}
 
 -- how many of the notes take syllables
 abbrev pub sungIn : List (ℕ × Note) → ℕ
-sungIn xs = length (keep isSung xs)
+sungIn xs = length (filter isSung xs)
 
 -- no syllables left
 pub lyrics-none : (i : ℕ) (xs : List (ℕ × Note)) → lyricsOf i xs [] ≡ []
@@ -66,7 +66,7 @@ not-sung v x e = and-no-left _ _ (ne-eqb (x .0) 0 (λ z. let y = eqb-true (x .0)
 
 others : (v : ℕ) (xs : List (ℕ × Note)) → All (λ (x : ℕ × Note). isSung x ≡ false) (ofVoice (suc v) xs)
 unfolding ofVoice
-others v xs = All-map (λ (x : ℕ × Note). eqb (x .0) (suc v) ≡ true) (λ (x : ℕ × Note). isSung x ≡ false) (not-sung v) (keep (λ (x : ℕ × Note). eqb (x .0) (suc v)) xs) (keep-passes (λ (x : ℕ × Note). eqb (x .0) (suc v)) xs)
+others v xs = All-map (λ (x : ℕ × Note). eqb (x .0) (suc v) ≡ true) (λ (x : ℕ × Note). isSung x ≡ false) (not-sung v) (filter (λ (x : ℕ × Note). eqb (x .0) (suc v)) xs) (filter-passes (λ (x : ℕ × Note). eqb (x .0) (suc v)) xs)
 
 -- A MEASURE: the notes xs of voice 0, as written, take the next syllables; the notes behind the measure go on with the others
 pub lyrics-measure : (i : ℕ) (xs b : List (ℕ × Note)) (ws : List (List Syllable)) → All (λ (x : ℕ × Note). x .0 < 4) xs
@@ -75,8 +75,8 @@ lyrics-measure i xs b ws h =
     let rest = ofVoice 1 xs ++ (ofVoice 2 xs ++ ofVoice 3 xs) in
     let quiet : All (λ (x : ℕ × Note). isSung x ≡ false) rest = All-append _ (ofVoice 1 xs) (ofVoice 2 xs ++ ofVoice 3 xs) (others 0 xs) (All-append _ (ofVoice 2 xs) (ofVoice 3 xs) (others 1 xs) (others 2 xs)) in
     let count : sungIn (byVoice xs) ≡ sungIn (ofVoice 0 xs) =
-    ap sungIn (by-voice xs) ∙ ap length (keep-append isSung (ofVoice 0 xs) rest) ∙ ap (λ (l : List (ℕ × Note)). length (keep isSung (ofVoice 0 xs) ++ l)) (keep-none isSung rest quiet)
-    ∙ ap length (append-nil (keep isSung (ofVoice 0 xs))) in
+    ap sungIn (by-voice xs) ∙ ap length (filter-append isSung (ofVoice 0 xs) rest) ∙ ap (λ (l : List (ℕ × Note)). length (filter isSung (ofVoice 0 xs) ++ l)) (filter-none isSung rest quiet)
+    ∙ ap length (append-nil (filter isSung (ofVoice 0 xs))) in
     let first : lyricsOf i (byVoice xs) ws ≡ lyricsOf i (ofVoice 0 xs) ws =
     ap (λ (l : List (ℕ × Note)). lyricsOf i l ws) (by-voice xs) ∙ lyrics-append i (ofVoice 0 xs) rest ws
     ∙ ap (λ (l : List (ℕ × Syllable)). lyricsOf i (ofVoice 0 xs) ws ++ l) (lyrics-passed-all (i + length (ofVoice 0 xs)) rest (drop (sungIn (ofVoice 0 xs)) ws) quiet)

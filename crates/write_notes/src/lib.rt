@@ -43,21 +43,21 @@ fn flags_of(store: &[u8], place: usize) -> u8
     requires { ⌜ place + 16 ≤ length (now store) ⌝ }
     ensures { λ r. ⌜ r ≡ flagsOut (now (store .entry)) place ⌝ }
 {
-    let marks = store[place + 3] % 32;
+    let flags = store[place + 3] % 32;
     if store[place] != 0 {
-        return marks;
+        return flags;
     }
     let value = store[place + 1];
     if value < 5 {
-        return marks;
+        return flags;
     }
     if 9 < value {
-        return marks;
+        return flags;
     }
     if store[place + 4] != 0 {
-        return marks;
+        return flags;
     }
-    marks + 32
+    flags + 32
 }
 
 // Copies four bytes, all of them read before one is written.

@@ -6,9 +6,9 @@ use mathlib.Core.List.{List, [], _∷_, _++_, map, append-nil}
 use native.Mathlib.Omega.{arith}
 use lib.Dec.{eqb}
 use lib.ListN.{length, getD, take, drop, length-append, length-take, length-drop, take-append-drop}
-use Rattle.laws.specs.Lists.{All, keep, cat, sum}
+use Rattle.laws.specs.Lists.{All, filter, concat, sum}
 use Rattle.laws.specs.Bytes.{part, splice, encAll, little, le32, u32At}
-use Rattle.laws.proofs.Lists.{map-append, cat-append, length-cat, sum-map}
+use Rattle.laws.proofs.Lists.{map-append, concat-append, length-concat, sum-map}
 use Rattle.laws.proofs.Parts.{length-part}
 use Rattle.laws.proofs.Numbers.{littleAt-part, littleAt-little, littleAt-own}
 use Rattle.laws.proofs.Rows.{encAll-none, encAll-append}
@@ -114,7 +114,7 @@ abbrev pub out : List (ℕ × Note) → List ℕ
 out log = encAll pitchBytes (pitchesOf log)
 
 pitches-append : (a b : List (ℕ × Note)) → pitchesOf (a ++ b) ≡ pitchesOf a ++ pitchesOf b
-pitches-append a b = ap cat (map-append (λ (x : ℕ × Note). x .1 .pitches) a b) ∙ cat-append (map (λ (x : ℕ × Note). x .1 .pitches) a) (map (λ (x : ℕ × Note). x .1 .pitches) b)
+pitches-append a b = ap concat (map-append (λ (x : ℕ × Note). x .1 .pitches) a b) ∙ concat-append (map (λ (x : ℕ × Note). x .1 .pitches) a) (map (λ (x : ℕ × Note). x .1 .pitches) b)
 
 out-append : (a b : List (ℕ × Note)) → out (a ++ b) ≡ out a ++ out b
 out-append a b = ap (encAll pitchBytes) (pitches-append a b) ∙ encAll-append pitchBytes (pitchesOf a) (pitchesOf b)
@@ -122,7 +122,7 @@ out-append a b = ap (encAll pitchBytes) (pitches-append a b) ∙ encAll-append p
 -- ONE VOICE
 kept-by : (v : ℕ) (x : ℕ × Note) (xs : List (ℕ × Note)) (b : Bool) → eqb (x .0) v ≡ b → cond b (encAll pitchBytes (x .1 .pitches)) [] ++ out (ofVoice v xs) ≡ out (ofVoice v (x ∷ xs))
 unfolding ofVoice
-kept-by v x xs true e = rw e (sym (encAll-append pitchBytes (x .1 .pitches) (pitchesOf (keep (λ (x : ℕ × Note). eqb (x .0) v) xs))))
+kept-by v x xs true e = rw e (sym (encAll-append pitchBytes (x .1 .pitches) (pitchesOf (filter (λ (x : ℕ × Note). eqb (x .0) v) xs))))
 kept-by v x xs false e = rw e
 
 module _ (s : List ℕ) where
@@ -191,13 +191,13 @@ module _ (s : List ℕ) where
 
 -- THE SECTION
 pitches-sum : (xs : List (ℕ × Note)) → length (pitchesOf xs) ≡ sum (λ (x : ℕ × Note). length (x .1 .pitches)) xs
-pitches-sum xs = length-cat (map (λ (x : ℕ × Note). x .1 .pitches) xs) ∙ sum-map (λ (x : ℕ × Note). x .1 .pitches) length xs
+pitches-sum xs = length-concat (map (λ (x : ℕ × Note). x .1 .pitches) xs) ∙ sum-map (λ (x : ℕ × Note). x .1 .pitches) length xs
 
 module _ {s : List ℕ} {heads n notes pitches count : ℕ} {ms : List Head} {log : List (ℕ × Note)} (h : PitchesIn s heads n notes pitches count ms log) where
   pub pitches-section : le32 count ++ pitchesOut s heads notes pitches n ≡ section pitchBytes (pitchesOf (inOrder ms log))
   unfolding section encAll
   pitches-section =
-      let g = h .held in
+      let g = h .represents in
       let f = g .fits in
       let l : count ≡ length (pitchesOf (inOrder ms log)) =
       sym (pitches-sum (inOrder ms log) ∙ in-order-sum (λ (x : ℕ × Note). length (x .1 .pitches)) ms log (f .all-notes) (f .voices-below) ∙ sym (pitches-sum log) ∙ h .pitches-count) in
@@ -208,12 +208,12 @@ module _ {s : List ℕ} {heads n notes pitches count : ℕ} {ms : List Head} {lo
 
   -- the pitches have room where the tables hold them
   pub pitches-total : pitchTotal s notes (total s heads n) ≡ count
-  pitches-total = ap (pitchTotal s notes) (notes-total (h .held)) ∙ total-out s notes log (h .held .notes-held) (omega (arith, h .small, h .pitches-count)) ∙ h .pitches-count
+  pitches-total = ap (pitchTotal s notes) (notes-total (h .represents)) ∙ total-out s notes log (h .represents .notes-held) (omega (arith, h .small, h .pitches-count)) ∙ h .pitches-count
 
 -- A WRITER OF THESE BYTES writes the section of whatever the tables hold
 pub pitches-say : {d e : List ℕ} {r : Wrote} (s : List ℕ) (heads n notes pitches count : ℕ) → WroteIs d (le32 count ++ pitchesOut s heads notes pitches n) e r
     → WroteIs d (le32 count ++ pitchesOut s heads notes pitches n) e r
-    × ((ms : List Head) (log : List (ℕ × Note)) → PitchesIn s heads n notes pitches count ms log → WroteIs d (section pitchBytes (cat (map (λ (x : ℕ × Note). x .1 .pitches) (inOrder ms log)))) e r)
+    × ((ms : List Head) (log : List (ℕ × Note)) → PitchesIn s heads n notes pitches count ms log → WroteIs d (section pitchBytes (concat (map (λ (x : ℕ × Note). x .1 .pitches) (inOrder ms log)))) e r)
 pitches-say s heads n notes pitches count w = (w, λ ms log h. wrote-as w (pitches-section h))
 
 -- THREE SECTIONS
@@ -222,7 +222,7 @@ pub music-section : {s : List ℕ} {heads n notes count pitches sounds : ℕ} {m
     ≡ section headBytes ms ++ section (λ (x : ℕ × Note). noteBytes (x .1)) (inOrder ms log) ++ section pitchBytes (pitchesOf (inOrder ms log))
 unfolding musicOut
 music-section {s} {heads} {n} {notes} {count} {pitches} {sounds} {ms} {log} h e =
-    let g = h .held in
+    let g = h .represents in
     let a = measures-section s heads n ms (g .heads-held) (g .heads-count) (g .fits .four-counts) in
     let b = ap (λ (k : ℕ). le32 k ++ notesOut s heads notes n) (sym e) ∙ notes-section g in
     λ i. a i ++ b i ++ pitches-section h i
@@ -230,5 +230,5 @@ music-section {s} {heads} {n} {notes} {count} {pitches} {sounds} {ms} {log} h e 
 pub music-say : {d e : List ℕ} {r : Wrote} (s : List ℕ) (heads n notes count pitches sounds : ℕ) → WroteIs d (musicOut s heads n notes count pitches sounds) e r
     → WroteIs d (musicOut s heads n notes count pitches sounds) e r
     × ((ms : List Head) (log : List (ℕ × Note)) → PitchesIn s heads n notes pitches sounds ms log → length log ≡ count
-    → WroteIs d (section headBytes ms ++ section (λ (x : ℕ × Note). noteBytes (x .1)) (inOrder ms log) ++ section pitchBytes (cat (map (λ (x : ℕ × Note). x .1 .pitches) (inOrder ms log)))) e r)
+    → WroteIs d (section headBytes ms ++ section (λ (x : ℕ × Note). noteBytes (x .1)) (inOrder ms log) ++ section pitchBytes (concat (map (λ (x : ℕ × Note). x .1 .pitches) (inOrder ms log)))) e r)
 music-say s heads n notes count pitches sounds w = (w, λ ms log h e. wrote-as w (music-section h e))

@@ -5,7 +5,7 @@ use mathlib.Core.Bool.{cond}
 use mathlib.Core.List.{List, [], _++_, map}
 use lib.Dec.{eqb}
 use lib.ListN.{length, getD}
-use Rattle.laws.specs.Lists.{cat}
+use Rattle.laws.specs.Lists.{concat}
 use Rattle.laws.specs.Bytes.{part, le32, u32At}
 use Rattle.standard.specs.Pitches.{Pitch}
 use Rattle.reader.specs.State.{Note}
@@ -45,11 +45,11 @@ musicOut s heads n notes count pitches sounds =
 
 -- all pitches of notes, in their order
 abbrev pub pitchesOf : List (ℕ × Note) → List Pitch
-pitchesOf log = cat (map (λ (x : ℕ × Note). x .1 .pitches) log)
+pitchesOf log = concat (map (λ (x : ℕ × Note). x .1 .pitches) log)
 
 -- the n rows at `heads` are the heads ms, the rows at `notes` their notes, and the `count` rows at `pitches` the notes' pitches
 pub record PitchesIn (s : List ℕ) (heads n notes pitches count : ℕ) (ms : List Head) (log : List (ℕ × Note)) : Type 0 where
-  pub held : NotesIn s heads n notes (length log) ms log
+  pub represents : NotesIn s heads n notes (length log) ms log
   pub pitches-held : Table pitchBytes 5 s pitches (pitchesOf log)
   pub pitches-count : length (pitchesOf log) ≡ count
   pub small : count < 2 ^ 32

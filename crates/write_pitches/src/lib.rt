@@ -4,7 +4,7 @@ ghost use mathlib.Core.Path.{_≡_};
 ghost use mathlib.Core.List.{List, _++_, map};
 ghost use Prim.Native.Nat.{ℕ, _+_, _*_, _^_, _≤_, _<_};
 ghost use lib.ListN.{length};
-ghost use Rattle.laws.specs.Lists.{cat};
+ghost use Rattle.laws.specs.Lists.{concat};
 ghost use Rattle.laws.specs.Bytes.{part, le32};
 ghost use Rattle.reader.specs.State.{Note};
 ghost use Rattle.reader.specs.Records.{noteBytes, pitchBytes, section};
@@ -167,7 +167,7 @@ pub fn write_pitches(
 ) -> Wrote
     requires { ⌜ (heads + 28 * n ≤ length (now store)) × (notes + 16 * total (now store) heads n ≤ length (now store)) × (pitches + 5 * pitchTotal (now store) notes (total (now store) heads n) ≤ length (now store)) × (count < 2 ^ 32) ⌝ }
     ensures { λ r. ⌜ WroteIs (now (to .entry)) (le32 count ++ pitchesOut (now (store .entry)) heads notes pitches n) (now (to .exit)) r ⌝ }
-    ensures { λ r. ⌜ ((ms : List Head) (log : List (ℕ × Note)) → PitchesIn (now (store .entry)) heads n notes pitches count ms log → WroteIs (now (to .entry)) (section pitchBytes (cat (map (λ (x : ℕ × Note). x .1 .pitches) (inOrder ms log)))) (now (to .exit)) r) ⌝ }
+    ensures { λ r. ⌜ ((ms : List Head) (log : List (ℕ × Note)) → PitchesIn (now (store .entry)) heads n notes pitches count ms log → WroteIs (now (to .entry)) (section pitchBytes (concat (map (λ (x : ℕ × Note). x .1 .pitches) (inOrder ms log)))) (now (to .exit)) r) ⌝ }
 {
     let Wrote::To(at) = store_sections::write_u32(to, count as u32) else {
         return Wrote::NoRoom;
@@ -214,7 +214,7 @@ pub fn write_music(
 ) -> Wrote
     requires { ⌜ (heads + 28 * n ≤ length (now store)) × (n < 2 ^ 32) × (notes + 16 * total (now store) heads n ≤ length (now store)) × (count < 2 ^ 32) × (pitches + 5 * pitchTotal (now store) notes (total (now store) heads n) ≤ length (now store)) × (sounds < 2 ^ 32) ⌝ }
     ensures { λ r. ⌜ WroteIs (now (to .entry)) (musicOut (now (store .entry)) heads n notes count pitches sounds) (now (to .exit)) r ⌝ }
-    ensures { λ r. ⌜ ((ms : List Head) (log : List (ℕ × Note)) → PitchesIn (now (store .entry)) heads n notes pitches sounds ms log → length log ≡ count → WroteIs (now (to .entry)) (section headBytes ms ++ section (λ (x : ℕ × Note). noteBytes (x .1)) (inOrder ms log) ++ section pitchBytes (cat (map (λ (x : ℕ × Note). x .1 .pitches) (inOrder ms log)))) (now (to .exit)) r) ⌝ }
+    ensures { λ r. ⌜ ((ms : List Head) (log : List (ℕ × Note)) → PitchesIn (now (store .entry)) heads n notes pitches sounds ms log → length log ≡ count → WroteIs (now (to .entry)) (section headBytes ms ++ section (λ (x : ℕ × Note). noteBytes (x .1)) (inOrder ms log) ++ section pitchBytes (concat (map (λ (x : ℕ × Note). x .1 .pitches) (inOrder ms log)))) (now (to .exit)) r) ⌝ }
 {
     let Wrote::To(at) = write_measures_notes(store, heads, n, notes, count, to) else {
         return Wrote::NoRoom;

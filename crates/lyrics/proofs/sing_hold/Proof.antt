@@ -16,8 +16,8 @@ add-mark c = search needs
 sub-mark : tie.Need-sub-mark
 sub-mark c = search needs
 
-mark-requires : tie.Need-mark-requires
-mark-requires c κs = (c .before .before .before .before .pre .0, omega arith, omega arith)
+append-row-requires : tie.Need-append-row-requires
+append-row-requires c κs = (c .before .before .before .before .pre .0, omega arith, omega arith)
 
 add-t10 : tie.Need-add-t10
 add-t10 c = search needs
@@ -28,7 +28,7 @@ same-length c = search needs
 returns-2 : tie.Need-returns-2
 returns-2 c =
     let a = c .before .before .before .before .before .before .before .args in
-    sung-hold (a .scratch .now) _ (a .sheet) (a .line) (a .taken) _ (c .before .before .before .before .before .if1 .left) (c .before .before .mark .ensures)
+    sung-hold (a .scratch .now) _ (a .sheet) (a .line) (a .taken) _ (c .before .before .before .before .before .if1 .left) (c .before .before .append-row .ensures)
 
 pub sing-hold-spec : {M : Type 1} → statement M
 sing-hold-spec =
@@ -37,7 +37,7 @@ sing-hold-spec =
     returns
     add-mark
     sub-mark
-    mark-requires
+    append-row-requires
     add-t10
     same-length
     returns-2)

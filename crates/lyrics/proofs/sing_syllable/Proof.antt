@@ -13,8 +13,8 @@ cast-t11 c = search needs
 add-mark : tie.Need-add-mark
 add-mark c = search needs
 
-mark-requires : tie.Need-mark-requires
-mark-requires c κs = (c .before .before .before .pre .0, c .before .before .before .pre .2, c .before .before .before .pre .3)
+append-row-requires : tie.Need-append-row-requires
+append-row-requires c κs = (c .before .before .before .pre .0, c .before .before .before .pre .2, c .before .before .before .pre .3)
 
 add-t14 : tie.Need-add-t14
 add-t14 c = search needs
@@ -25,7 +25,7 @@ same-length c = search needs
 returns : tie.Need-returns
 returns c =
     let a = c .before .before .before .before .before .before .args in
-    sung-syllable (a .scratch .now) (a .sheet) (a .line) (a .taken) _ _ (a .at) (a .end) (a .code) (c .before .before .before .before .before .before .pre .4) (c .before .before .mark .ensures)
+    sung-syllable (a .scratch .now) (a .sheet) (a .line) (a .taken) _ _ (a .at) (a .end) (a .code) (c .before .before .before .before .before .before .pre .4) (c .before .before .append-row .ensures)
 
 pub sing-syllable-spec : {M : Type 1} → statement M
 sing-syllable-spec =
@@ -34,7 +34,7 @@ sing-syllable-spec =
     cast-t10
     cast-t11
     add-mark
-    mark-requires
+    append-row-requires
     add-t14
     same-length
     returns)

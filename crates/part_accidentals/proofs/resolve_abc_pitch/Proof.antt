@@ -22,13 +22,13 @@ returns : tie.Need-returns
 returns c =
     let a = c .before .before .before .before .before .before .before .before .before .before .before .before .args in
     let pre = c .before .before .before .before .before .before .before .before .before .before .before .before .pre in
-    by-revised (a .store .now) (a .at) (a .count) (a .state) (a .voice) (a .pitch) (pre .0) _ (c .before .before .before .before .before .before .before .before .find-accidental .ensures) _ _ (c .before .before .before .before .before .before .mark .given .1) (pre .4) (omega arith) _ (c .before .before .revise .ensures)
+    by-revised (a .store .now) (a .at) (a .count) (a .state) (a .voice) (a .pitch) (pre .0) _ (c .before .before .before .before .before .before .before .before .find-accidental .ensures) _ _ (c .before .before .before .before .before .before .sign .given .1) (pre .4) (omega arith) _ (c .before .before .revise .ensures)
 
 put-accidental-requires : tie.Need-put-accidental-requires
-put-accidental-requires c κs = omega (arith, c .before .before .before .before .before .before .before .before .before .pre .2, ap signs (c .before .before .before .mark .given .1))
+put-accidental-requires c κs = omega (arith, c .before .before .before .before .before .before .before .before .before .pre .2, ap signs (c .before .before .before .sign .given .1))
 
 add-next : tie.Need-add-next
-add-next c = omega (arith, c .before .before .before .before .before .before .before .before .before .before .before .before .pre .3, ap signs (c .before .before .before .before .before .before .mark .given .1))
+add-next c = omega (arith, c .before .before .before .before .before .before .before .before .before .before .before .before .pre .3, ap signs (c .before .before .before .before .before .before .sign .given .1))
 
 accidental-at-requires : tie.Need-accidental-at-requires
 accidental-at-requires c κs =
@@ -47,7 +47,7 @@ returns-3 : tie.Need-returns-3
 returns-3 c =
     let a = c .before .before .before .before .before .before .before .before .before .before .before .before .before .args in
     let pre = c .before .before .before .before .before .before .before .before .before .before .before .before .before .pre in
-    by-new (a .store .now) (a .at) (a .count) (a .state) (a .voice) (a .pitch) (pre .0) _ (c .before .before .before .before .before .before .before .before .before .find-accidental .ensures) _ _ (c .before .before .before .before .before .before .before .mark .given .1) _ (c .before .before .before .put-accidental .ensures) (pre .2) (pre .3) _ (c .enter .ensures)
+    by-new (a .store .now) (a .at) (a .count) (a .state) (a .voice) (a .pitch) (pre .0) _ (c .before .before .before .before .before .before .before .before .before .find-accidental .ensures) _ _ (c .before .before .before .before .before .before .before .sign .given .1) _ (c .before .before .before .put-accidental .ensures) (pre .2) (pre .3) _ (c .enter .ensures)
 
 returns-4 : tie.Need-returns-4
 returns-4 c =

@@ -40,7 +40,7 @@ after-note-requires : tie.Need-after-note-requires
 after-note-requires c κs =
     let room = c .before .before .before .before .before .before .before .before .before .before .before .before .before .before .before .before .before .before .before .before .before .before .pre .0 in
     let able = c .before .before .before .before .before .before .before .before .before .before .before .before .before .before .before .before .before .before .before .before .before .before .pre .1 in
-    (append-overlay room able, omega (arith, room), able .held .sounded-most)
+    (append-overlay room able, omega (arith, room), able .represents .sounded-most)
 
 same-length : tie.Need-same-length
 same-length c =

@@ -13,31 +13,31 @@ returns : tie.Need-returns
 returns c =
     let a = c .before .before .before .before .before .before .before .before .before .before .before .args in
     let room = c .before .before .before .before .before .before .before .before .before .before .before .pre .0 in
-    let held = c .before .before .before .before .before .before .before .before .before .before .before .pre .1 in
-    λ b d f. does-as (c .end-measure .ensures) (empty-does room held b (a .opens) _ (c .before .before .before .before .before .before .is-empty .ensures) (c .before .before .before .before .before .if1 .taken) (a .right) d _ (c .before .before .before .set-empty-left .ensures))
+    let represents = c .before .before .before .before .before .before .before .before .before .before .before .pre .1 in
+    λ b d f. does-as (c .end-measure .ensures) (empty-does room represents b (a .opens) _ (c .before .before .before .before .before .before .is-empty .ensures) (c .before .before .before .before .before .if1 .taken) (a .right) d _ (c .before .before .before .set-empty-left .ensures))
 
 put-head-requires : tie.Need-put-head-requires
 put-head-requires c κs =
     let a = c .before .before .before .before .before .before .before .before .before .before .before .before .before .before .args in
     let room = c .before .before .before .before .before .before .before .before .before .before .before .before .before .before .pre .0 in
-    let held = c .before .before .before .before .before .before .before .before .before .before .before .before .before .before .pre .1 in
-    omega (arith, room, held-heads held, length-spliced _ _ _ _ (c .before .before .before .before .before .set-right .ensures))
+    let represents = c .before .before .before .before .before .before .before .before .before .before .before .before .before .before .pre .1 in
+    omega (arith, room, held-heads represents, length-spliced _ _ _ _ (c .before .before .before .before .before .set-right .ensures))
 
 returns-2 : tie.Need-returns-2
 returns-2 c =
     let a = c .before .before .before .before .before .before .before .before .before .before .before .before .before .before .before .before .before .before .args in
     let room = c .before .before .before .before .before .before .before .before .before .before .before .before .before .before .before .before .before .before .pre .0 in
-    let held = c .before .before .before .before .before .before .before .before .before .before .before .before .before .before .before .before .before .before .pre .1 in
+    let represents = c .before .before .before .before .before .before .before .before .before .before .before .before .before .before .before .before .before .before .pre .1 in
     λ b d f.
     does-as (c .open-measure .ensures)
-    (opens-does room held b (a .opens) _ (c .before .before .before .before .before .before .before .before .before .before .before .before .before .is-empty .ensures) (c .before .before .before .before .before .before .before .before .before .before .before .before .if1 .left) (a .right) d _ (c .before .before .before .before .before .before .before .before .before .before .barline-code .ensures) _ (c .before .before .before .before .before .before .before .before .before .set-right .ensures) (c .before .before .before .before .before .before .if2 .taken) (a .left) f _ (c .before .before .before .before .barline-code2 .ensures) _ (c .before .before .before .put-head .ensures))
+    (opens-does room represents b (a .opens) _ (c .before .before .before .before .before .before .before .before .before .before .before .before .before .is-empty .ensures) (c .before .before .before .before .before .before .before .before .before .before .before .before .if1 .left) (a .right) d _ (c .before .before .before .before .before .before .before .before .before .before .barline-code .ensures) _ (c .before .before .before .before .before .before .before .before .before .set-right .ensures) (c .before .before .before .before .before .before .if2 .taken) (a .left) f _ (c .before .before .before .before .barline-code2 .ensures) _ (c .before .before .before .put-head .ensures))
 
 returns-3 : tie.Need-returns-3
 returns-3 c =
     let a = c .before .before .before .before .before .before .before .before .before .before .before .before .before .args in
     let room = c .before .before .before .before .before .before .before .before .before .before .before .before .before .pre .0 in
-    let held = c .before .before .before .before .before .before .before .before .before .before .before .before .before .pre .1 in
-    λ b d f. does-as (c .end-measure2 .ensures) (closed-does room held b (a .opens) _ (c .before .before .before .before .before .before .before .before .is-empty .ensures) (c .before .before .before .before .before .before .before .if1 .left) (a .right) d _ (c .before .before .before .before .before .barline-code .ensures) _ (c .before .before .before .before .set-right .ensures) (c .before .if2 .left))
+    let represents = c .before .before .before .before .before .before .before .before .before .before .before .before .before .pre .1 in
+    λ b d f. does-as (c .end-measure2 .ensures) (closed-does room represents b (a .opens) _ (c .before .before .before .before .before .before .before .before .is-empty .ensures) (c .before .before .before .before .before .before .before .if1 .left) (a .right) d _ (c .before .before .before .before .before .barline-code .ensures) _ (c .before .before .before .before .set-right .ensures) (c .before .if2 .left))
 
 pub on-barline-spec : {M : Type 1} → statement M
 on-barline-spec = tie.close (tie.spec sub-i (λ c. search needs) (λ c κs. search needs) (λ c κs. search needs) (λ c κs. search needs) (λ c. search needs) returns (λ c κs. search needs) (λ c κs. search needs) (λ c. search needs) (λ c κs. search needs) put-head-requires (λ c κs. search needs) (λ c. search needs) returns-2 (λ c κs. search needs) (λ c. search needs) returns-3)

@@ -1,7 +1,7 @@
 -- `part_body::on_token` meets its contract: an arm for each token.
 use borrow.Author.Needs.{needs}
 use Rattle.part_sounds.proofs.Leaving.{kept-leaves, rest-leaves}
-use Rattle.part_body.specs.Body.{Ready, Acts}
+use Rattle.part_body.specs.Body.{Ready, SimulatesToken}
 use Rattle.part_body.proofs.Tokens.{does-nothing}
 use Rattle.part_body.proofs.on_token.Statement.{statement}
 use Rattle.part_body.proofs.on_token.Tie as tie
@@ -26,103 +26,103 @@ on-key-requires : tie.Need-on-key-requires
 unfolding Ready
 on-key-requires c κs = rw (c .before .before .token7 .given .1) at (c .before .before .before .before .before .before .pre)
 
-append-chord-requires : tie.Need-append-chord-requires
+append-abc-chord-note-requires : tie.Need-append-abc-chord-note-requires
 unfolding Ready
-append-chord-requires c κs = rw (c .before .before .token8 .given .1) at (c .before .before .before .before .before .before .pre)
+append-abc-chord-note-requires c κs = rw (c .before .before .token8 .given .1) at (c .before .before .before .before .before .before .pre)
 
-append-note-requires : tie.Need-append-note-requires
+append-abc-pitched-note-requires : tie.Need-append-abc-pitched-note-requires
 unfolding Ready
-append-note-requires c κs = rw (c .before .before .token10 .given .1) at (c .before .before .before .before .before .before .pre)
+append-abc-pitched-note-requires c κs = rw (c .before .before .token10 .given .1) at (c .before .before .before .before .before .before .pre)
 
 on-nothing-requires : tie.Need-on-nothing-requires
 unfolding Ready
 on-nothing-requires c κs = rw (c .before .enum-told9 .given .1) at (c .before .before .before .before .before .pre)
 
 returns : tie.Need-returns
-unfolding Acts
-returns c = rw (c .before .before .enum-told .given .1) (kept-leaves (c .keep .ensures) (c .before .on-space .ensures (c .before .before .before .before .before .before .args .t) (c .before .before .before .before .before .before .args .store .now)))
+unfolding SimulatesToken
+returns c = rw (c .before .before .enum-told .given .1) (kept-leaves (c .defer-nothing .ensures) (c .before .on-space .ensures (c .before .before .before .before .before .before .args .t) (c .before .before .before .before .before .before .args .store .now)))
 
 returns-2 : tie.Need-returns-2
-unfolding Acts
+unfolding SimulatesToken
 returns-2 c = rw (c .before .before .enum-told2 .given .1) (kept-leaves (c .keep2 .ensures) (c .before .on-overlay .ensures (c .before .before .before .before .before .before .args .t) (c .before .before .before .before .before .before .args .store .now)))
 
 returns-3 : tie.Need-returns-3
-unfolding Acts
+unfolding SimulatesToken
 returns-3 c = rw (c .before .enum-told3 .given .1) (kept-leaves (c .keep3 .ensures) (does-nothing (c .before .before .before .before .before .args .t) (c .before .before .before .before .before .args .store .now) (c .before .before .before .before .before .args .r)))
 
 returns-4 : tie.Need-returns-4
-unfolding Acts
+unfolding SimulatesToken
 returns-4 c = rw (c .before .before .before .before .before .before .token .given .1) (kept-leaves (c .keep4 .ensures) (c .before .before .before .on-broken .ensures))
 
 returns-5 : tie.Need-returns-5
-unfolding Acts
+unfolding SimulatesToken
 returns-5 c = rw (c .before .before .before .token2 .given .1) (kept-leaves (c .keep5 .ensures) (c .before .on-tuplet .ensures (c .before .before .before .before .before .before .before .args .t) (c .before .before .before .before .before .before .before .args .store .now)))
 
 returns-6 : tie.Need-returns-6
-unfolding Acts
+unfolding SimulatesToken
 returns-6 c = rw (c .before .before .enum-told4 .given .1) (kept-leaves (c .keep6 .ensures) (c .before .on-slur .ensures (c .before .before .before .before .before .before .args .t) (c .before .before .before .before .before .before .args .store .now)))
 
 returns-7 : tie.Need-returns-7
-unfolding Acts
+unfolding SimulatesToken
 returns-7 c = rw (c .before .before .enum-told5 .given .1) (kept-leaves (c .keep7 .ensures) (c .before .on-grace-open .ensures (c .before .before .before .before .before .before .args .t) (c .before .before .before .before .before .before .args .store .now)))
 
 returns-8 : tie.Need-returns-8
-unfolding Acts
+unfolding SimulatesToken
 returns-8 c = rw (c .before .before .enum-told6 .given .1) (kept-leaves (c .keep8 .ensures) (c .before .on-grace-close .ensures (c .before .before .before .before .before .before .args .t) (c .before .before .before .before .before .before .args .store .now)))
 
 returns-9 : tie.Need-returns-9
-unfolding Acts
+unfolding SimulatesToken
 returns-9 c = rw (c .before .enum-told7 .given .1) (kept-leaves (c .keep9 .ensures) (does-nothing (c .before .before .before .before .before .args .t) (c .before .before .before .before .before .args .store .now) (c .before .before .before .before .before .args .r)))
 
 returns-10 : tie.Need-returns-10
-unfolding Acts
+unfolding SimulatesToken
 returns-10 c = rw (c .before .before .before .before .before .before .token3 .given .1) (kept-leaves (c .keep10 .ensures) (c .before .before .before .on-barline .ensures))
 
 returns-11 : tie.Need-returns-11
-unfolding Acts
+unfolding SimulatesToken
 returns-11 c = rw (c .before .before .before .before .before .before .token4 .given .1) (kept-leaves (c .keep11 .ensures) (c .before .before .before .on-volta .ensures))
 
 returns-12 : tie.Need-returns-12
-unfolding Acts
+unfolding SimulatesToken
 returns-12 c = rw (c .before .before .before .token5 .given .1) (kept-leaves (c .keep12 .ensures) (c .before .on-unit .ensures (c .before .before .before .before .before .before .before .args .t) (c .before .before .before .before .before .before .before .args .store .now)))
 
 returns-13 : tie.Need-returns-13
-unfolding Acts
+unfolding SimulatesToken
 returns-13 c = rw (c .before .before .before .before .before .before .token6 .given .1) (kept-leaves (c .keep13 .ensures) (c .before .before .before .on-meter .ensures))
 
 returns-14 : tie.Need-returns-14
-unfolding Acts
+unfolding SimulatesToken
 returns-14 c = rw (c .before .before .before .before .before .before .token7 .given .1) (kept-leaves (c .keep14 .ensures) (c .before .before .before .on-key .ensures))
 
 returns-15 : tie.Need-returns-15
-unfolding Acts
+unfolding SimulatesToken
 returns-15 c = rw (c .before .enum-told8 .given .1) (kept-leaves (c .keep15 .ensures) (does-nothing (c .before .before .before .before .before .args .t) (c .before .before .before .before .before .args .store .now) (c .before .before .before .before .before .args .r)))
 
 returns-16 : tie.Need-returns-16
-unfolding Acts
-returns-16 c = rw (c .before .before .before .before .before .token8 .given .1) (c .before .before .append-chord .ensures)
+unfolding SimulatesToken
+returns-16 c = rw (c .before .before .before .before .before .token8 .given .1) (c .before .before .append-abc-chord-note .ensures)
 
 returns-17 : tie.Need-returns-17
-unfolding Ready Acts
+unfolding Ready SimulatesToken
 returns-17 c =
     let e = c .before .before .token9 .given .1 in
     let ready = rw e at (c .before .before .before .before .before .before .pre) in
-    rw e (rest-leaves (c .append-rest .ensures) (ready .0) (ready .1))
+    rw e (rest-leaves (c .append-abc-rest-note .ensures) (ready .0) (ready .1))
 
 returns-18 : tie.Need-returns-18
-unfolding Acts
-returns-18 c = rw (c .before .before .before .before .before .token10 .given .1) (c .before .before .append-note .ensures)
+unfolding SimulatesToken
+returns-18 c = rw (c .before .before .before .before .before .token10 .given .1) (c .before .before .append-abc-pitched-note .ensures)
 
 returns-19 : tie.Need-returns-19
-unfolding Acts
+unfolding SimulatesToken
 returns-19 c = rw (c .before .before .before .before .before .enum-told9 .given .1) (kept-leaves (c .keep16 .ensures) (c .before .before .before .on-nothing .ensures))
 
 returns-20 : tie.Need-returns-20
-unfolding Acts
+unfolding SimulatesToken
 returns-20 c = rw (c .before .enum-told10 .given .1) (kept-leaves (c .keep17 .ensures) (does-nothing (c .before .before .before .before .before .args .t) (c .before .before .before .before .before .args .store .now) (c .before .before .before .before .before .args .r)))
 
 returns-21 : tie.Need-returns-21
-unfolding Acts
+unfolding SimulatesToken
 returns-21 c = rw (c .before .enum-told11 .given .1) (kept-leaves (c .keep18 .ensures) (does-nothing (c .before .before .before .before .before .args .t) (c .before .before .before .before .before .args .store .now) (c .before .before .before .before .before .args .r)))
 
 pub on-token-spec : {M : Type 1} → statement M
@@ -172,11 +172,11 @@ on-token-spec =
     (λ c. search needs)
     (λ c κs. search needs)
     (λ c. search needs)
-    append-chord-requires
+    append-abc-chord-note-requires
     (λ c. search needs)
     (λ c κs. search needs)
     (λ c. search needs)
-    append-note-requires
+    append-abc-pitched-note-requires
     (λ c. search needs)
     on-nothing-requires
     (λ c κs. search needs)

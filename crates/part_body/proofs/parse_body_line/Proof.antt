@@ -29,8 +29,8 @@ on-token-requires c κs =
     let p = c .before .before .before .before .before .before .before .before .before .before .before .before .before .pre in
     going-ready (begun (a .unit) (a .top, a .bottom) (c .before .before .before .before .before .before .before .before .begin-line .ensures .0) (p .0) (p .1)) (c .before .before .before .before .before .loop .inv) (c .before .before .before .before .loop-test .taken) _ (c .before .token-at .ensures)
 
-append-left-requires : tie.Need-append-left-requires Inv-loop μ-loop
-append-left-requires c κs = c .before .before .before .on-token .ensures .able
+append-deferred-requires : tie.Need-append-deferred-requires Inv-loop μ-loop
+append-deferred-requires c κs = c .before .before .before .on-token .ensures .able
 
 loop-less : tie.Need-loop-less Inv-loop μ-loop
 loop-less c =
@@ -44,7 +44,7 @@ loop-again : tie.Need-loop-again Inv-loop μ-loop
 loop-again c =
     let a = c .before .before .before .before .before .before .before .before .before .before .before .before .before .before .before .before .before .before .before .before .args in
     let p = c .before .before .before .before .before .before .before .before .before .before .before .before .before .before .before .before .before .before .before .before .pre in
-    going-turn (begun (a .unit) (a .top, a .bottom) (c .before .before .before .before .before .before .before .before .before .before .before .before .before .before .before .begin-line .ensures .0) (p .0) (p .1)) (c .before .before .before .before .before .before .before .before .before .before .before .before .loop .inv) (c .before .before .before .before .before .before .before .before .before .before .before .loop-test .taken) _ (c .before .before .before .before .before .before .before .before .token-at .ensures) _ _ (c .before .before .before .before .before .before .on-token .ensures .done _ _ (c .before .before .append-left .ensures))
+    going-turn (begun (a .unit) (a .top, a .bottom) (c .before .before .before .before .before .before .before .before .before .before .before .before .before .before .before .begin-line .ensures .0) (p .0) (p .1)) (c .before .before .before .before .before .before .before .before .before .before .before .before .loop .inv) (c .before .before .before .before .before .before .before .before .before .before .before .loop-test .taken) _ (c .before .before .before .before .before .before .before .before .token-at .ensures) _ _ (c .before .before .before .before .before .before .on-token .ensures .done _ _ (c .before .before .append-deferred .ensures))
 
 same-length : tie.Need-same-length Inv-loop μ-loop
 same-length c = c .before .loop .inv .only .same-length ∙ c .before .before .before .before .begin-line .ensures .0 .only .same-length
@@ -65,7 +65,7 @@ parse-body-line-spec =
     loop-holds
     token-at-requires
     on-token-requires
-    append-left-requires
+    append-deferred-requires
     loop-less
     loop-again
     same-length

@@ -13,7 +13,7 @@ returns : tie.Need-returns
 returns c =
     let d = c .before .before .before .before .before .before .before .before .drop-empty .ensures in
     let k = c .before .before .before .before .before .before .close-abc-volta-spans .ensures in
-    let f = c .before .before .mark-first .ensures in (
+    let f = c .before .before .mark-first-key .ensures in (
       (d .0, only-then (only-wider (k .0) _ _ (omega arith) (omega (arith, d .0))) (only-wider (f .0) _ _ (omega arith) (omega (arith, d .0)))),
       λ heads t h small.
           let (n, u) = d .1 heads t h small in

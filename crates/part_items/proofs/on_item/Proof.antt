@@ -12,7 +12,7 @@ returns c =
     let a = c .before .before .before .before .before .args in
     let header : Key = record { fifths = a .fifths; minor = a .minor } in
     let is = c .before .before .before .before .before .pre .1 in
-    taken-born (a .text .now) (a .t) header (a .i) (a .store .now) (a .r) (a .row) is (c .before .before .if1 .taken) (c .on-born .ensures (a .t) (a .store .now))
+    taken-born (a .text .now) (a .t) header (a .i) (a .store .now) (a .r) (a .row) is (c .before .before .if1 .taken) (c .on-voice-declared .ensures (a .t) (a .store .now))
 
 returns-2 : tie.Need-returns-2
 returns-2 c =
@@ -26,7 +26,7 @@ returns-3 c =
     let a = c .before .before .before .before .before .before .args in
     let header : Key = record { fifths = a .fifths; minor = a .minor } in
     let is = c .before .before .before .before .before .before .pre .1 in
-    taken-headed (a .text .now) (a .t) header (a .i) (a .store .now) (a .r) (a .row) is (c .before .if3 .taken) (c .on-headed .ensures (a .t) (a .store .now))
+    taken-headed (a .text .now) (a .t) header (a .i) (a .store .now) (a .r) (a .row) is (c .before .if3 .taken) (c .on-header-key .ensures (a .t) (a .store .now))
 
 returns-4 : tie.Need-returns-4
 returns-4 c =

@@ -15,7 +15,7 @@ returns-2 c =
     let a = c .before .before .before .before .before .before .before .before .before .before .before .before .args in
     takes-as (c .hear2 .ensures)
     (key-some (c .before .before .before .before .before .before .before .before .before .before .before .before .pre .0) (record { fifths = a .fifths; minor = a .minor }) (record { fifths = a .sharps; minor = a .mode }) (omega (arith, c .before .before .before .before .before .before .before .before .if1 .left)) (c .before .before .before .before .before .before .before .before .before .before .before .before .pre .1) _ _ _
-    (c .before .before .before .before .before .mode-code .ensures) (c .before .before .before .before .signed .ensures) (c .before .before .before .set-mark .ensures))
+    (c .before .before .before .before .before .mode-code .ensures) (c .before .before .before .before .signed .ensures) (c .before .before .before .set-key-mark .ensures))
 
 pub on-key-spec : {M : Type 1} → statement M
 on-key-spec = tie.close (tie.spec (λ c κs. search needs) returns (λ c. search needs) (λ c. search needs) (λ c κs. search needs) (λ c κs. search needs) (λ c κs. search needs) (λ c κs. search needs) (λ c. search needs) returns-2)

@@ -4,7 +4,7 @@ use mathlib.Core.Path.{_≡_}
 use native.Mathlib.Omega.{arith}
 use borrow.Author.Needs.{needs}
 use lib.ListN.{length, drop}
-use Rattle.reader.specs.Steps.{mine}
+use Rattle.reader.specs.Steps.{itemsOf}
 use Rattle.capacity.specs.Music.{musicOf}
 use Rattle.scan_table.specs.Rows.{itemsIn}
 use Rattle.part_sizing.specs.Counting.{madeOf, more}
@@ -13,7 +13,7 @@ use Rattle.part_sizing.proofs.made_by.Statement.{statement}
 use Rattle.part_sizing.proofs.made_by.Tie as tie
 
 abbrev Inv-loop : tie.InvT-loop
-Inv-loop text scratch n part q₀ i₀ q i = (i ≤ n) × (more q (musicOf (mine part (drop i (itemsIn text scratch n)))) ≡ madeOf (musicOf (mine part (itemsIn text scratch n))))
+Inv-loop text scratch n part q₀ i₀ q i = (i ≤ n) × (more q (musicOf (itemsOf part (drop i (itemsIn text scratch n)))) ≡ madeOf (musicOf (itemsOf part (itemsIn text scratch n))))
 
 abbrev μ-loop : tie.MeasureT-loop
 μ-loop text scratch n part q₀ i₀ q i = n - i

@@ -1,7 +1,7 @@
 -- `scan_fields::set_key` meets its contract: one item more.
 use mathlib.Core.Path.{refl, _∙_}
 use native.Mathlib.Omega.{arith}
-use Rattle.reader.specs.Scan.{act, keyed}
+use Rattle.reader.specs.Scan.{act, keyChange}
 use Rattle.scan_table.specs.Rows.{itemIn, itemAs, itemsIn}
 use Rattle.scan_states.proofs.Items.{one-item}
 use borrow.Author.Needs.{needs}
@@ -23,7 +23,7 @@ returns-2 c =
     let a = c .before .before .before .before .before .before .before .args in
     λ text. record {
       is = c .before .before .add-item2 .ensures .1 text
-          ∙ rw (c .before .before .before .before .before .if1 .left) (one-item (itemsIn text (a .scratch .now) (a .st .items)) _ _ _ (λ i. (a .st .part, keyed (record { fifths = a .k .fifths; minor = c .before .before .before .before .flag .ensures i }))));
+          ∙ rw (c .before .before .before .before .before .if1 .left) (one-item (itemsIn text (a .scratch .now) (a .st .items)) _ _ _ (λ i. (a .st .part, keyChange (record { fifths = a .k .fifths; minor = c .before .before .before .before .flag .ensures i }))));
       follows = rw (c .before .before .add-item2 .ensures .0) (refl, (omega arith, (omega arith, omega arith)));
     }
 

@@ -1,7 +1,7 @@
 -- `scan_states::lyric_line` meets its contract.
 use mathlib.Core.Path.{refl, _∙_}
 use native.Mathlib.Omega.{arith}
-use Rattle.reader.specs.Scan.{act, sung}
+use Rattle.reader.specs.Scan.{act, lyricLine}
 use Rattle.scan_table.specs.Rows.{itemIn, itemAs, itemsIn}
 use Rattle.scan_states.proofs.Items.{stays, one-item, words}
 use borrow.Author.Needs.{needs}
@@ -19,7 +19,7 @@ unfolding act itemIn itemAs
 returns-2 c =
     let a = c .before .before .before .before .before .before .before .before .args in
     λ text. record {
-      is = c .before .before .add-item .ensures .1 text ∙ rw (c .before .before .before .before .before .before .if1 .left) (one-item (itemsIn text (a .scratch .now) (a .st .items)) _ _ _ (λ i. (a .st .part, sung (c .before .before .before .before .flag .ensures i) (words text (a .from) (a .end) i))));
+      is = c .before .before .add-item .ensures .1 text ∙ rw (c .before .before .before .before .before .before .if1 .left) (one-item (itemsIn text (a .scratch .now) (a .st .items)) _ _ _ (λ i. (a .st .part, lyricLine (c .before .before .before .before .flag .ensures i) (words text (a .from) (a .end) i))));
       follows = rw (c .before .before .add-item .ensures .0) (refl, (omega arith, (omega arith, omega arith)));
     }
 

@@ -39,8 +39,8 @@ returns-2 c =
     chord-empty (s .args .line .now) (s .args .at) (s .args .close) (s .pre .0) (s .pre .1) (k .count .given .0 .1 .0) (c .before .parse-duration-suffix .result) (c .before .parse-duration-suffix .ensures)
     (rw (c .if1 .taken) at (sym (k .before .before .parse-abc-chord .ensures) ∙ k .count .given .1))
 
-note-annotations-requires : tie.Need-note-annotations-requires
-note-annotations-requires c κs = search needs
+apply-abc-note-annotations-requires : tie.Need-apply-abc-note-annotations-requires
+apply-abc-note-annotations-requires c κs = search needs
 
 add-t10 : tie.Need-add-t10
 add-t10 c = search needs
@@ -50,7 +50,7 @@ returns-3 c =
     let k = c .before .before .before .before in
     let s = k .before .before .before .before in
     chord-full (s .args .line .now) (s .args .at) (s .args .close) (s .pre .0) (s .pre .1) (k .count .given .0 .1 .0) (c .before .before .parse-duration-suffix .result) (c .before .before .parse-duration-suffix .ensures)
-    (k .count .given .0 .0) (c .before .if1 .left) (c .note-annotations .result) (c .note-annotations .ensures) (sym (k .before .before .parse-abc-chord .ensures) ∙ k .count .given .1)
+    (k .count .given .0 .0) (c .before .if1 .left) (c .apply-abc-note-annotations .result) (c .apply-abc-note-annotations .ensures) (sym (k .before .before .parse-abc-chord .ensures) ∙ k .count .given .1)
 
 pub chord-spec : {M : Type 1} → statement M
 chord-spec =
@@ -63,6 +63,6 @@ chord-spec =
     returns
     parse-duration-suffix-requires
     returns-2
-    note-annotations-requires
+    apply-abc-note-annotations-requires
     add-t10
     returns-3)

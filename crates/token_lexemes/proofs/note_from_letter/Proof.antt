@@ -33,7 +33,7 @@ returns c =
     let n = p .before .before in
     let s = n .before .before .before in
     let e : isPlain (getD (s .args .line .now) (s .args .at + 1) 0) ≡ true = ap isPlain (sym (p .before .byte-at .ensures)) ∙ sym (p .is-plain .ensures) ∙ c .if1 .taken in
-    letter-plain (s .args .line .now) (s .args .at) (s .pre) (s .args .mark) (n .abc-note-char .result) (n .abc-note-char .ensures) e
+    letter-plain (s .args .line .now) (s .args .at) (s .pre) (s .args .sign) (n .abc-note-char .result) (n .abc-note-char .ensures) e
 
 add-octave-marks : tie.Need-add-octave-marks
 add-octave-marks c = search needs
@@ -52,13 +52,13 @@ returns-2 c =
     let o = c .before .before in
     let n = o .before .before .before .before in
     let s = n .before .before .before in
-    letter-out (s .args .line .now) (s .args .at) (s .pre) (s .args .mark) (n .abc-note-char .result) (n .abc-note-char .ensures) (sym (o .octave-marks .ensures) ∙ c .enum-told .given .1)
+    letter-out (s .args .line .now) (s .args .at) (s .pre) (s .args .sign) (n .abc-note-char .result) (n .abc-note-char .ensures) (sym (o .octave-marks .ensures) ∙ c .enum-told .given .1)
 
 parse-duration-suffix-requires : tie.Need-parse-duration-suffix-requires
 parse-duration-suffix-requires c κs = search needs
 
-note-annotations-requires : tie.Need-note-annotations-requires
-note-annotations-requires c κs = search needs
+apply-abc-note-annotations-requires : tie.Need-apply-abc-note-annotations-requires
+apply-abc-note-annotations-requires c κs = search needs
 
 returns-3 : tie.Need-returns-3
 returns-3 c =
@@ -66,8 +66,8 @@ returns-3 c =
     let n = o .before .before .before .before in
     let s = n .before .before .before in
     let g = c .before .before .before .octave .given in
-    letter-in (s .args .line .now) (s .args .at) (s .pre) (s .args .mark) (n .abc-note-char .result) (n .abc-note-char .ensures) (g .0 .0) (g .0 .1 .0) (sym (o .octave-marks .ensures) ∙ g .1)
-    (c .before .parse-duration-suffix .result) (c .before .parse-duration-suffix .ensures) (c .note-annotations .result) (c .note-annotations .ensures)
+    letter-in (s .args .line .now) (s .args .at) (s .pre) (s .args .sign) (n .abc-note-char .result) (n .abc-note-char .ensures) (g .0 .0) (g .0 .1 .0) (sym (o .octave-marks .ensures) ∙ g .1)
+    (c .before .parse-duration-suffix .result) (c .before .parse-duration-suffix .ensures) (c .apply-abc-note-annotations .result) (c .apply-abc-note-annotations .ensures)
 
 pub note-from-letter-spec : {M : Type 1} → statement M
 note-from-letter-spec =
@@ -86,5 +86,5 @@ note-from-letter-spec =
     enum-told
     returns-2
     parse-duration-suffix-requires
-    note-annotations-requires
+    apply-abc-note-annotations-requires
     returns-3)

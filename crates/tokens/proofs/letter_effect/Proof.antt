@@ -6,7 +6,7 @@ use mathlib.Core.Option.{none}
 use lib.ListN.{getD, drop}
 use Rattle.reader.specs.Sounds.{noteAs}
 use Rattle.token_pitches.specs.Pitches.{noteChar}
-use Rattle.token_pitches.specs.declared.Mark.the-variants as mark
+use Rattle.token_pitches.specs.declared.Sign.the-variants as sign
 use Rattle.token_lexemes.specs.Lexemes.{isPlain}
 use Rattle.token_lexemes.proofs.Sounding.{letter-out, letter-plain, letter-in}
 use Rattle.tokens.specs.Tokens.{effectIn, effectedIn}
@@ -35,7 +35,7 @@ returns c =
     let line = s .args .line .now in
     let at = s .args .at in
     let e : isPlain (getD line (at + 1) 0) ≡ true = ap isPlain (sym (p .before .byte-at .ensures)) ∙ sym (p .is-plain .ensures) ∙ c .if1 .taken in
-    ap effectedIn (letter-plain line at (s .pre) mark.Nothing (noteChar (getD line at 0)) refl e) ∙ effected at (noteAs (record { mark = none; used = 0 }) (getD line at 0) (drop (at + 1) line))
+    ap effectedIn (letter-plain line at (s .pre) sign.Nothing (noteChar (getD line at 0)) refl e) ∙ effected at (noteAs (record { sign = none; used = 0 }) (getD line at 0) (drop (at + 1) line))
 
 shared-slice-read-abc-note-char : tie.Need-shared-slice-read-abc-note-char
 shared-slice-read-abc-note-char c = search needs
@@ -63,14 +63,14 @@ returns-2 c =
     let s = n .before .before .before .before .before .before in
     let line = s .args .line .now in
     let at = s .args .at in
-    ap effectedIn (letter-out line at (s .pre) mark.Nothing (n .abc-note-char .result) (n .abc-note-char .ensures) (sym (o .octave-marks .ensures) ∙ c .enum-told .given .1))
-    ∙ effected at (noteAs (record { mark = none; used = 0 }) (getD line at 0) (drop (at + 1) line))
+    ap effectedIn (letter-out line at (s .pre) sign.Nothing (n .abc-note-char .result) (n .abc-note-char .ensures) (sym (o .octave-marks .ensures) ∙ c .enum-told .given .1))
+    ∙ effected at (noteAs (record { sign = none; used = 0 }) (getD line at 0) (drop (at + 1) line))
 
 parse-duration-suffix-requires : tie.Need-parse-duration-suffix-requires
 parse-duration-suffix-requires c κs = search needs
 
-note-annotations-requires : tie.Need-note-annotations-requires
-note-annotations-requires c κs = search needs
+apply-abc-note-annotations-requires : tie.Need-apply-abc-note-annotations-requires
+apply-abc-note-annotations-requires c κs = search needs
 
 returns-3 : tie.Need-returns-3
 unfolding effectIn
@@ -81,9 +81,9 @@ returns-3 c =
     let line = s .args .line .now in
     let at = s .args .at in
     let g = c .before .before .before .after-octave .given in
-    ap effectedIn (letter-in line at (s .pre) mark.Nothing (n .abc-note-char .result) (n .abc-note-char .ensures) (g .0 .0) (g .0 .1 .0) (sym (o .octave-marks .ensures) ∙ g .1)
-    (c .before .parse-duration-suffix .result) (c .before .parse-duration-suffix .ensures) (c .note-annotations .result) (c .note-annotations .ensures))
-    ∙ effected at (noteAs (record { mark = none; used = 0 }) (getD line at 0) (drop (at + 1) line))
+    ap effectedIn (letter-in line at (s .pre) sign.Nothing (n .abc-note-char .result) (n .abc-note-char .ensures) (g .0 .0) (g .0 .1 .0) (sym (o .octave-marks .ensures) ∙ g .1)
+    (c .before .parse-duration-suffix .result) (c .before .parse-duration-suffix .ensures) (c .apply-abc-note-annotations .result) (c .apply-abc-note-annotations .ensures))
+    ∙ effected at (noteAs (record { sign = none; used = 0 }) (getD line at 0) (drop (at + 1) line))
 
 pub letter-effect-spec : {M : Type 1} → statement M
 letter-effect-spec =
@@ -102,5 +102,5 @@ letter-effect-spec =
     enum-told
     returns-2
     parse-duration-suffix-requires
-    note-annotations-requires
+    apply-abc-note-annotations-requires
     returns-3)

@@ -5,7 +5,7 @@ use mathlib.Core.Option.{none}
 use lib.ListN.{getD, drop}
 use Rattle.reader.specs.Sounds.{noteAs}
 use Rattle.reader.specs.Tokens.{pitched, tokenAs}
-use Rattle.token_pitches.specs.Pitches.{markOf}
+use Rattle.token_pitches.specs.Pitches.{signOf}
 use Rattle.token_lexemes.proofs.Sounding.{note-ends, note-other, note-letter}
 use Rattle.tokens.specs.Tokens.{effectIn, effectedIn}
 use Rattle.tokens.proofs.Dispatch.{effected, marked}
@@ -41,8 +41,8 @@ returns-2 c =
     let place = before .next in
     let line = a .line .now in
     c .letter-effect .ensures
-    ∙ marked place none (markOf (before .mark)) (getD line place 0) (drop (place + 1) line)
-    ∙ sym (effected place (noteAs (record { mark = markOf (before .mark); used = 0 }) (getD line place 0) (drop (place + 1) line)))
+    ∙ marked place none (signOf (before .sign)) (getD line place 0) (drop (place + 1) line)
+    ∙ sym (effected place (noteAs (record { sign = signOf (before .sign); used = 0 }) (getD line place 0) (drop (place + 1) line)))
     ∙ ap effectedIn (note-letter line (a .at) before (b .accidental-before .ensures) (e .if1 .left) (sym (c .before .before .is-letter .ensures) ∙ c .before .if2 .taken))
     ∙ effected (a .at) (tokenAs pitched (drop (a .at) line))
 
