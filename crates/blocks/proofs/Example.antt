@@ -182,15 +182,15 @@ unfolding all
 hymn-not-sung h = ⊎-elim (λ x. x) (λ x. false≢true x) (h .1 .0 refl)
 
 -- and although its items differ in the flag that says whether the part has a place for verses
-abbrev itemsOf : Out → ℕ → List Item
-itemsOf (refuse n l) p = []
-itemsOf (on s a) p = itemsOf p a
+abbrev itemsFor : Out → ℕ → List Item
+itemsFor (refuse n l) p = []
+itemsFor (on s a) p = itemsOf p a
 
-pub hymn-items : itemsOf (scan (textLines hymn)) 0 ≡ voiceDeclared true ∷ reset ∷ reset ∷ lyricLine false [] ∷ []
+pub hymn-items : itemsFor (scan (textLines hymn)) 0 ≡ voiceDeclared true ∷ reset ∷ reset ∷ lyricLine false [] ∷ []
 unfolding all
 hymn-items = refl
 
-pub hymn-items-moved : itemsOf (scan (textLines hymn′)) 0 ≡ voiceDeclared true ∷ reset ∷ reset ∷ lyricLine true [] ∷ []
+pub hymn-items-moved : itemsFor (scan (textLines hymn′)) 0 ≡ voiceDeclared true ∷ reset ∷ reset ∷ lyricLine true [] ∷ []
 unfolding all
 hymn-items-moved = refl
 

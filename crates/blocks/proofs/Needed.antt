@@ -8,7 +8,7 @@ use mathlib.Core.List.{List, [], _∷_}
 use native.Mathlib.Omega.{arith}
 use lib.Dec.{eqb}
 use Rattle.laws.specs.Lists.{All, eqText, indexOf}
-use Rattle.laws.specs.Orders.{Perm, nothing, more, here, stateAtBlocks as further}
+use Rattle.laws.specs.Orders.{Perm, nothing, more, here, there as further}
 use Rattle.laws.proofs.Bools.{both-true}
 use Rattle.laws.proofs.Lists.{All-filter, eqText-same}
 use Rattle.standard.specs.Bytes.{ascii}

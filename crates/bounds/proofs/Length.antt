@@ -22,7 +22,7 @@ use Rattle.reader.specs.Answer.{isMusic, built, parts, partBytes, encode, measu
 use Rattle.bounds.specs.Weights.{itemBytes}
 use Rattle.bounds.proofs.Counts.{built-bound}
 use Rattle.bounds.proofs.RowWeights.{rows-length, rows-fed}
-use Rattle.bounds.proofs.ScanWeights.{Holds, holds-map, Silent, voiceCount, Paid, total, Headed, head-bill}
+use Rattle.bounds.proofs.ScanWeights.{Holds, holds-map, Silent, voiceCount, Enough, total, Headed, head-budget}
 
 -- EACH ITEM IS OF ONE PART
 -- the bytes of a part's own items
@@ -94,7 +94,7 @@ total-is : (a : Items) → total 0 23 23 0 48 a ≡ 23 * sum (λ (x : ℕ × Ite
 total-is [] = refl
 total-is (x ∷ a) = omega (arith, total-is a)
 
-section-covered : Paid 0 23 23 0 48
+section-covered : Enough 0 23 23 0 48
 section-covered = record { bytes = lit≤ tt; lines = lit≤ tt; feed = lit≤ tt; voices = lit≤ tt }
 
 pub scan-bound : (text : List ℕ)
@@ -102,7 +102,7 @@ pub scan-bound : (text : List ℕ)
 unfolding scan begin
 scan-bound text =
     holds-map (Headed 0 23 23 0 48 section-covered 52 (lit≤ tt) begin (sum length (textLines text))) _ (λ t a h. text-cover t a h) (scan (textLines text))
-    (head-bill 0 23 23 0 48 section-covered 52 (lit≤ tt) (textLines text) (rows-fed text) begin refl)
+    (head-budget 0 23 23 0 48 section-covered 52 (lit≤ tt) (textLines text) (rows-fed text) begin refl)
   where
     text-cover : (t : ScanState) (a : Items) → Headed 0 23 23 0 48 section-covered 52 (lit≤ tt) begin (sum length (textLines text)) t a
         → Silent a ⊎ (4 + 48 * voiceCount t + 23 * sum (λ (x : ℕ × Item). itemBytes (x .1)) a ≤ 23 * length text)

@@ -72,7 +72,7 @@ before-count s = unnamed-count (s .opened) (s .env .voices)
 -- THE BILL OF A ROW: an item's price and what a byte of its line costs, what a byte of the text pays, what is left to the line feed, what a voice costs
 module _ (item byte pays rest voiceWeight : ℕ) where
   -- what each byte pays covers these prices
-  pub record Paid : Type 0 where
+  pub record Enough : Type 0 where
     -- a line of one byte, and its feed
     pub bytes : byte ≤ pays
     pub lines : item + byte ≤ pays + rest
@@ -89,10 +89,10 @@ module _ (item byte pays rest voiceWeight : ℕ) where
   total a = sum (λ (x : ℕ × Item). weight (x .1)) a
 
   -- n bytes pay for the items and for the voices that are new, but for what is left to the line feed
-  abbrev pub Bill : ScanState → ℕ → ScanState → Items → Type 0
-  Bill s n t a = total a + voiceWeight * voiceCount t ≤ voiceWeight * voiceCount s + pays * n + rest
+  abbrev pub Budget : ScanState → ℕ → ScanState → Items → Type 0
+  Budget s n t a = total a + voiceWeight * voiceCount t ≤ voiceWeight * voiceCount s + pays * n + rest
 
-  module _ (paid : Paid) where
+  module _ (paid : Enough) where
     -- a line of n bytes, of which m + 1 cost
     line-weight : (m n : ℕ) → suc m ≤ n → item + byte * suc m ≤ pays * n + rest
     line-weight m n h = omega (arith, times-dearer byte pays m (paid .bytes), mul-suc byte m, mul-suc pays m, times-more pays (suc m) n h, paid .lines)
@@ -114,107 +114,107 @@ module _ (item byte pays rest voiceWeight : ℕ) where
     one-more n = omega (arith, times-more voiceWeight (max 1 (n + 1)) (max 1 n + 1) (omega arith), mul-add voiceWeight (max 1 n) 1)
 
     -- a V line of three bytes or more
-    voice-bill : (s : ScanState) (v : List ℕ) (vs : List (List ℕ)) (n : ℕ) → max 1 (length vs) ≡ voiceCount s → 3 ≤ n → (known full mid : Bool) → Holds (Bill s n) (voiceOn s v vs known full mid)
+    voice-budget : (s : ScanState) (v : List ℕ) (vs : List (List ℕ)) (n : ℕ) → max 1 (length vs) ≡ voiceCount s → 3 ≤ n → (known full mid : Bool) → Holds (Budget s n) (voiceOn s v vs known full mid)
     unfolding voiceOn Holds itemBytes musicBytes lyricBytes
-    voice-bill s v vs n e h true full true = tt
-    voice-bill s v vs n e h true full false = omega (arith, same-voices (max 1 (length vs)) (voiceCount s) e, item-weight n (omega arith))
-    voice-bill s v vs n e h false true mid = tt
-    voice-bill s v vs n e h false false true = tt
-    voice-bill s v vs n e h false false false =
+    voice-budget s v vs n e h true full true = tt
+    voice-budget s v vs n e h true full false = omega (arith, same-voices (max 1 (length vs)) (voiceCount s) e, item-weight n (omega arith))
+    voice-budget s v vs n e h false true mid = tt
+    voice-budget s v vs n e h false false true = tt
+    voice-budget s v vs n e h false false false =
         omega (arith, same-voices (max 1 (length vs)) (voiceCount s) e, one-more (length vs), same-voices (max 1 (length (vs ++ (v ∷ [])))) (max 1 (length vs + 1)) (ap (max 1) (length-append vs (v ∷ []))), three n h, paid .voices)
 
     -- a music line
-    play-bill : (s : ScanState) (es : List Effect) (l : List ℕ) (n : ℕ) → 1 ≤ length l → length l ≤ n → (o : Option ℕ) → Holds (Bill s n) (playOn s es l o)
+    play-budget : (s : ScanState) (es : List Effect) (l : List ℕ) (n : ℕ) → 1 ≤ length l → length l ≤ n → (o : Option ℕ) → Holds (Budget s n) (playOn s es l o)
     unfolding playOn Holds itemBytes musicBytes lyricBytes
-    play-bill s es l n g h (some k) = tt
-    play-bill s es [] n g h none = absurd (omega (arith, g))
-    play-bill s es (c ∷ l) n g h none = omega (arith, line-weight (length l) n h, more-bytes)
+    play-budget s es l n g h (some k) = tt
+    play-budget s es [] n g h none = absurd (omega (arith, g))
+    play-budget s es (c ∷ l) n g h none = omega (arith, line-weight (length l) n h, more-bytes)
       where
         more-bytes : byte * (suc (length l) + 0) ≤ byte * suc (length l)
         more-bytes = times-more byte (suc (length l) + 0) (suc (length l)) (omega arith)
 
-    unit-bill : (s : ScanState) (n : ℕ) (u : Option ℕ) → Holds (Bill s n) (unitOn s u)
+    unit-budget : (s : ScanState) (n : ℕ) (u : Option ℕ) → Holds (Budget s n) (unitOn s u)
     unfolding unitOn Holds
-    unit-bill s n none = omega arith
-    unit-bill s n (some u) = omega arith
+    unit-budget s n none = omega arith
+    unit-budget s n (some u) = omega arith
 
-    act-bill : (s : ScanState) (k : Kind) (h : Bool) (n : ℕ) → KindFits n k → Holds (Bill s n) (act s k h)
+    act-budget : (s : ScanState) (k : Kind) (h : Bool) (n : ℕ) → KindFits n k → Holds (Budget s n) (act s k h)
     unfolding act Holds KindFits itemBytes musicBytes lyricBytes
-    act-bill s blank h n f = omega arith
-    act-bill s (refused k) h n f = tt
-    act-bill s (lyric t) true n f = omega arith
-    act-bill s (lyric t) false n f = omega (arith, line-weight (length t) n (omega arith), times-more byte (0 + length t) (suc (length t)) (omega arith))
-    act-bill s (voice v mid) h n f = voice-bill s v (voicesBefore s) n (before-count s) f (elem v (voicesBefore s)) (leb mostVoices (length (voicesBefore s))) mid
-    act-bill s (key k) true n f = omega (arith, item-weight n f)
-    act-bill s (key k) false n f = omega (arith, item-weight n f)
-    act-bill s (meter m) true n f = omega arith
-    act-bill s (meter m) false n f = omega (arith, item-weight n f)
-    act-bill s (unit u) h n f = unit-bill s n u
-    act-bill s tune true n f = omega arith
-    act-bill s tune false n f = tt
-    act-bill s other h n f = omega arith
-    act-bill s (music hi es l) true n f = omega arith
-    act-bill s (music true es l) false n f = tt
-    act-bill s (music false es l) false n f = play-bill s es l n (f .0) (f .1) (firstRefusal (s .notes) es)
+    act-budget s blank h n f = omega arith
+    act-budget s (refused k) h n f = tt
+    act-budget s (lyric t) true n f = omega arith
+    act-budget s (lyric t) false n f = omega (arith, line-weight (length t) n (omega arith), times-more byte (0 + length t) (suc (length t)) (omega arith))
+    act-budget s (voice v mid) h n f = voice-budget s v (voicesBefore s) n (before-count s) f (elem v (voicesBefore s)) (leb mostVoices (length (voicesBefore s))) mid
+    act-budget s (key k) true n f = omega (arith, item-weight n f)
+    act-budget s (key k) false n f = omega (arith, item-weight n f)
+    act-budget s (meter m) true n f = omega arith
+    act-budget s (meter m) false n f = omega (arith, item-weight n f)
+    act-budget s (unit u) h n f = unit-budget s n u
+    act-budget s tune true n f = omega arith
+    act-budget s tune false n f = tt
+    act-budget s other h n f = omega arith
+    act-budget s (music hi es l) true n f = omega arith
+    act-budget s (music true es l) false n f = tt
+    act-budget s (music false es l) false n f = play-budget s es l n (f .0) (f .1) (firstRefusal (s .notes) es)
 
     -- a row, by its line
-    pub row-bill : (s : ScanState) (r : TextLine) → Holds (Bill s (length (clean r))) (step s r)
+    pub line-budget : (s : ScanState) (r : TextLine) → Holds (Budget s (length (clean r))) (step s r)
     unfolding step kindOf Holds
-    row-bill s r =
-        by-test (ltb (s .lines) mostLines) (λ e. rw e (act-bill s (lineKind (clean r)) (s .env .inHeader) (length (clean r)) (kind-fits (clean r)))) (λ e. rw e tt)
+    line-budget s r =
+        by-test (ltb (s .lines) mostLines) (λ e. rw e (act-budget s (lineKind (clean r)) (s .env .inHeader) (length (clean r)) (kind-fits (clean r)))) (λ e. rw e tt)
 
     -- a line feed pays what is left to it
     fed-row : (m n : ℕ) → m < n → pays * m + rest ≤ pays * n
     fed-row m n h = omega (arith, times-more pays (suc m) n h, mul-suc pays m, paid .feed)
 
     -- THE ROWS OF A TEXT
-    pub rows-bill : (rs : List TextLine) → Fed rs → (s : ScanState) → Holds (Bill s (sum length rs)) (run step s rs)
+    pub lines-budget : (rs : List TextLine) → Fed rs → (s : ScanState) → Holds (Budget s (sum length rs)) (run step s rs)
     unfolding Holds Fed
-    rows-bill [] f s = omega arith
-    rows-bill (r ∷ []) f s =
-        holds-run (Bill s (length (clean r))) (Bill s (length r + 0)) (λ t a u b. (u ≡ t) × (b ≡ [])) s r [] (row-bill s r) (λ t a h. (refl, refl))
+    lines-budget [] f s = omega arith
+    lines-budget (r ∷ []) f s =
+        holds-run (Budget s (length (clean r))) (Budget s (length r + 0)) (λ t a u b. (u ≡ t) × (b ≡ [])) s r [] (line-budget s r) (λ t a h. (refl, refl))
         (λ t a u b h q. omega (arith, h, sum-append (λ (x : ℕ × Item). weight (x .1)) a b, ap total (q .1), ap (λ (x : ScanState). voiceWeight * voiceCount x) (q .0), times-more pays (length (clean r)) (length r + 0) (omega (arith, clean-length r))))
-    rows-bill (r ∷ q ∷ rs) f s =
-        holds-run (Bill s (length (clean r))) (Bill s (sum length (r ∷ q ∷ rs))) (λ t a u b. Bill t (sum length (q ∷ rs)) u b) s r (q ∷ rs) (row-bill s r) (λ t a h. rows-bill (q ∷ rs) (f .1) t)
+    lines-budget (r ∷ q ∷ rs) f s =
+        holds-run (Budget s (length (clean r))) (Budget s (sum length (r ∷ q ∷ rs))) (λ t a u b. Budget t (sum length (q ∷ rs)) u b) s r (q ∷ rs) (line-budget s r) (λ t a h. lines-budget (q ∷ rs) (f .1) t)
         (λ t a u b h k. omega (arith, h, k, sum-append (λ (x : ℕ × Item). weight (x .1)) a b, fed-row (length (clean r)) (length r) (f .0), mul-add pays (length r) (sum length (q ∷ rs))))
 
     -- IN THE HEADER no item is music. A row of it: the header goes on, or this is its K line, of two bytes or more
     record Head (s : ScanState) (n : ℕ) (t : ScanState) (a : Items) : Type 0 where
       pub silent : Silent a
-      pub bill : Bill s n t a
+      pub budget : Budget s n t a
       pub line : (t .env .inHeader ≡ true) ⊎ ((2 ≤ n) × ((total a ≡ item) × (voiceCount t ≡ voiceCount s)))
 
-    voice-head : (s : ScanState) (v : List ℕ) (vs : List (List ℕ)) (n : ℕ) → s .env .inHeader ≡ true → (known full mid : Bool) → Holds (Bill s n) (voiceOn s v vs known full mid) → Holds (Head s n) (voiceOn s v vs known full mid)
+    voice-head : (s : ScanState) (v : List ℕ) (vs : List (List ℕ)) (n : ℕ) → s .env .inHeader ≡ true → (known full mid : Bool) → Holds (Budget s n) (voiceOn s v vs known full mid) → Holds (Head s n) (voiceOn s v vs known full mid)
     unfolding voiceOn Holds isMusic
     voice-head s v vs n e true full true b = tt
-    voice-head s v vs n e true full false b = record { silent = (refl, tt); bill = b; line = inl e }
+    voice-head s v vs n e true full false b = record { silent = (refl, tt); budget = b; line = inl e }
     voice-head s v vs n e false true mid b = tt
     voice-head s v vs n e false false true b = tt
-    voice-head s v vs n e false false false b = record { silent = (refl, (refl, tt)); bill = b; line = inl e }
+    voice-head s v vs n e false false false b = record { silent = (refl, (refl, tt)); budget = b; line = inl e }
 
-    unit-head : (s : ScanState) (n : ℕ) → s .env .inHeader ≡ true → (u : Option ℕ) → Holds (Bill s n) (unitOn s u) → Holds (Head s n) (unitOn s u)
+    unit-head : (s : ScanState) (n : ℕ) → s .env .inHeader ≡ true → (u : Option ℕ) → Holds (Budget s n) (unitOn s u) → Holds (Head s n) (unitOn s u)
     unfolding unitOn Holds
-    unit-head s n e none b = record { silent = tt; bill = b; line = inl e }
-    unit-head s n e (some u) b = record { silent = tt; bill = b; line = inl e }
+    unit-head s n e none b = record { silent = tt; budget = b; line = inl e }
+    unit-head s n e (some u) b = record { silent = tt; budget = b; line = inl e }
 
-    act-head : (s : ScanState) (k : Kind) (n : ℕ) → s .env .inHeader ≡ true → KindFits n k → Holds (Bill s n) (act s k true) → Holds (Head s n) (act s k true)
+    act-head : (s : ScanState) (k : Kind) (n : ℕ) → s .env .inHeader ≡ true → KindFits n k → Holds (Budget s n) (act s k true) → Holds (Head s n) (act s k true)
     unfolding act Holds KindFits isMusic itemBytes musicBytes lyricBytes
-    act-head s blank n e f b = record { silent = tt; bill = b; line = inl e }
+    act-head s blank n e f b = record { silent = tt; budget = b; line = inl e }
     act-head s (refused k) n e f b = tt
-    act-head s (lyric t) n e f b = record { silent = tt; bill = b; line = inl e }
+    act-head s (lyric t) n e f b = record { silent = tt; budget = b; line = inl e }
     act-head s (voice v mid) n e f b = voice-head s v (voicesBefore s) n e (elem v (voicesBefore s)) (leb mostVoices (length (voicesBefore s))) mid b
-    act-head s (key k) n e f b = record { silent = (refl, tt); bill = b; line = inr (f, (omega arith, refl)) }
-    act-head s (meter m) n e f b = record { silent = tt; bill = b; line = inl e }
+    act-head s (key k) n e f b = record { silent = (refl, tt); budget = b; line = inr (f, (omega arith, refl)) }
+    act-head s (meter m) n e f b = record { silent = tt; budget = b; line = inl e }
     act-head s (unit u) n e f b = unit-head s n e u b
-    act-head s tune n e f b = record { silent = tt; bill = b; line = inl e }
-    act-head s other n e f b = record { silent = tt; bill = b; line = inl e }
-    act-head s (music hi es l) n e f b = record { silent = tt; bill = b; line = inl e }
+    act-head s tune n e f b = record { silent = tt; budget = b; line = inl e }
+    act-head s other n e f b = record { silent = tt; budget = b; line = inl e }
+    act-head s (music hi es l) n e f b = record { silent = tt; budget = b; line = inl e }
 
     row-head : (s : ScanState) (r : TextLine) → s .env .inHeader ≡ true → Holds (Head s (length (clean r))) (step s r)
     unfolding step kindOf Holds
     row-head s r e =
         by-test (ltb (s .lines) mostLines)
-        (λ q. rw q (subst (λ (h : Bool). Holds (Head s (length (clean r))) (act s (lineKind (clean r)) h)) (sym e) (act-head s (lineKind (clean r)) (length (clean r)) e (kind-fits (clean r)) (act-bill s (lineKind (clean r)) true (length (clean r)) (kind-fits (clean r))))))
+        (λ q. rw q (subst (λ (h : Bool). Holds (Head s (length (clean r))) (act s (lineKind (clean r)) h)) (sym e) (act-head s (lineKind (clean r)) (length (clean r)) e (kind-fits (clean r)) (act-budget s (lineKind (clean r)) true (length (clean r)) (kind-fits (clean r))))))
         (λ q. rw q tt)
 
     -- THE ROWS FROM THE HEADER ON: nothing is played, or the K line and its feed pay for `extra` too
@@ -228,30 +228,30 @@ module _ (item byte pays rest voiceWeight : ℕ) where
       three-bytes m n h l = omega (arith, room, times-more pays 3 n (omega arith))
 
       -- so it is for any rows
-      pub head-bill : (rs : List TextLine) → Fed rs → (s : ScanState) → s .env .inHeader ≡ true → Holds (Headed s (sum length rs)) (run step s rs)
+      pub head-budget : (rs : List TextLine) → Fed rs → (s : ScanState) → s .env .inHeader ≡ true → Holds (Headed s (sum length rs)) (run step s rs)
       unfolding Holds Fed
-      head-bill [] f s e = inl tt
-      head-bill (r ∷ []) f s e =
+      head-budget [] f s e = inl tt
+      head-budget (r ∷ []) f s e =
           holds-run (Head s (length (clean r))) (Headed s (length r + 0)) (λ t a u b. b ≡ []) s r [] (row-head s r e) (λ t a h. refl)
           (λ t a u b h q. inl (subst Silent (sym (ap (λ (x : Items). a ++ x) q ∙ append-nil a)) (h .silent)))
-      head-bill (r ∷ q ∷ rs) f s e =
+      head-budget (r ∷ q ∷ rs) f s e =
           let n = sum length (q ∷ rs) in
-          holds-run (Head s (length (clean r))) (Headed s (length r + n)) (λ t a u b. Headed t n u b ⊎ (Bill t n u b × Key s (length (clean r)) t a)) s r (q ∷ rs) (row-head s r e)
-          (λ t a h. behind (λ u i. head-bill (q ∷ rs) (f .1) u i) t a (h .line)) (λ t a u b h k. both t a u b h k)
+          holds-run (Head s (length (clean r))) (Headed s (length r + n)) (λ t a u b. Headed t n u b ⊎ (Budget t n u b × Key s (length (clean r)) t a)) s r (q ∷ rs) (row-head s r e)
+          (λ t a h. behind (λ u i. head-budget (q ∷ rs) (f .1) u i) t a (h .line)) (λ t a u b h k. both t a u b h k)
         where
           -- this row is the header's K line
           Key : ScanState → ℕ → ScanState → Items → Type 0
           Key s n t a = (2 ≤ n) × ((total a ≡ item) × (voiceCount t ≡ voiceCount s))
 
           behind : ((u : ScanState) → u .env .inHeader ≡ true → Holds (Headed u (sum length (q ∷ rs))) (run step u (q ∷ rs))) → (t : ScanState) (a : Items) → (t .env .inHeader ≡ true) ⊎ Key s (length (clean r)) t a
-              → Holds (λ u b. Headed t (sum length (q ∷ rs)) u b ⊎ (Bill t (sum length (q ∷ rs)) u b × Key s (length (clean r)) t a)) (run step t (q ∷ rs))
+              → Holds (λ u b. Headed t (sum length (q ∷ rs)) u b ⊎ (Budget t (sum length (q ∷ rs)) u b × Key s (length (clean r)) t a)) (run step t (q ∷ rs))
           behind ih t a (inl i) = holds-map (Headed t (sum length (q ∷ rs))) _ (λ u b k. inl k) (run step t (q ∷ rs)) (ih t i)
-          behind ih t a (inr x) = holds-map (Bill t (sum length (q ∷ rs))) _ (λ u b k. inr (k, x)) (run step t (q ∷ rs)) (rows-bill (q ∷ rs) (f .1) t)
+          behind ih t a (inr x) = holds-map (Budget t (sum length (q ∷ rs))) _ (λ u b k. inr (k, x)) (run step t (q ∷ rs)) (lines-budget (q ∷ rs) (f .1) t)
 
           both : (t : ScanState) (a : Items) (u : ScanState) (b : Items) → Head s (length (clean r)) t a
-              → Headed t (sum length (q ∷ rs)) u b ⊎ (Bill t (sum length (q ∷ rs)) u b × Key s (length (clean r)) t a) → Headed s (length r + sum length (q ∷ rs)) u (a ++ b)
+              → Headed t (sum length (q ∷ rs)) u b ⊎ (Budget t (sum length (q ∷ rs)) u b × Key s (length (clean r)) t a) → Headed s (length r + sum length (q ∷ rs)) u (a ++ b)
           both t a u b h (inl (inl k)) = inl (All-append _ a b (h .silent) k)
           both t a u b h (inl (inr k)) =
-              inr (omega (arith, h .bill, k, sum-append (λ (x : ℕ × Item). weight (x .1)) a b, fed-row (length (clean r)) (length r) (f .0), mul-add pays (length r) (sum length (q ∷ rs))))
+              inr (omega (arith, h .budget, k, sum-append (λ (x : ℕ × Item). weight (x .1)) a b, fed-row (length (clean r)) (length r) (f .0), mul-add pays (length r) (sum length (q ∷ rs))))
           both t a u b h (inr (k, (two, (one, same)))) =
               inr (omega (arith, k, one, sum-append (λ (x : ℕ × Item). weight (x .1)) a b, three-bytes (length (clean r)) (length r) two (f .0), mul-add pays (length r) (sum length (q ∷ rs)), same-voices (voiceCount t) (voiceCount s) same))

@@ -27,7 +27,7 @@ use Rattle.bounds.proofs.TokenWeights.{line-covered}
 use Rattle.bounds.proofs.PartWeights.{tokens-step, begins-step, reading-weight, items-covered}
 use Rattle.bounds.proofs.Counts.{music-bound, lyric-bound, bytes-sum}
 use Rattle.bounds.proofs.RowWeights.{rows-length, rows-fed}
-use Rattle.bounds.proofs.ScanWeights.{Holds, Paid, total, Bill, rows-bill}
+use Rattle.bounds.proofs.ScanWeights.{Holds, Enough, total, Budget, lines-budget}
 
 -- EACH COUNT OF A PART
 -- notes: one for each byte of its music lines
@@ -67,7 +67,7 @@ module _ (p : Weights) (paid : Covered p) where
       omega (arith, tokens-step p paid ts (lineBegins u m s), begins-step p paid u m s, items-covered p paid header is, line-covered p paid l, ap (sum (tokenWeight p)) e, sum-append (tokenWeight p) ts us, mul-add (p .byte) (sum musicBytes is) (length l))
 
 -- ALL ITEMS
-item-covered : Paid 2 0 1 1 0
+item-covered : Enough 2 0 1 1 0
 item-covered = record { bytes = lit≤ tt; lines = lit≤ tt; feed = lit≤ tt; voices = lit≤ tt }
 
 -- two for each item
@@ -79,7 +79,7 @@ count-total (x ∷ a) = omega (arith, count-total a)
 pub items-most : (text : List ℕ) (t : ScanState) (a : Items) → scan (textLines text) ≡ on t a → 2 * length a ≤ length text + 1
 unfolding scan Holds
 items-most text t a e =
-    let h : Bill 2 0 1 1 0 begin (sum length (textLines text)) t a = subst (Holds (Bill 2 0 1 1 0 begin (sum length (textLines text)))) e (rows-bill 2 0 1 1 0 item-covered (textLines text) (rows-fed text) begin) in
+    let h : Budget 2 0 1 1 0 begin (sum length (textLines text)) t a = subst (Holds (Budget 2 0 1 1 0 begin (sum length (textLines text)))) e (lines-budget 2 0 1 1 0 item-covered (textLines text) (rows-fed text) begin) in
     omega (arith, h, count-total a, rows-length text)
 
 -- the lines of one part, among all
@@ -88,8 +88,8 @@ mine-bytes q [] = zero-le
 mine-bytes q (x ∷ a) = by-test (eqb (x .0) q) (λ e. rw e (omega (arith, mine-bytes q a))) (λ e. rw e (omega (arith, mine-bytes q a)))
 
 -- THE LINE TABLE AND THE TABLES OF ANY ONE PART: 32 bytes for each byte of the text, the part's first measure, and one line feed
-table-covered : Paid itemRowWidth (tableWeights .byte) scratchPerByte scratchPerLineFeed 0
-table-covered = record { bytes = lit≤ tt; lines = lit≤ tt; feed = lit≤ tt; voices = lit≤ tt }
+table-enough : Enough itemRowWidth (tableWeights .byte) scratchPerByte scratchPerLineFeed 0
+table-enough = record { bytes = lit≤ tt; lines = lit≤ tt; feed = lit≤ tt; voices = lit≤ tt }
 
 -- the tables' prices are covered
 table-covered : Covered tableWeights
@@ -106,7 +106,7 @@ pub lines-most : (text : List ℕ) (t : ScanState) (a : Items) → scan (textLin
 unfolding scan Holds
 lines-most text t a e =
     let n = sum length (textLines text) in
-    let h : Bill itemRowWidth (tableWeights .byte) scratchPerByte scratchPerLineFeed 0 begin n t a = subst (Holds (Bill itemRowWidth (tableWeights .byte) scratchPerByte scratchPerLineFeed 0 begin n)) e (rows-bill itemRowWidth (tableWeights .byte) scratchPerByte scratchPerLineFeed 0 table-covered (textLines text) (rows-fed text) begin) in
+    let h : Budget itemRowWidth (tableWeights .byte) scratchPerByte scratchPerLineFeed 0 begin n t a = subst (Holds (Budget itemRowWidth (tableWeights .byte) scratchPerByte scratchPerLineFeed 0 begin n)) e (lines-budget itemRowWidth (tableWeights .byte) scratchPerByte scratchPerLineFeed 0 table-enough (textLines text) (rows-fed text) begin) in
     omega (arith, h, table-total a, rows-length text)
 
 -- ROOM for the tables of any one part, behind the voices and the line table

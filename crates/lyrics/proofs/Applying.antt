@@ -119,7 +119,7 @@ module _ (text s : List ℕ) (p i : ℕ) (h : Sheet) (r : items.Row) (is : RowIs
     line-item t n x =
         record {
           kept = x .kept;
-          lyricLine =
+          sung =
               x .sung
               ∙ (λ j. sing (f .start j) (f .verse j) 0 (lyricWords (same-text j)) (syllablesIn text s h))
               ∙ ap (λ (ls : List reader.Sung). sungBy ls (syllablesIn text s h)) (sym (one-line text p (itemAt s i) yes-line));
@@ -189,7 +189,7 @@ module _ (text s₀ : List ℕ) (n p : ℕ) (h : Sheet) (notes : List (List Syll
   applying-next t c x =
       record {
         kept = x .kept;
-        lyricLine =
+        sung =
             x .sung
             ∙ (λ j. sungBy (same-line j) (v .sung j))
             ∙ sym (sung-append (linesIn text s₀ p i) (lineOf text p (itemAt s₀ i)) notes)

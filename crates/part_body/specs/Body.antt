@@ -42,7 +42,7 @@ Ready line t s r as-token.Field = RepresentedWith t s r 0 0 0 0
 Ready line t s r (as-token.Chord place count written tie slur) =
     Room t (r .counts) (length s) 0 1 (length (chordIn line place)) (signsIn (chordIn line place)) × RepresentedInLine t s r × ChordAt line place count
 Ready line t s r (as-token.Rest kind written) = Room t (r .counts) (length s) 0 1 0 0 × Restable t s r kind written
-Ready line t s r (as-token.Note pitch written tie slur) = Room t (r .counts) (length s) 0 1 1 (signs (pitch .mark)) × RepresentedInLine t s r × (pitch .step < 7)
+Ready line t s r (as-token.Note pitch written tie slur) = Room t (r .counts) (length s) 0 1 1 (signs (pitch .sign)) × RepresentedInLine t s r × (pitch .step < 7)
 Ready line t s r as-token.Nothing = RepresentedWith t s r 0 0 0 0
 Ready line t s r as-token.Skipped = RepresentedWith t s r 0 0 0 0
 Ready line t s r (as-token.Refused number) = RepresentedWith t s r 0 0 0 0

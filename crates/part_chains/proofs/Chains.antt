@@ -212,7 +212,7 @@ module _ (rows : List Remembered) (v step octave a b q : ℕ) (some-place : 0 < 
       by-test (fits x step octave) (λ t. rw (t, revised) (revised-here p x xs (h .0) (h .1) (rw (t, placeIn) at e)))
       (λ f.
       let e′ : placeIn rows (row rows p .next) xs step octave ≡ q = rw (f, placeIn) at e in
-      let m : q ≤ row rows p .next = place-some rows v (record { step = step; octave = octave; mark = none }) (row rows p .next) q xs (h .1) e′ some-place .not-behind in
+      let m : q ≤ row rows p .next = place-some rows v (record { step = step; octave = octave; sign = none }) (row rows p .next) q xs (h .1) e′ some-place .not-behind in
       rw (f, revised) (revised-there p x (revised step octave a b xs) (h .0) m (revised-chain (row rows p .next) xs (h .1) e′)))
 
   pub chain-revised : (p : ℕ) (c : List Pitch) → Chain rows v p c → placeIn rows p c step octave ≡ q → Chain (alterAt (q - 1) (revisedRow a b) rows) v p (revised step octave a b c)

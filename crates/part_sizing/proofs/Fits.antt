@@ -31,51 +31,51 @@ use Rattle.part_sizing.proofs.Counting.{bytes-in}
 abbrev one : Bool → ℕ
 one b = cond b 1 0
 
-abbrev Paid : ℕ → Type 0
-Paid c = 28 * one (isBar c) + 25 * one (isLetter c) + 20 * one (isRest c) + 8 * one (isSign c) ≤ 28
+abbrev Enough : ℕ → Type 0
+Enough c = 28 * one (isBar c) + 25 * one (isLetter c) + 20 * one (isRest c) + 8 * one (isSign c) ≤ 28
 
 -- one of these bytes
-at-byte : (k c : ℕ) → Paid k → eqb c k ≡ true → Paid c
+at-byte : (k c : ℕ) → Enough k → eqb c k ≡ true → Enough c
 at-byte k c h e = rw (eqb-true c k e) h
 
 letter-covered : (b : Bool) → 25 * one b ≤ 28
 letter-covered true = omega arith
 letter-covered false = omega arith
 
-bar-covered : (c : ℕ) → isBar c ≡ true → Paid c
+bar-covered : (c : ℕ) → isBar c ≡ true → Enough c
 bar-covered c e = go (or-either (is "|" c) (is ":" c) e)
   where
-    go : (is "|" c ≡ true) ⊎ (is ":" c ≡ true) → Paid c
+    go : (is "|" c ≡ true) ⊎ (is ":" c ≡ true) → Enough c
     go (inl h) = at-byte 124 c (omega arith) h
     go (inr h) = at-byte 58 c (omega arith) h
 
-rest-covered : (c : ℕ) → isRest c ≡ true → Paid c
+rest-covered : (c : ℕ) → isRest c ≡ true → Enough c
 rest-covered c e = go (or-either (is "z" c || is "x" c || is "Z" c) (is "X" c) e)
   where
-    two : (is "z" c ≡ true) ⊎ (is "x" c ≡ true) → Paid c
+    two : (is "z" c ≡ true) ⊎ (is "x" c ≡ true) → Enough c
     two (inl h) = at-byte 122 c (omega arith) h
     two (inr h) = at-byte 120 c (omega arith) h
 
-    three : ((is "z" c || is "x" c) ≡ true) ⊎ (is "Z" c ≡ true) → Paid c
+    three : ((is "z" c || is "x" c) ≡ true) ⊎ (is "Z" c ≡ true) → Enough c
     three (inl h) = two (or-either (is "z" c) (is "x" c) h)
     three (inr h) = at-byte 90 c (omega arith) h
 
-    go : ((is "z" c || is "x" c || is "Z" c) ≡ true) ⊎ (is "X" c ≡ true) → Paid c
+    go : ((is "z" c || is "x" c || is "Z" c) ≡ true) ⊎ (is "X" c ≡ true) → Enough c
     go (inl h) = three (or-either (is "z" c || is "x" c) (is "Z" c) h)
     go (inr h) = at-byte 88 c (omega arith) h
 
-sign-covered : (c : ℕ) → isSign c ≡ true → Paid c
+sign-covered : (c : ℕ) → isSign c ≡ true → Enough c
 sign-covered c e = go (or-either (is "^" c || is "_" c) (is "=" c) e)
   where
-    two : (is "^" c ≡ true) ⊎ (is "_" c ≡ true) → Paid c
+    two : (is "^" c ≡ true) ⊎ (is "_" c ≡ true) → Enough c
     two (inl h) = at-byte 94 c (omega arith) h
     two (inr h) = at-byte 95 c (omega arith) h
 
-    go : ((is "^" c || is "_" c) ≡ true) ⊎ (is "=" c ≡ true) → Paid c
+    go : ((is "^" c || is "_" c) ≡ true) ⊎ (is "=" c ≡ true) → Enough c
     go (inl h) = two (or-either (is "^" c) (is "_" c) h)
     go (inr h) = at-byte 61 c (omega arith) h
 
-byte-covered : (c : ℕ) → Paid c
+byte-covered : (c : ℕ) → Enough c
 byte-covered c =
     by-test (isBar c) (bar-covered c)
     (λ a. by-test (isRest c) (rest-covered c)

@@ -10,11 +10,11 @@ returns c =
     let a = c .before .before .args in
     sung-hold-first (a .scratch .now) (a .sheet) (a .line) (a .taken) (c .before .before .pre .0 .kept) (c .if1 .taken)
 
-add-mark : tie.Need-add-mark
-add-mark c = search needs
+add-append-row : tie.Need-add-append-row
+add-append-row c = search needs
 
-sub-mark : tie.Need-sub-mark
-sub-mark c = search needs
+sub-append-row : tie.Need-sub-append-row
+sub-append-row c = search needs
 
 append-row-requires : tie.Need-append-row-requires
 append-row-requires c κs = (c .before .before .before .before .pre .0, omega arith, omega arith)
@@ -35,8 +35,8 @@ sing-hold-spec =
     tie.close
     (tie.spec
     returns
-    add-mark
-    sub-mark
+    add-append-row
+    sub-append-row
     append-row-requires
     add-t10
     same-length

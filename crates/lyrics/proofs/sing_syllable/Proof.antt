@@ -10,8 +10,8 @@ cast-t10 c = search needs
 cast-t11 : tie.Need-cast-t11
 cast-t11 c = search needs
 
-add-mark : tie.Need-add-mark
-add-mark c = search needs
+add-append-row : tie.Need-add-append-row
+add-append-row c = search needs
 
 append-row-requires : tie.Need-append-row-requires
 append-row-requires c κs = (c .before .before .before .pre .0, c .before .before .before .pre .2, c .before .before .before .pre .3)
@@ -33,7 +33,7 @@ sing-syllable-spec =
     (tie.spec
     cast-t10
     cast-t11
-    add-mark
+    add-append-row
     append-row-requires
     add-t14
     same-length
