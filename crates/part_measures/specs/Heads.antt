@@ -1,4 +1,4 @@
--- THE HEAD OF A MEASURE as a row of 28 bytes: layout's headBytes.
+-- THE HEAD OF A MEASURE as a row, as wide as the measure record: part_layout's headBytes.
 use Prim.Native.Nat.{ℕ, _+_}
 use mathlib.Core.Bool.{Bool, true, _&&_}
 use mathlib.Core.List.{List, [], _∷_, _++_}
@@ -9,7 +9,26 @@ use Rattle.reader.specs.Codes.{barlineCode, voltaCode}
 use Rattle.reader.specs.Records.{keyMarkBytes, passBits}
 use Rattle.part_layout.specs.Log.{Head}
 
--- a measure without its notes: 28 bytes whatever the counts; with four, headBytes (`head-row`)
+-- WHERE THE FIELDS OF A MEASURE'S ROW STAND, as in the measure record: four counts of four bytes first
+abbrev pub leftAt : ℕ
+leftAt = 16
+
+abbrev pub rightAt : ℕ
+rightAt = 17
+
+abbrev pub meterAt : ℕ
+meterAt = 18
+
+abbrev pub keyMarkAt : ℕ
+keyMarkAt = 20
+
+abbrev pub voltaAt : ℕ
+voltaAt = 22
+
+abbrev pub passesAt : ℕ
+passesAt = 24
+
+-- a measure without its notes: measureWidth bytes whatever the counts; with four, headBytes (`head-row`)
 unfoldable pub headRow : Head → List ℕ
 headRow m =
     (le32 (getD (m .counts) 0 0) ++ le32 (getD (m .counts) 1 0) ++ le32 (getD (m .counts) 2 0) ++ le32 (getD (m .counts) 3 0))

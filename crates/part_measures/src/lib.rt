@@ -6,6 +6,22 @@ ghost use lib.ListN.{length};
 ghost use Rattle.laws.specs.Bytes.{splice, le32, u32At};
 ghost use Rattle.part_measures.specs.Heads.{newRow, noNotes};
 
+// The bytes of a row: those of the measure record.
+pub const MEASURE: usize = 28;
+
+// Where the fields of a row stand, as in the measure record: four counts of four bytes first.
+const LEFT: usize = 16;
+
+const RIGHT: usize = 17;
+
+const METER: usize = 18;
+
+const KEY_MARK: usize = 20;
+
+const VOLTA: usize = 22;
+
+const PASSES: usize = 24;
+
 // Four counts of 0.
 fn put_no_counts(store: &mut [u8], place: usize)
     requires { ⌜ place + 16 ≤ length (now store) ⌝ }

@@ -1,4 +1,4 @@
--- THE ROWS OF A PART'S TABLES in scratch: notes (16 bytes), pitches (pitchBytes, 5), accidentals (8). Heads of measures: crate heads.
+-- THE ROWS OF A PART'S TABLES in scratch: notes, pitches, accidentals. Measures: crate part_measures.
 use Prim.Native.Nat.{ℕ, _+_}
 use mathlib.Core.List.{List, [], _∷_, _++_}
 use lib.ListN.{length}
@@ -7,18 +7,41 @@ use Rattle.standard.specs.Pitches.{Pitch}
 use Rattle.standard.specs.Notes.{Flags}
 use Rattle.reader.specs.State.{Note}
 use Rattle.reader.specs.Codes.{kindCode, beamCode, bit}
-use Rattle.reader.specs.Records.{signed8, signed16}
+use Rattle.reader.specs.Records.{pitchWidth, signed8, signed16}
 use Rattle.part_rows.specs.declared.NoteRow.{NoteRow}
 use Rattle.part_rows.specs.declared.Sounded.{Sounded}
 
+-- WIDTHS
 abbrev pub noteRowWidth : ℕ
 noteRowWidth = 16
 
 abbrev pub pitchRowWidth : ℕ
-pitchRowWidth = 5
+pitchRowWidth = pitchWidth
 
 abbrev pub scopeRowWidth : ℕ
 scopeRowWidth = 8
+
+-- WHERE THE FIELDS OF A NOTE'S ROW STAND; the first twelve bytes are where the note record has them
+abbrev pub kindAt : ℕ
+kindAt = 0
+
+abbrev pub valueAt : ℕ
+valueAt = 1
+
+abbrev pub dotsAt : ℕ
+dotsAt = 2
+
+abbrev pub flagsAt : ℕ
+flagsAt = 3
+
+abbrev pub beamAt : ℕ
+beamAt = 4
+
+abbrev pub pitchCountAt : ℕ
+pitchCountAt = 8
+
+abbrev pub voiceAt : ℕ
+voiceAt = 12
 
 -- a note's flags but the last, which is known at the end only
 unfoldable pub flagsByte : Flags → ℕ

@@ -1,4 +1,4 @@
-// The rows of a part's tables in scratch: heads of measures (28 bytes), notes (16), pitches (5). A table is where it begins, a row its index.
+// The rows of a part's tables in scratch but for measures (crate part_measures): notes, pitches. A table is where it begins, a row its index.
 ghost use mathlib.Core.Path.{_≡_};
 ghost use mathlib.Core.List.{[], _∷_};
 ghost use Prim.Native.Nat.{_+_, _*_, _≤_};
@@ -6,6 +6,26 @@ ghost use lib.ListN.{length, getD};
 ghost use Rattle.laws.specs.Bytes.{splice};
 ghost use Rattle.reader.specs.Records.{signed8, signed16};
 ghost use Rattle.part_rows.specs.Encoded.{rowBytes, pitchRow};
+
+// The bytes of a row: a note's, a pitch's (those of its record), an accidental's.
+pub const NOTE_ROW: usize = 16;
+
+pub const PITCH_ROW: usize = 5;
+
+pub const SCOPE_ROW: usize = 8;
+
+// Where the fields of a note's row stand. The first twelve bytes are where the note record has them.
+const VALUE: usize = 1;
+
+const DOTS: usize = 2;
+
+const FLAGS: usize = 3;
+
+const BEAM: usize = 4;
+
+const PITCH_COUNT: usize = 8;
+
+const VOICE: usize = 12;
 
 // A note as its row holds it: kind, value, dots, the marks of ties, slurs and graces, beam, tuplet and boundary, and how many pitches it has.
 pub struct NoteRow {
