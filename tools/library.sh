@@ -1,4 +1,5 @@
-# For scripts: build_library proves crate abc and writes target/staticlib/libabc.a, and finds the Rust source. Needs $root.
+# For scripts; needs $root. build_library finds the Rust source, proves crate abc and writes target/staticlib/libabc.a; where ABC_LIB names a folder, the libabc.a
+# there is taken instead. build_compare builds the programs of tools/compare over it.
 build_library() {
     ACORDE_SRC=$("$root/tools/reference" --source)
     export ACORDE_SRC
@@ -16,4 +17,8 @@ build_library() {
         echo "crates/abc_text is not proved, so there is no library to run: see target/staticlib.log." >&2
         exit 1
     fi
+}
+
+build_compare() {
+    cargo build --release --offline --quiet --package compare --manifest-path tools/Cargo.toml >&2
 }
