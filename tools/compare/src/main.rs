@@ -51,7 +51,8 @@ impl Run {
         }
     }
 
-    /// A text with stores that fit, and with `around` set with lengths around the ones that just do.
+    /// A text with stores that fit and with scratch a byte short, which tells a blank text (1) from another without music (15); with `around` set with lengths around
+    /// the ones that just do.
     fn text(&mut self, text: &[u8], around: bool) {
         let known = known(text);
         self.sum.texts += 1;
@@ -64,20 +65,21 @@ impl Run {
         *self.sum.answers.entry(name).or_default() += 1;
         let (reading, scratch) = (reading_len(&known), scratch_bytes(text.len()));
         self.call(text, &known, reading, scratch);
+        self.call(text, &known, reading, scratch - 1);
         if !around {
             return;
         }
         for r in [0, 1, 3, 4, 5, reading / 2, reading.saturating_sub(1), reading + 1, reading + 7, reading_bytes(text.len())] {
             self.call(text, &known, r, scratch);
         }
-        for s in [0, 1, scratch - 1, scratch + 1, scratch + 9] {
+        for s in [0, 1, scratch + 1, scratch + 9] {
             self.call(text, &known, reading, s);
             self.call(text, &known, reading.saturating_sub(1), s);
         }
     }
 
     /// A text outside the domain of equality that the port must read as the Rust reads the other one.
-    fn alike(&mut self, (text, other): &(Vec<u8>, Vec<u8>)) {
+    fn alike(&mut self, [text, other]: &[Vec<u8>; 2]) {
         assert!(matches!(known(text), Known::Reading { exact: false, .. }), "within the domain of equality");
         let known = known(other);
         assert!(matches!(known, Known::Reading { exact: true, .. }));
@@ -342,6 +344,7 @@ fn main() {
     }
     let outside = edges::outside();
     run("edges: lengths outside the domain of equality", outside.len() as u64, &|run, i| run.alike(&outside[i as usize]));
+    run("random: lengths outside the domain of equality", count / 20, &|run, i| run.alike(&edges::outside_at_random(&mut Rng::of(seed ^ 0xd0a1, i))));
     run("generated", count, &|run, i| run.text(&generate::text(&mut Rng::of(seed, i)), i % 16 == 0));
     run("mutated", count / 4, &|run, i| run.text(&mutated(&mut Rng::of(seed ^ 0x5eed, i)), i % 16 == 0));
     run("bytes", count / 4, &|run, i| run.text(&noise(&mut Rng::of(seed ^ 0xb17e5, i)), i % 16 == 0));

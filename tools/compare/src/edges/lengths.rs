@@ -76,15 +76,24 @@ fn values() -> Vec<Vec<u8>> {
 }
 
 /// Texts outside the domain of equality, and one that is read alike: such a length is a plain quarter (docs/DECISIONS.md, 22).
-pub fn outside() -> Vec<(Vec<u8>, Vec<u8>)> {
+pub fn outside() -> Vec<[Vec<u8>; 2]> {
     let mut texts = Vec::new();
     for unit in NUMBERS {
         for den in NUMBERS.into_iter().filter(|den| !in_domain(unit, *den)) {
             let notes: String = NUMBERS.iter().map(|num| format!("A{num}/{den} ")).collect();
-            texts.push((format!("L:1/{unit}\nK:C\n{notes}").into_bytes(), format!("L:1/4\nK:C\n{}", "A ".repeat(NUMBERS.len())).into_bytes()));
+            texts.push([format!("L:1/{unit}\nK:C\n{notes}"), format!("L:1/4\nK:C\n{}", "A ".repeat(NUMBERS.len()))].map(String::into_bytes));
         }
     }
     texts
+}
+
+pub fn outside_at_random(r: &mut Rng) -> [Vec<u8>; 2] {
+    loop {
+        let (unit, den) = (r.number(32) as u32, r.number(32) as u32);
+        if !in_domain(unit, den) {
+            return [format!("L:1/{unit}\nK:C\nA{}/{den}", r.number(32)), "L:1/4\nK:C\nA".into()].map(String::into_bytes);
+        }
+    }
 }
 
 /// Any numbers; or a length close to one of the forty.

@@ -8,7 +8,7 @@ mod notes;
 mod texts;
 mod tokens;
 
-pub use lengths::outside;
+pub use lengths::{outside, outside_at_random};
 
 pub struct Piece {
     pub name: &'static str,
