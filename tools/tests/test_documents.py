@@ -94,23 +94,39 @@ class Files(unittest.TestCase):
     def test_what_documents_name_is_there(self):
         for document in (('README.md',), ('tools', 'README.md'), ('docs', 'ARCHITECTURE.md'), ('docs', 'CHANGING.md')):
             named = paths(read(*document))
-            self.assertGreater(len(named), 8, document)
-            for path in named:
-                self.assertTrue(os.path.exists(os.path.join(ROOT, path)), '%s names %s' % ('/'.join(document), path))
+            absent = sorted({path for path in named if not os.path.exists(os.path.join(ROOT, path))})
+            with self.subTest('/'.join(document)):
+                self.assertGreater(len(named), 8)
+                self.assertEqual(absent, [])
+
+    def test_what_the_recipes_name_is_in_the_crates(self):
+        text = ''
+        for path in self.files():
+            if path.startswith(os.path.join(ROOT, 'crates')) and path.endswith(('.rt', '.antt')):
+                with open(path, encoding='utf-8') as file:
+                    text += file.read()
+        words = set(re.findall(r'[\w-]+', text))
+        named = re.findall(r'`([A-Za-z]\w+)`', read('docs', 'CHANGING.md'))
+        self.assertGreater(len(named), 15)
+        self.assertEqual(sorted(set(named) - words - {'src', 'specs', 'proofs'}), [], 'docs/CHANGING.md names what is not there')
 
     def test_paths(self):
         self.assertEqual(paths('see crates/laws, tools/dev NAME; `tests/edits/CRATE/x.edit`, ../docs/src, .ci/run.'),
                          ['crates/laws', 'tools/dev', 'tests/edits', '.ci/run'])
         self.assertEqual(paths('crates/io/src/abc/mod.rs of acorde, bindings/rust/src/*.rs'), ['bindings/rust/src'])
+        self.assertEqual(paths('crates/reader/specs/Token.antt (`x`), Part.antt; tools/oracle/crates (a.rs)'),
+                         ['crates/reader/specs/Token.antt', 'crates/reader/specs/Part.antt', 'tools/oracle/crates', 'tools/oracle/crates/a.rs'])
 
 
 def paths(text):
-    """The paths of the repository that a text names: up to the first piece that stands for others (NAME, *)."""
+    """The paths of the repository that a text names: up to the first piece that stands for others (NAME, *). A file's bare name stands in the folder named last."""
     found = []
-    for path in re.findall(r'(?<![\w./-])((?:crates|tools|tests|docs|bindings|include|examples|\.ci)/[\w./*-]+)(?! of acorde)', text):
-        pieces = path.rstrip('.').rstrip('/').split('/')
-        if path.startswith('crates/io/'):
+    for path in re.findall(r'(?<![\w./-])((?:crates|tools|tests|docs|bindings|include|examples|\.ci)/[\w./*-]+|\w+\.(?:antt|rs|rt)\b)(?! of acorde)', text):
+        if path.startswith('crates/io/') or not found and '/' not in path:
             continue
+        if '/' not in path:
+            path = (os.path.dirname(found[-1]) if '.' in found[-1] else found[-1]) + '/' + path
+        pieces = path.rstrip('.').rstrip('/').split('/')
         end = next((at for at, piece in enumerate(pieces) if '*' in piece or re.fullmatch('[A-Z]+', piece)), len(pieces))
         found.append('/'.join(pieces[:end]))
     return found
