@@ -1,8 +1,6 @@
-# For scripts; needs $root. build_library finds the Rust source, proves crate abc and writes target/staticlib/libabc.a; where ABC_LIB names a folder, the libabc.a
-# there is taken instead. build_compare builds the programs of tools/compare over it.
-build_library() {
-    ACORDE_SRC=$("$root/tools/reference" --source)
-    export ACORDE_SRC
+# For scripts; needs $root and goes there. prove_library proves crate abc and writes target/staticlib/libabc.a, unless ABC_LIB names a folder whose libabc.a is taken
+# instead. build_library finds the Rust source first. build_compare builds the programs of tools/compare over the library.
+prove_library() {
     cd "$root"
     if [ -n "${ABC_LIB-}" ]; then
         return
@@ -14,9 +12,15 @@ build_library() {
     mkdir -p target
     if ! rt staticlib abc >target/staticlib.log 2>&1; then
         tail -n 20 target/staticlib.log >&2
-        echo "crates/abc_text is not proved, so there is no library to run: see target/staticlib.log." >&2
+        echo "Crate abc or one below it is not proved, so there is no library to run: see target/staticlib.log." >&2
         exit 1
     fi
+}
+
+build_library() {
+    ACORDE_SRC=$("$root/tools/reference" --source)
+    export ACORDE_SRC
+    prove_library
 }
 
 build_compare() {
