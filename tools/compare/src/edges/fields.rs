@@ -7,7 +7,7 @@ pub fn pieces() -> [Piece; 5] {
         Piece { name: "meters", edges: meters, random: |r| field(r, &METER_FRAMES, meter) },
         Piece { name: "units", edges: units, random: |r| field(r, &UNIT_FRAMES, unit) },
         Piece { name: "keys", edges: keys, random: |r| field(r, &KEY_FRAMES, key) },
-        Piece { name: "voice identifiers", edges: voices, random: |r| field(r, &VOICE_FRAMES, voice) },
+        Piece { name: "voice identifiers", edges: voices, random: two_voices },
         Piece { name: "inline fields", edges: inlines, random: |r| field(r, &["L:1/16\nM:7/8\nK:C\n[@]A"], inline) },
     ]
 }
@@ -192,8 +192,20 @@ fn voices() -> Vec<Vec<u8>> {
     }
     for [a, b] in ascii_pairs() {
         texts.push([b"K:C\nV:", &[a, b][..], b"x\nA\nV:x\nB\nV:", &[b], b"x\nc"].concat());
+        texts.push([b"K:C\nV:", &[a, b][..], b"x\nA\nV:", &[a], b"\nB"].concat());
     }
     texts
+}
+
+/// The second identifier is often a part of the first one's line.
+fn two_voices(r: &mut Rng) -> Vec<u8> {
+    let value = voice(r);
+    if r.chance(30) {
+        return put(r.pick(&VOICE_FRAMES), value.as_bytes());
+    }
+    let from = r.below(value.len() + 1);
+    let to = from + r.below(value.len() + 1 - from);
+    format!("K:C\nV:{value}\nA\nV:{}\nB", &value[from..to]).into_bytes()
 }
 
 fn voice(r: &mut Rng) -> String {
