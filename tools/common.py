@@ -13,7 +13,8 @@ _PLAIN = {'n': '\n', 'r': '\r', 't': '\t', '\\': '\\'}
 
 def unescape(text):
     r"""The bytes of a text written on one line: `\n \r \t \\`, `\u{X}` a character, `\xHH` a byte, `\*N{..}` N times what
-    the braces hold (its own `}` written `\u{7d}`). Any other backslash stands for itself, as in the reference reader."""
+    the braces hold (its own `}` written `\u{7d}`). Any other backslash stands for itself. The reference reader reads them the
+    same way; tools/oracle/escapes.tsv holds both to it."""
     out = bytearray()
     at = 0
     while at < len(text):
@@ -27,8 +28,9 @@ def unescape(text):
             at += 2
             continue
         found = re.match(r'u\{([0-9a-fA-F]+)\}', rest)
-        if found:
-            out += chr(int(found.group(1), 16)).encode()
+        code = int(found.group(1), 16) if found else 0xd800
+        if code < 0xd800 or 0xe000 <= code < 0x110000:
+            out += chr(code).encode()
             at += 1 + found.end()
             continue
         found = re.match(r'x([0-9a-fA-F]{2})', rest)
@@ -47,9 +49,15 @@ def unescape(text):
 
 
 def escape(data):
-    """A text (bytes of UTF-8) on one line, as the reference reader writes it: `unescape` gives the bytes back."""
+    """A text on one line, as the reference reader writes it: `unescape` gives the bytes back."""
     names = {'\n': r'\n', '\r': r'\r', '\t': r'\t', '\\': r'\\'}
-    return ''.join(names.get(c) or (c if ' ' <= c <= '~' else '\\u{%x}' % ord(c)) for c in data.decode())
+    out = []
+    for c in data.decode(errors='surrogateescape'):
+        if 0xdc80 <= ord(c) <= 0xdcff:
+            out.append('\\x%02x' % (ord(c) - 0xdc00))
+        else:
+            out.append(names.get(c) or (c if ' ' <= c <= '~' else '\\u{%x}' % ord(c)))
+    return ''.join(out)
 
 
 # ---- the reference reader -------------------------------------------------------------------------------------------

@@ -1,4 +1,4 @@
-"""tests/differences.tsv, docs/DIFFERENCES.md and docs/DECISIONS.md agree; the files of the project hold no paths of one machine."""
+"""tests/differences.tsv, docs/DIFFERENCES.md and docs/DECISIONS.md agree; what documents name is there; what stands once under tools."""
 import os
 import re
 import unittest
@@ -72,7 +72,8 @@ class Files(unittest.TestCase):
         for folder, folders, names in os.walk(ROOT):
             folders[:] = [name for name in folders if name not in ('.git', 'target', '__pycache__')]
             for name in names:
-                yield os.path.join(folder, name)
+                if name != '.git':
+                    yield os.path.join(folder, name)
 
     def test_no_paths_of_one_machine(self):
         pattern = re.compile(r'(?<![\w.~])/(tmp|root|opt|home|usr|work)/')
@@ -90,11 +91,68 @@ class Files(unittest.TestCase):
                       'TERMS AND CONDITIONS FOR USE, REPRODUCTION, AND DISTRIBUTION', '9. Accepting Warranty or Additional Liability'):
             self.assertIn(words, notice)
 
-    def test_what_the_readme_names_is_there(self):
-        named = set(re.findall(r'`((?:docs|tools|tests|examples|\.ci)/[\w./-]+)', read('README.md')))
-        self.assertGreater(len(named), 8)
-        for path in named:
-            self.assertTrue(os.path.exists(os.path.join(ROOT, path)), path)
+    def test_what_documents_name_is_there(self):
+        for document in (('README.md',), ('tools', 'README.md'), ('docs', 'ARCHITECTURE.md'), ('docs', 'CHANGING.md')):
+            named = paths(read(*document))
+            absent = sorted({path for path in named if not os.path.exists(os.path.join(ROOT, path))})
+            with self.subTest('/'.join(document)):
+                self.assertGreater(len(named), 8)
+                self.assertEqual(absent, [])
+
+    def test_what_the_recipes_name_is_in_the_crates(self):
+        text = ''
+        for path in self.files():
+            if path.startswith(os.path.join(ROOT, 'crates')) and path.endswith(('.rt', '.antt')):
+                with open(path, encoding='utf-8') as file:
+                    text += file.read()
+        words = set(re.findall(r'[\w-]+', text))
+        named = re.findall(r'`([A-Za-z]\w+)`', read('docs', 'CHANGING.md'))
+        self.assertGreater(len(named), 15)
+        self.assertEqual(sorted(set(named) - words - {'src', 'specs', 'proofs'}), [], 'docs/CHANGING.md names what is not there')
+
+    def test_paths(self):
+        self.assertEqual(paths('see crates/laws, tools/dev NAME; `tests/edits/CRATE/x.edit`, ../docs/src, .ci/run.'),
+                         ['crates/laws', 'tools/dev', 'tests/edits', '.ci/run'])
+        self.assertEqual(paths('crates/io/src/abc/mod.rs of acorde, bindings/rust/src/*.rs'), ['bindings/rust/src'])
+        self.assertEqual(paths('crates/reader/specs/Token.antt (`x`), Part.antt; tools/oracle/crates (a.rs)'),
+                         ['crates/reader/specs/Token.antt', 'crates/reader/specs/Part.antt', 'tools/oracle/crates', 'tools/oracle/crates/a.rs'])
+
+
+def paths(text):
+    """The paths of the repository that a text names: up to the first piece that stands for others (NAME, *). A file's bare name stands in the folder named last."""
+    found = []
+    for path in re.findall(r'(?<![\w./-])((?:crates|tools|tests|docs|bindings|include|examples|\.ci)/[\w./*-]+|\w+\.(?:antt|rs|rt)\b)(?! of acorde)', text):
+        if path.startswith('crates/io/') or not found and '/' not in path:
+            continue
+        if '/' not in path:
+            path = (os.path.dirname(found[-1]) if '.' in found[-1] else found[-1]) + '/' + path
+        pieces = path.rstrip('.').rstrip('/').split('/')
+        end = next((at for at, piece in enumerate(pieces) if '*' in piece or re.fullmatch('[A-Z]+', piece)), len(pieces))
+        found.append('/'.join(pieces[:end]))
+    return found
+
+
+class Tools(unittest.TestCase):
+    def test_each_piece_that_is_compared_stands_in_the_list(self):
+        folder, names = os.path.join(ROOT, 'tools', 'compare', 'src', 'edges'), []
+        for name in os.listdir(folder):
+            names += re.findall(r'Piece \{ name: "([^"]+)"', read('tools', 'compare', 'src', 'edges', name))
+        listed = [row.split(' | ')[1] for row in read('tools', 'compare', 'README.md').partition('## The pieces')[2].replace('\\|', '').split('\n') if row.startswith('| ')]
+        self.assertEqual(sorted(names), sorted(listed[1:]))
+        self.assertGreater(len(names), 15)
+
+    def test_what_stands_once(self):
+        """One Cargo workspace, one reading of escaped texts in each language, one random generator, one way to the source."""
+        texts = {}
+        for path in Files().files():
+            if re.search(r'^(tools|bindings)/', os.path.relpath(path, ROOT)) and not path.endswith('test_documents.py'):
+                with open(path, encoding='utf-8', errors='replace') as file:
+                    texts[os.path.relpath(path, ROOT)] = file.read()
+        for pattern in (r'\bfn unescape\b', r'\bdef unescape\b', r'\bunescape *= *lambda\b|\bdef unescape\b', r'\bstruct Rng\b', r'\bfn source_dir\b', r'\bfn parse_passes\(text: &str\) -> Vec<u8> \{\n        (?!let passes = acorde_core)'):
+            self.assertEqual(sum(len(re.findall(pattern, text)) for text in texts.values()), 1, pattern)
+        roots = sorted(path for path, text in texts.items() if path.endswith('Cargo.toml') and '[workspace]' in text)
+        self.assertEqual(roots, ['bindings/rust/Cargo.toml', 'tools/Cargo.toml'])
+        self.assertEqual(sorted(path for path in texts if path.endswith('Cargo.lock')), ['bindings/rust/Cargo.lock', 'tools/Cargo.lock'])
 
 
 if __name__ == '__main__':

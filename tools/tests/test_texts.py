@@ -26,6 +26,16 @@ def whole(data):
 
 
 class Escapes(unittest.TestCase):
+    """The reference reader's own test (tools/oracle/crates/oracle/tests/escapes.rs) holds the Rust to the same rows."""
+    rows = [line.split('\t') for line in read('tools', 'oracle', 'escapes.tsv').split('\n')[:-1]]
+
+    def test_each_row(self):
+        self.assertGreater(len(self.rows), 50)
+        for text, digits, written in self.rows:
+            self.assertEqual(unescape(text).hex(), digits, text)
+            self.assertEqual(escape(bytes.fromhex(digits)), written, text)
+            self.assertEqual(unescape(written).hex(), digits, text)
+
     def test_each_escape(self):
         for text, data in [(r'K:C\nA', b'K:C\nA'), (r'a\r\tb\\n', b'a\r\tb\\n'), (r'\u{e9}\u{212a}', 'é\u212a'.encode()),
                            (r'A\x80\xff', b'A\x80\xff'), (r'A\*3{>}B', b'A>>>B'), (r'\*2{V:\n}', b'V:\nV:\n'),
@@ -33,7 +43,7 @@ class Escapes(unittest.TestCase):
             self.assertEqual(unescape(text), data, text)
 
     def test_escape_goes_back(self):
-        for data in [b'K:C\nA\\n\t\r', 'é\u2028\x00~\x7f'.encode(), b'']:
+        for data in [b'K:C\nA\\n\t\r', 'é\u2028\x00~\x7f'.encode(), b'', bytes(range(256)), b'\xe2\x82A\xed\xa0\x80']:
             self.assertEqual(unescape(escape(data)), data)
             self.assertNotIn('\n', escape(data))
 

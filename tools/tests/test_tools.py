@@ -1,4 +1,4 @@
-"""bundle on a small crate; what dev takes from the prover's output; what vectors writes."""
+"""bundle on a small crate; affected on a small repository; what dev takes from the prover's output; what vectors writes; what each tool says of itself."""
 import os
 import subprocess
 import sys
@@ -8,7 +8,7 @@ import unittest
 from support import TOOLS, load
 from common import short
 
-bundle, dev, vectors, places = load('bundle'), load('dev'), load('vectors'), load('places')
+affected, bundle, dev, vectors, places = load('affected'), load('bundle'), load('dev'), load('vectors'), load('places')
 
 OUTPUT = '''rt: scan proved (unchanged since it was last proved)
 crates/a/proofs/f/Proof.antt:3:5: goal ? in `returns`
@@ -60,6 +60,60 @@ all = 0
                 self.assertEqual(file.read(), 'pub mod One\npub mod Two\npub mod All\n')
 
 
+class Affected(unittest.TestCase):
+    CRATES = '# NAME: what it depends on\nlow:\nmid: low\nside: low\ntop: low mid\nother:\n'
+
+    def repository(self, folder):
+        for name in ('low', 'mid', 'side', 'top', 'other'):
+            os.makedirs(os.path.join(folder, 'crates', name, 'src'))
+            self.write(folder, 'crates/%s/src/lib.rt' % name, '// %s\n' % name)
+        self.write(folder, 'crates.txt', self.CRATES)
+        for words in (['init', '-q'], ['add', '-A'], ['-c', 'user.name=x', '-c', 'user.email=x', 'commit', '-q', '-m', 'x']):
+            subprocess.run(['git'] + words, cwd=folder, check=True)
+
+    def write(self, folder, path, text):
+        with open(os.path.join(folder, path), 'w') as file:
+            file.write(text)
+
+    def run_in(self, folder, *words):
+        run = subprocess.run([sys.executable, os.path.join(TOOLS, 'affected')] + list(words), cwd=folder, stdout=subprocess.PIPE, text=True)
+        self.assertEqual(run.returncode, 0)
+        return run.stdout.split('\n')[:-1]
+
+    def test_what_is_touched_and_what_stands_above_it(self):
+        with tempfile.TemporaryDirectory() as folder:
+            self.repository(folder)
+            self.assertEqual(self.run_in(folder), ['0 touched, 0 to prove again of 5'])
+            self.write(folder, 'README.md', 'x\n')
+            self.assertEqual(self.run_in(folder), ['0 touched, 0 to prove again of 5'])
+            self.write(folder, 'crates/mid/src/lib.rt', '// another\n')
+            self.assertEqual(self.run_in(folder), ['mid (touched)', 'top', '1 touched, 2 to prove again of 5'])
+            # A file that git does not know yet.
+            self.write(folder, 'crates/other/src/more.rt', '')
+            self.assertEqual(self.run_in(folder), ['mid (touched)', 'top', 'other (touched)', '2 touched, 3 to prove again of 5'])
+            # A crate that stands on more than before.
+            self.write(folder, 'crates.txt', self.CRATES.replace('other:', 'other: side'))
+            self.write(folder, 'crates/low/src/lib.rt', '')
+            self.assertEqual(self.run_in(folder, 'HEAD'), ['low (touched)', 'mid (touched)', 'side', 'top', 'other (touched)', '3 touched, 5 to prove again of 5'])
+
+    def test_run(self):
+        with tempfile.TemporaryDirectory() as folder:
+            self.repository(folder)
+            self.write(folder, 'crates/mid/src/lib.rt', '')
+            # In the place of rt: a program that says what it was asked for.
+            os.makedirs(os.path.join(folder, 'bin'))
+            self.write(folder, 'bin/rt', '#!/bin/sh\necho "$@" >>asked\n')
+            os.chmod(os.path.join(folder, 'bin', 'rt'), 0o755)
+            run = subprocess.run([sys.executable, os.path.join(TOOLS, 'affected'), '--run'], cwd=folder, stdout=subprocess.DEVNULL,
+                                 env=dict(os.environ, PATH=os.path.join(folder, 'bin') + os.pathsep + os.environ['PATH']))
+            self.assertEqual(run.returncode, 0)
+            with open(os.path.join(folder, 'asked')) as file:
+                self.assertEqual(file.read(), 'check mid top\nmust-fail mid\n')
+
+    def test_crates(self):
+        self.assertEqual(affected.needs('a:\n# x: y\nb: a  # c\n'), {'a': [], 'b': ['a']})
+
+
 class Dev(unittest.TestCase):
     def test_offers(self):
         self.assertEqual(dev.offers(OUTPUT), [('crates/a/proofs/g/Proof.antt', 'use a.B\n\npub g-spec : ℕ\n'),
@@ -107,7 +161,9 @@ class Places(unittest.TestCase):
 
 class Help(unittest.TestCase):
     def test_each_tool_says_what_it_does(self):
-        for name in ('answers', 'bundle', 'dev', 'eval', 'places', 'reference', 'reference-tests', 'vectors'):
+        names = [name for name in os.listdir(TOOLS) if os.access(os.path.join(TOOLS, name), os.X_OK) and os.path.isfile(os.path.join(TOOLS, name))]
+        self.assertGreater(len(names), 15)
+        for name in names:
             run = subprocess.run([os.path.join(TOOLS, name), '--help'], stdout=subprocess.PIPE, text=True)
             self.assertEqual(run.returncode, 0, name)
             self.assertGreater(len(run.stdout.split('\n')), 3, name)

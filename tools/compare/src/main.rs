@@ -1,8 +1,11 @@
 //! The port of `parse_abc` beside the Rust on whole texts: `tools/differential-texts --help`.
 use compare::{Known, Stores, known, reading_len};
-use oracle::generate::{self, Rng};
+use oracle::generate;
+use oracle::rng::Rng;
 use sindvaelo::{MOST_BYTES, reading_bytes, scratch_bytes};
 use std::collections::BTreeMap;
+
+mod edges;
 
 /// What one kind of texts came to.
 #[derive(Default)]
@@ -42,13 +45,14 @@ impl Run {
                 let (r, s) = ((reading_len(&k) as isize + more).max(0) as usize, (scratch_bytes(t.len()) as isize + under).max(0) as usize);
                 Stores::default().difference(t, &k, r, s).is_some()
             });
-            self.sum.differences.push(format!("{words}\n    {}", oracle::escape(&String::from_utf8_lossy(&small))));
+            self.sum.differences.push(format!("{words}\n    {}", oracle::escape(&small)));
         } else {
             self.sum.differences.push(String::new());
         }
     }
 
-    /// A text with stores that fit, and with `around` set with lengths around the ones that just do.
+    /// A text with stores that fit and with scratch a byte short, which tells a blank text (1) from another without music (15); with `around` set with lengths around
+    /// the ones that just do.
     fn text(&mut self, text: &[u8], around: bool) {
         let known = known(text);
         self.sum.texts += 1;
@@ -61,16 +65,26 @@ impl Run {
         *self.sum.answers.entry(name).or_default() += 1;
         let (reading, scratch) = (reading_len(&known), scratch_bytes(text.len()));
         self.call(text, &known, reading, scratch);
+        self.call(text, &known, reading, scratch - 1);
         if !around {
             return;
         }
         for r in [0, 1, 3, 4, 5, reading / 2, reading.saturating_sub(1), reading + 1, reading + 7, reading_bytes(text.len())] {
             self.call(text, &known, r, scratch);
         }
-        for s in [0, 1, scratch - 1, scratch + 1, scratch + 9] {
+        for s in [0, 1, scratch + 1, scratch + 9] {
             self.call(text, &known, reading, s);
             self.call(text, &known, reading.saturating_sub(1), s);
         }
+    }
+
+    /// A text outside the domain of equality that the port must read as the Rust reads the other one.
+    fn alike(&mut self, [text, other]: &[Vec<u8>; 2]) {
+        assert!(matches!(known(text), Known::Reading { exact: false, .. }), "within the domain of equality");
+        let known = known(other);
+        assert!(matches!(known, Known::Reading { exact: true, .. }));
+        self.sum.texts += 1;
+        self.call(text, &known, reading_len(&known), scratch_bytes(text.len()));
     }
 }
 
@@ -103,10 +117,6 @@ fn kind(name: &str, count: u64, jobs: u64, spoil: bool, each: impl Fn(&mut Run, 
         println!("  DIFFERS {words}");
     }
     sum.differences.len() as u64
-}
-
-fn rng(seed: u64, index: u64) -> Rng {
-    Rng::new(seed.wrapping_mul(0x1_0000_0001).wrapping_add(index << 17))
 }
 
 /// Bytes of music lines that mean something, one of each kind.
@@ -172,7 +182,7 @@ fn noise(r: &mut Rng) -> Vec<u8> {
 
 /// A moved text must give the same answer and the same bytes in both stores; each voice alone the same part.
 fn blocks(run: &mut Run, seed: u64, index: u64) {
-    let mut r = rng(seed, index);
+    let mut r = Rng::of(seed, index);
     let (before, voices, list) = generate::blocks(&mut r);
     let join = |list: &[&(usize, String)]| list.iter().fold(before.clone(), |text, (_, block)| text + block).into_bytes();
     let text = join(&list.iter().collect::<Vec<_>>());
@@ -195,7 +205,7 @@ fn blocks(run: &mut Run, seed: u64, index: u64) {
             .collect();
         run.sum.calls += 1;
         if run.stores.given(&join(&moved), reading, scratch).as_ref() != Ok(&first) {
-            run.sum.differences.push(format!("blocks moved\n    {}", oracle::escape(&String::from_utf8_lossy(&join(&moved)))));
+            run.sum.differences.push(format!("blocks moved\n    {}", oracle::escape(&join(&moved))));
         }
     }
     // A spoiled reading cannot be split into its parts.
@@ -213,7 +223,7 @@ fn blocks(run: &mut Run, seed: u64, index: u64) {
             _ => false,
         };
         if !same {
-            run.sum.differences.push(format!("voice {voice} alone\n    {}", oracle::escape(&String::from_utf8_lossy(&own))));
+            run.sum.differences.push(format!("voice {voice} alone\n    {}", oracle::escape(&own)));
         }
     }
 }
@@ -276,14 +286,14 @@ fn sample() -> String {
         row(&text, 1);
     }
     for i in 0..60 {
-        row(&generate::text(&mut rng(1792, i)), usize::from(i % 10 == 0));
+        row(&generate::text(&mut Rng::of(1792, i)), usize::from(i % 10 == 0));
     }
     out
 }
 
 fn probes() -> Vec<Vec<u8>> {
     let rows = include_str!("../../oracle/probes.tsv").lines();
-    rows.map(|row| oracle::unescape(row.split('\t').next().unwrap()).into_bytes()).collect()
+    rows.map(|row| oracle::unescape(row.split('\t').next().unwrap())).collect()
 }
 
 fn main() {
@@ -325,9 +335,19 @@ fn main() {
     for length in 0..=4 {
         run(&format!("lines: all of {length} bytes"), lines_of(length), &|run, i| run.text(&line(length, i), false));
     }
-    run("generated", count, &|run, i| run.text(&generate::text(&mut rng(seed, i)), i % 16 == 0));
-    run("mutated", count / 4, &|run, i| run.text(&mutated(&mut rng(seed ^ 0x5eed, i)), i % 16 == 0));
-    run("bytes", count / 4, &|run, i| run.text(&noise(&mut rng(seed ^ 0xb17e5, i)), i % 16 == 0));
+    for (at, piece) in edges::pieces().iter().enumerate() {
+        let name = format!("edges: {}", piece.name);
+        let texts = if wanted(&name) { (piece.edges)() } else { Vec::new() };
+        run(&name, texts.len() as u64, &|run, i| run.text(&texts[i as usize], i % 16 == 0));
+        let seed = seed ^ (0xed6e << 16 | at as u64);
+        run(&format!("random: {}", piece.name), count / 20, &|run, i| run.text(&(piece.random)(&mut Rng::of(seed, i)), i % 16 == 0));
+    }
+    let outside = edges::outside();
+    run("edges: lengths outside the domain of equality", outside.len() as u64, &|run, i| run.alike(&outside[i as usize]));
+    run("random: lengths outside the domain of equality", count / 20, &|run, i| run.alike(&edges::outside_at_random(&mut Rng::of(seed ^ 0xd0a1, i))));
+    run("generated", count, &|run, i| run.text(&generate::text(&mut Rng::of(seed, i)), i % 16 == 0));
+    run("mutated", count / 4, &|run, i| run.text(&mutated(&mut Rng::of(seed ^ 0x5eed, i)), i % 16 == 0));
+    run("bytes", count / 4, &|run, i| run.text(&noise(&mut Rng::of(seed ^ 0xb17e5, i)), i % 16 == 0));
     run("blocks", count / 50, &|run, i| blocks(run, seed, i));
     if huge {
         // 67,108,864 bytes and one more: the second is refused, the first is not for its length.

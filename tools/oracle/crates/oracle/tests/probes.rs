@@ -9,7 +9,7 @@ fn probes() {
     for line in table.lines() {
         let mut columns = line.split('\t');
         let text = unescape(columns.next().unwrap());
-        assert_eq!(columns.next().unwrap(), answer_line(text.as_bytes()), "{text:?}");
-        assert_eq!(columns.next().unwrap(), brief_line(&text), "{text:?}");
+        assert_eq!(columns.next().unwrap(), answer_line(&text), "{line}");
+        assert_eq!(columns.next().unwrap(), brief_line(&text), "{line}");
     }
 }
