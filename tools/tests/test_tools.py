@@ -8,7 +8,7 @@ import unittest
 from support import TOOLS, load
 from common import short
 
-affected, bundle, dev, vectors, places = load('affected'), load('bundle'), load('dev'), load('vectors'), load('places')
+affected, bundle, dev, vectors, places, reasons = (load(name) for name in ('affected', 'bundle', 'dev', 'vectors', 'places', 'reasons'))
 
 OUTPUT = '''rt: scan proved (unchanged since it was last proved)
 crates/a/proofs/f/Proof.antt:3:5: goal ? in `returns`
@@ -173,6 +173,34 @@ class Help(unittest.TestCase):
                              env=dict(os.environ, ACORDE_SRC='no/such/folder'))
         self.assertEqual(run.returncode, 2)
         self.assertIn('Set ACORDE_SRC', run.stderr)
+
+
+class Reasons(unittest.TestCase):
+    FACT = '''crates/a/proofs/f/Proof.antt:3:5: error: `g` was not admitted (it has holes), so this cannot be checked
+crates/a/proofs/f/Proof.antt:9:5: error: `returns`: the two values are 1
+  and 2
+logic=not-proved
+'''
+    SHAPE = '''crates/a/proofs/f/Proof.antt:3:5: error: `add-x`: module `a.Tie` has no `Need-add-x` that can be named from here
+crates/a/proofs/f/Proof.antt:9:5: error: the two values are 1 and 2
+'''
+
+    def test_reason(self):
+        self.assertEqual(reasons.reason(self.FACT), (None, 'proofs/f/Proof.antt:9 `returns`: the two values are 1 and 2'))
+        self.assertEqual(reasons.reason(self.SHAPE)[0], 'a need has no name')
+        self.assertEqual(reasons.reason('rt: proved')[0], 'no error in the log')
+
+    def test_run(self):
+        with tempfile.TemporaryDirectory() as folder:
+            run = lambda: subprocess.run([sys.executable, os.path.join(TOOLS, 'reasons'), folder], stdout=subprocess.PIPE, stderr=subprocess.PIPE, text=True)
+            self.assertEqual(run().returncode, 2)
+            for name, text in (('lost', self.FACT), ('renamed', self.SHAPE)):
+                os.makedirs(os.path.join(folder, 'a', name))
+                with open(os.path.join(folder, 'a', name, '.log'), 'w') as file:
+                    file.write(text)
+            self.assertEqual(run().returncode, 1)
+            self.assertIn('a/renamed: a need has no name', run().stdout)
+            self.assertNotIn('a/lost', run().stdout)
 
 
 if __name__ == '__main__':
