@@ -4,6 +4,7 @@ use mathlib.Core.Bool.{true≢false}
 use native.Mathlib.Omega.{arith}
 use borrow.Author.Tests.{ltb-true, lt-ltb}
 use Rattle.laws.specs.Lists.{indexOf}
+use Rattle.laws.proofs.Bools.{never-true}
 use Rattle.reader.specs.Lines.{isV, kindOf}
 use Rattle.reader.specs.Scan.{begin}
 use Rattle.blocks.specs.Frame.{Laws}
@@ -11,7 +12,7 @@ use Rattle.blocks.specs.Demand.{identifier}
 use Rattle.blocks.proofs.Machine.{utf8-row, blank-row}
 use Rattle.blocks.proofs.RowKinds.{isSung, voice-row, key-row, unit-row, meter-row, sung-only}
 use Rattle.blocks.proofs.Instance.{reader}
-use Rattle.blocks.proofs.Scan.{step-on, facts, step-through, through, through-V, names-played, told-kind, blind-kind, hush-kind, HushOut, act-hush, not-true, no-voice, music-lyric}
+use Rattle.blocks.proofs.Scan.{step-on, facts, step-through, through, through-V, names-played, told-kind, blind-kind, hush-kind, HushOut, act-hush, no-voice, music-lyric}
 use Rattle.blocks.proofs.End.{early-iff, early-no, late-no, alike, part-own}
 
 -- the laws of specs/Frame, each from what one line does
@@ -30,12 +31,12 @@ laws =
       stays = λ s t r a b h e. facts s t r a e .stays b (no-voice r h);
       slots = λ s t r a e p h. lt-ltb p (t .places) (omega (arith, facts s t r a e .slots, ltb-true p (s .places) h));
       slot-music = λ s t r a b h e. lt-ltb (s .part) (t .places) (facts s t r a e .slot b h);
-      music-V = λ r h. not-true (isV r) (λ x. names-played (identifier r) (kindOf r) (voice-row r x) h);
+      music-V = λ r h. never-true (isV r) (λ x. names-played (identifier r) (kindOf r) (voice-row r x) h);
       music-w = music-lyric;
       music-L = λ r h. unit-row r h;
       music-M = λ r h. meter-row r h;
       unit-meter-unseen = λ e u w m n b r h. blind-kind u w m n b (kindOf r) h;
-      slot-unseen = λ e u n b r h. told-kind u n b (kindOf r) (not-true (isSung (kindOf r)) (λ x. true≢false (sym (sung-only r x) ∙ h)));
+      slot-unseen = λ e u n b r h. told-kind u n b (kindOf r) (never-true (isSung (kindOf r)) (λ x. true≢false (sym (sung-only r x) ∙ h)));
       no-music = λ e u n b r h. hush-kind u n b (kindOf r) h;
       placed = λ s t r a e p h. subst (HushOut p) (step-on s t r a e .1) (act-hush s (kindOf r) (s .env .inHeader) p) h;
       fine = λ s t r a b e. facts s t r a e .fine b;

@@ -44,7 +44,6 @@ abbrev pub Blank : List ℕ → Type 0
 Blank t = foldl whiteStep white t ≡ white
 
 other-white : other ≡ white → ⊥
-unfolding isAllWhite
 other-white e = false≢true (ap isAllWhite e)
 
 white-lf : (q : White) → (whiteStep q 10 ≡ white) ⊎ (whiteStep q 10 ≡ other)
@@ -67,15 +66,11 @@ other-stuck c = refl
 pub blank-row : (r t : List ℕ) → closed r ≡ true → Blank (r ++ t) ↔ (Blank r × Blank t)
 blank-row = accept-row whiteStep white other other-white white-lf other-stuck
 
-pub other-stays : (t : List ℕ) → foldl whiteStep other t ≡ other
-other-stays = stays-dead whiteStep white other other-white white-lf other-stuck
-
 -- UTF-8
 abbrev pub IsUtf8 : List ℕ → Type 0
 IsUtf8 t = foldl utf8Step between t ≡ between
 
 invalid-between : invalid ≡ between → ⊥
-unfolding isBetween
 invalid-between e = false≢true (ap isBetween e)
 
 utf8-lf : (q : Utf8) → (utf8Step q 10 ≡ between) ⊎ (utf8Step q 10 ≡ invalid)

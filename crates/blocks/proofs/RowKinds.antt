@@ -9,6 +9,7 @@ use lib.ListN.{length, drop}
 use borrow.Author.Tests.{eqb-true}
 use Rattle.laws.specs.Lists.{isNil, foldl}
 use Rattle.laws.proofs.Bools.{by-test, and-left, and-right, cond-both, and-both, same-test, eqb-same}
+use Rattle.reader.proofs.TextLaws.{not-blank, trim-keep}
 use Rattle.reader.specs.Text as text
 use Rattle.reader.specs.Text.{whiteStep, white, isAllWhite, isBlank, cut, trim, clean, hasHigh}
 use Rattle.reader.specs.Fields as fields
@@ -17,7 +18,6 @@ use Rattle.reader.specs.Keys.{keyOf}
 use Rattle.reader.specs.Lines.{begins, isV, isK, isL, isM, isX, isLyric, isField, Kind, blank, refused, lyric, voice, key, meter, unit, tune, other, music, voiceKind, keyKind, fieldKind, lineKind, kindOf}
 use Rattle.blocks.specs.Kinds.{isMusicLine}
 use Rattle.blocks.specs.Demand.{identifier}
-use Rattle.blocks.proofs.Machine.{other-stays}
 
 -- ROWS AND LINES
 begins-shape : (a b : ℕ) (r : List ℕ) → begins a b r ≡ true → (x : List ℕ) × (r ≡ a ∷ (b ∷ x))
@@ -27,14 +27,6 @@ begins-shape a b (c ∷ (d ∷ x)) h =
     (x, λ i. eqb-true c a (and-left (eqb c a) (eqb d b) h) i ∷ (eqb-true d b (and-right (eqb c a) (eqb d b) h) i ∷ x))
 
 -- a byte that no white space begins with stays
-not-blank : (c : ℕ) (l : List ℕ) → whiteStep white c ≡ text.other → isBlank (c ∷ l) ≡ false
-unfolding isBlank isAllWhite
-not-blank c l h = ap (λ (q : text.White). isAllWhite (foldl whiteStep q l)) h ∙ ap isAllWhite (other-stays l)
-
-trim-keep : (c : ℕ) (l : List ℕ) → whiteStep white c ≡ text.other → trim (c ∷ l) ≡ c ∷ trim l
-unfolding trim
-trim-keep c l h = ap (λ (b : Bool). cond b [] (c ∷ trim l)) (not-blank c l h)
-
 clean-two : (a b : ℕ) (x : List ℕ) → eqb a 37 ≡ false → eqb b 37 ≡ false → whiteStep white a ≡ text.other → whiteStep white b ≡ text.other
     → clean (a ∷ (b ∷ x)) ≡ a ∷ (b ∷ trim (cut x))
 unfolding clean cut

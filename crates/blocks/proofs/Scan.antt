@@ -9,7 +9,7 @@ use lib.Dec.{eqb, leb, ltb}
 use lib.ListN.{length}
 use borrow.Author.Tests.{eqb-true, ltb-true, lt-ltb}
 use Rattle.laws.specs.Lists.{All, elem, indexOf}
-use Rattle.laws.proofs.Bools.{by-test}
+use Rattle.laws.proofs.Bools.{by-test, never-true, some≢none}
 use Rattle.laws.proofs.Lists.{elem-left, has-last}
 use Rattle.standard.specs.Fields.{Meter}
 use Rattle.reader.specs.Tokens.{Effect, counts, refuses, setsUnit, setsMeter, noEffect}
@@ -23,9 +23,6 @@ use Rattle.blocks.proofs.RowKinds.{isVoice, isSung, Keyish, Names, lyri
 use Rattle.blocks.proofs.Instance.{scanning, Clear, kindCost, kindFine, kindItems, reader}
 
 -- an answer is not none
-pub some≢none : {A : Type 0} (a : A) → some a ≡ none → ⊥
-some≢none {A} a e = let z : _≡_ {A = ℕ} 0 1 = cc in omega arith
-
 -- THE EFFECTS OF A MUSIC LINE
 none-within : (n : ℕ) (es : List Effect) → firstRefusal n es ≡ none → n ≤ mostNotes → Clear es × (n + noteCount es ≤ mostNotes)
 unfolding scanning
@@ -421,13 +418,9 @@ act-hush s (music hi es l) true p = λ x. tt
 act-hush s (music true es l) false p = tt
 act-hush s (music false es l) false p = play-hush s es l (firstRefusal (s .notes) es) p
 
-pub not-true : (b : Bool) → (b ≡ true → ⊥) → b ≡ false
-not-true true f = absurd (f refl)
-not-true false f = refl
-
 -- no line is both music and a lyric line
 pub music-lyric : (r : TextLine) → isMusicLine (kindOf r) ≡ true → isLyric r ≡ false
-music-lyric r h = not-true (isLyric r) (λ x. true≢false (sym h ∙ lyric-row r x))
+music-lyric r h = never-true (isLyric r) (λ x. true≢false (sym h ∙ lyric-row r x))
 
 -- A ROW
 
@@ -469,7 +462,7 @@ place-made s t r a b h e = facts s t r a e .slot b h
 
 -- no V: line, no voice
 pub no-voice : (r : TextLine) → isV r ≡ false → isVoice (kindOf r) ≡ false
-no-voice r h = not-true (isVoice (kindOf r)) (λ x. true≢false (sym (voice-only r x) ∙ h))
+no-voice r h = never-true (isVoice (kindOf r)) (λ x. true≢false (sym (voice-only r x) ∙ h))
 
 -- "or, other than by its V: line, the voice, inline included": after the first K: line nothing but a V: line changes the voice that is read
 pub only-V : (s t : ScanState) (r : TextLine) (a : Items) → s .env .inHeader ≡ false → isV r ≡ false → step s r ≡ on t a → t .part ≡ s .part

@@ -25,7 +25,7 @@ use Rattle.blocks.proofs.Rows.{lines-concat, rows-closed, rows-all, reb
 
 -- LINES: a row's line feed, and a carriage return before it, do not count: cut and trimmed a row is as its line without them
 white-lf : (q : White) → isAllWhite (whiteStep q 10) ≡ isAllWhite q
-unfolding whiteStep isAllWhite
+unfolding whiteStep
 white-lf white = refl
 white-lf inC2 = refl
 white-lf inE1 = refl
@@ -38,7 +38,7 @@ white-lf inE380 = refl
 white-lf text.other = refl
 
 white-cr : (q : White) → isAllWhite (whiteStep q 13) ≡ isAllWhite q
-unfolding whiteStep isAllWhite
+unfolding whiteStep
 white-cr white = refl
 white-cr inC2 = refl
 white-cr inE1 = refl
@@ -61,7 +61,7 @@ module _ (c : ℕ) (w : (q : White) → isAllWhite (whiteStep q c) ≡ isAllWhit
   blank-end l = white-end white l
 
   trim-end : (l : List ℕ) → trim (l ++ (c ∷ [])) ≡ trim l
-  unfolding trim isBlank isAllWhite
+  unfolding trim isBlank
   trim-end [] = ap (λ (b : Bool). cond b [] (c ∷ [])) (w white)
   trim-end (x ∷ l) = λ i. cond (blank-end (x ∷ l) i) [] (x ∷ trim-end l i)
 

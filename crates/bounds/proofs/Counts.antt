@@ -8,7 +8,7 @@ use lib.Dec.{lit≤}
 use lib.ListN.{length, length-append}
 use Rattle.laws.specs.Lists.{sum, any, concat}
 use Rattle.laws.proofs.Bools.{by-test}
-use Rattle.laws.proofs.Lists.{sum-append, sum-map}
+use Rattle.laws.proofs.Lists.{sum-append, sum-map, sum-both}
 use Rattle.standard.specs.Keys.{Key}
 use Rattle.reader.specs.Scan.{Item, Env}
 use Rattle.reader.specs.State.{Note, Measure}
@@ -19,7 +19,6 @@ use Rattle.reader.specs.Answer.{isMusic, built}
 use Rattle.reader.specs.All.{all as everything}
 use Rattle.reader.proofs.Sizes.{four-voices, sections-length}
 use Rattle.bounds.specs.Weights.{Weights, Covered, sectionWeights, noteWeight, voiceWeight, measureWeight, measuresWeight, syllableWeight, musicBytes, lyricBytes, itemBytes}
-use Rattle.bounds.proofs.Generic.{sum-both}
 use Rattle.bounds.proofs.PartWeights.{part-weight}
 use Rattle.bounds.proofs.LyricWeights.{words-weight, lyrics-weight}
 

@@ -1,4 +1,3 @@
-pub mod Generic
 pub mod TokenWeights
 pub mod PartWeights
 pub mod LyricWeights

@@ -9,7 +9,9 @@ use lib.Dec.{ltb, eqb}
 use lib.ListN.{length, replicate, length-map}
 use Rattle.laws.specs.Lists.{foldl, sum, isNil, eqText, All, alterAt}
 use Rattle.laws.proofs.Bools.{by-test}
-use Rattle.laws.proofs.Lists.{sum-append, sum-map, sum-filter, filter-passes}
+use Rattle.laws.proofs.Lists.{sum-append, sum-map, sum-filter, filter-passes, sum-alter, sum-reverse}
+use Rattle.laws.proofs.Numbers.{mul-le-right, mul-le-left}
+use Rattle.reader.proofs.PartLaws.{counted-lines}
 use Rattle.standard.specs.Bytes.{ascii, is, first, last}
 use Rattle.standard.specs.Keys.{Key}
 use Rattle.standard.specs.Notes.{isSounded}
@@ -24,7 +26,6 @@ use Rattle.reader.specs.Lyrics.{Syllable, orSkip, wordOf, wordsOf, lyricWords, 
 use Rattle.reader.specs.Part.{onBroken, onNothing, countedIn, append, onSound, onBarline, hears, onToken, lineBegins, onLine, onLyric, onKey, onItem, finished, build}
 use Rattle.reader.specs.Records.{isSung, lyricsOf}
 use Rattle.bounds.specs.Weights.{Weights, Covered, syllableWeight, wordsWeight, lyricBytes}
-use Rattle.bounds.proofs.Generic.{sum-alter, sum-reverse, times-more, times-dearer}
 
 -- PIECES: together no longer than the text
 push-length : (c : ℕ) (ps : List (List ℕ)) → sum length (push c ps) ≡ suc (sum length ps)
@@ -69,7 +70,7 @@ module _ (p : Weights) where
         let n = length x in
         let s : suc n ≡ 1 + n = omega arith in
         rw (length-map {B = ℕ} x (λ c. cond (is "~" c) 32 c))
-        (omega (arith, mul-suc (p .text) n, mul-suc (p .byte) n, times-dearer (p .text) (p .byte) n (omega (arith, paid .syllables)), paid .syllables))
+        (omega (arith, mul-suc (p .text) n, mul-suc (p .byte) n, mul-le-left (p .text) (p .byte) n (omega (arith, paid .syllables)), paid .syllables))
 
     -- the syllables of a word
     syllables-covered : (b a : Bool) (ps : List (List ℕ)) → All (λ x. not (isNil x) ≡ true) ps → sum wordWeight (syllables b a ps) ≤ p .byte * sum length ps
@@ -96,7 +97,7 @@ module _ (p : Weights) where
         (λ g. rw (g, wordOf)
         (let ps = words (separator (is "-")) w in
         let ws = syllables (is "-" (first w)) (is "-" (last w)) ps in
-        omega (arith, skip-covered ws, syllables-covered (is "-" (first w)) (is "-" (last w)) ps (words-some (separator (is "-")) w), times-more (p .byte) (sum length ps) (length w) (words-length (separator (is "-")) w))))))))
+        omega (arith, skip-covered ws, syllables-covered (is "-" (first w)) (is "-" (last w)) ps (words-some (separator (is "-")) w), mul-le-right (p .byte) (sum length ps) (length w) (words-length (separator (is "-")) w))))))))
 
     -- all words
     all-covered : (ws : List (List ℕ)) → sum wordWeight (wordsOf ws) ≤ p .byte * sum length ws
@@ -107,7 +108,7 @@ module _ (p : Weights) where
     -- A LYRIC LINE: its bytes pay for its words
     pub lyric-covered : (t : List ℕ) → sum wordWeight (lyricWords t) ≤ p .byte * length t
     unfolding lyricWords
-    lyric-covered t = omega (arith, all-covered (words whiteAt t), times-more (p .byte) (sum length (words whiteAt t)) (length t) (words-length whiteAt t))
+    lyric-covered t = omega (arith, all-covered (words whiteAt t), mul-le-right (p .byte) (sum length (words whiteAt t)) (length t) (words-length whiteAt t))
 
   -- SUNG: a syllable goes to one note at most
   put-weight : (x : Syllable) (ys : List Syllable) → sum (syllableWeight p) (put x ys) ≤ sum (syllableWeight p) ys + syllableWeight p x
@@ -155,10 +156,6 @@ module _ (p : Weights) where
   none-weight (suc n) = omega (arith, none-weight n)
 
 -- THE LYRIC LINES OF A PART are those of its items
-counted-lines : (o : ℕ) (n : Note) (v : Verses) → countedIn o n v .lines ≡ v .lines
-unfolding countedIn
-counted-lines o n v = by-test (eqb o 0 && isSounded (n .kind)) (λ e. rw (e, countedIn)) (λ e. rw (e, countedIn))
-
 broken-lines : (up : Bool) (n : ℕ) (v : List Note) (s : PartState) → onBroken up n v s .verses .lines ≡ s .verses .lines
 unfolding onBroken setVoice onOpen
 broken-lines up n [] s = refl

@@ -10,7 +10,8 @@ use lib.Dec.{eqb}
 use lib.ListN.{length, getD}
 use Rattle.laws.specs.Lists.{foldl, all, sum, alterAt, onFirst, isNil}
 use Rattle.laws.proofs.Bools.{by-test, and-no-right}
-use Rattle.laws.proofs.Lists.{sum-map}
+use Rattle.laws.proofs.Lists.{sum-map, sum-put, sum-reverse, sum-same}
+use Rattle.reader.proofs.PartLaws.{length-sounds}
 use Rattle.standard.specs.Keys.{Key}
 use Rattle.standard.specs.Fields.{Meter}
 use Rattle.standard.specs.Bars.{Barline, normal, repeatStart, repeatEnd, repeatBoth, double, final}
@@ -29,7 +30,6 @@ use Rattle.reader.specs.Voltas.{starts, endsAt, close, closed}
 use Rattle.reader.specs.Part.{halvedNote, brokenNote, onBroken, afterHalf, canBeam, beamed, beamedAgain, onNothing, grouped, append, restNote, soundNote, onSound, leftSet, ended, onBarline, hears, onToken, opened, lineBegins, onLine, onLyric, onKey, onItem, dropped, inOrder, markedBy, marked, finished, build}
 use Rattle.reader.proofs.LineLaws.{Kept, kept-item, ready-begins, ready-after}
 use Rattle.bounds.specs.Weights.{Weights, Covered, noteWeight, voiceWeight, measureWeight, measuresWeight, keptBack, scopesWeight, stateWeight, markWeight, writtenWeight, tokenWeight, musicBytes}
-use Rattle.bounds.proofs.Generic.{sum-put, sum-reverse, sum-same}
 use Rattle.bounds.proofs.TokenWeights.{line-covered}
 
 module _ (p : Weights) where
@@ -148,11 +148,6 @@ module _ (p : Weights) where
       omega (arith, more-weight (onFirst (afterHalf (l .half)) v) (noteWeight p n) s (omega (arith, first-weight (afterHalf (l .half)) (half-weight (l .half)) v, beamed-weight (l .run) g (voiceNow s), group-weight (l .tuplet) n)))
 
   -- PITCHES AND SCOPES
-  sounds-length : (k : Key) (sc : Scope) (ws : List Written) → length (soundsOf k sc ws) ≡ length ws
-  unfolding soundsOf
-  sounds-length k sc [] = refl
-  sounds-length k sc (w ∷ ws) = ap suc (sounds-length k (scopeAfter sc w) ws)
-
   -- the accidentals that are written
   abbrev marksWeight : List Written → ℕ
   marksWeight ws = sum (λ (w : Written). markWeight p (w .sign)) ws
@@ -179,7 +174,7 @@ module _ (p : Weights) where
       let sc = getD (s .scopes) o [] in
       let n = soundNote (valueOf (s .line .unit) l) (s .pending) b (soundsOf (s .key) sc ws) in
       let t = setScopes (alterAt o (λ old. scopeAfterAll sc ws) (s .scopes)) (setPending (pendingAfter (s .pending) b) s) in
-      omega (arith, append-step n t, sum-put (λ (x : Scope). p .accidental * length x) o (scopeAfterAll sc ws) (s .scopes) [] (marksWeight ws) (omega (arith, scope-weight sc ws)), written-weight ws, times-same p (sounds-length (s .key) sc ws))
+      omega (arith, append-step n t, sum-put (λ (x : Scope). p .accidental * length x) o (scopeAfterAll sc ws) (s .scopes) [] (marksWeight ws) (omega (arith, scope-weight sc ws)), written-weight ws, times-same p (length-sounds (s .key) sc ws))
     where
       times-same : (q : Weights) {a b : ℕ} → a ≡ b → q .pitch * a ≡ q .pitch * b
       times-same q e = ap (λ (x : ℕ). q .pitch * x) e

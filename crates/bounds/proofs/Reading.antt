@@ -12,6 +12,7 @@ use Rattle.laws.specs.Lists.{foldl, sum, any, All}
 use Rattle.laws.specs.Bytes.{le32, zeros}
 use Rattle.laws.proofs.Bools.{by-test, and-no-right}
 use Rattle.laws.proofs.Numbers.{little-bytes}
+use Rattle.reader.proofs.PartLaws.{parts-count}
 use Rattle.reader.specs.Text.{within, Utf8, between, one, two, three, afterE0, afterED, afterF0, afterF4, invalid, utf8Step, isBetween, isUtf8, isBlank, textLines}
 use Rattle.reader.specs.Steps.{refuse, on, itemsOf}
 use Rattle.reader.specs.Scan.{Item, Env, ScanState, scan, Items, Out, mostVoices}
@@ -24,7 +25,7 @@ use Rattle.bounds.proofs.ScanWeights.{Holds, Silent, voiceCount}
 use Rattle.bounds.proofs.ScanRanges.{refusal-byte, not-16, ItemsFit, OutFits, ScanFits, scan-out}
 use Rattle.bounds.proofs.LyricRanges.{part-fits, empty-fits}
 use Rattle.bounds.proofs.RecordBytes.{both, sections-bytes}
-use Rattle.bounds.proofs.Length.{parts-count, encode-bound, silent-parts, scan-bound}
+use Rattle.bounds.proofs.Length.{encode-bound, silent-parts, scan-bound}
 
 -- UTF-8 IS OF BYTES
 not-within : (a b c : ℕ) → b < c → within a b c ≡ false
@@ -50,7 +51,7 @@ big-invalid invalid c h = refl
 
 -- and it stays so
 stays-invalid : (s : List ℕ) → isBetween (foldl utf8Step invalid s) ≡ false
-unfolding utf8Step isBetween
+unfolding utf8Step
 stays-invalid [] = refl
 stays-invalid (c ∷ s) = stays-invalid s
 

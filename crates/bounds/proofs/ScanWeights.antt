@@ -12,6 +12,7 @@ use lib.ListN.{length, length-append}
 use Rattle.laws.specs.Lists.{sum, All, elem}
 use Rattle.laws.proofs.Bools.{by-test}
 use Rattle.laws.proofs.Lists.{sum-append, All-append}
+use Rattle.laws.proofs.Numbers.{mul-le-right, mul-le-left}
 use Rattle.reader.specs.Text.{clean}
 use Rattle.reader.specs.Tokens.{Effect}
 use Rattle.reader.specs.Lines.{Kind, blank, refused, lyric, voice, key, meter, unit, tune, other, music, lineKind, kindOf}
@@ -19,7 +20,6 @@ use Rattle.reader.specs.Steps.{TextLine, refuse, on, run, first}
 use Rattle.reader.specs.Scan.{Item, ScanState, mostVoices, mostLines, withUnnamed, voicesBefore, playOn, voiceOn, unitOn, act, step, firstRefusal, Out, Items}
 use Rattle.reader.specs.Answer.{isMusic}
 use Rattle.bounds.specs.Weights.{musicBytes, lyricBytes, itemBytes}
-use Rattle.bounds.proofs.Generic.{times-more, times-dearer}
 use Rattle.bounds.proofs.RowWeights.{Fed, KindFits, kind-fits, clean-length}
 
 -- WHAT HOLDS OF A STEP that is not refused
@@ -95,15 +95,15 @@ module _ (item byte pays rest voiceWeight : ℕ) where
   module _ (paid : Enough) where
     -- a line of n bytes, of which m + 1 cost
     line-weight : (m n : ℕ) → suc m ≤ n → item + byte * suc m ≤ pays * n + rest
-    line-weight m n h = omega (arith, times-dearer byte pays m (paid .bytes), mul-suc byte m, mul-suc pays m, times-more pays (suc m) n h, paid .lines)
+    line-weight m n h = omega (arith, mul-le-left byte pays m (paid .bytes), mul-suc byte m, mul-suc pays m, mul-le-right pays (suc m) n h, paid .lines)
 
     -- a line of two bytes
     item-weight : (n : ℕ) → 2 ≤ n → item ≤ pays * n + rest
-    item-weight n h = omega (arith, times-more pays 2 n h, paid .lines, paid .bytes)
+    item-weight n h = omega (arith, mul-le-right pays 2 n h, paid .lines, paid .bytes)
 
     -- three bytes
     three : (n : ℕ) → 3 ≤ n → 3 * pays ≤ pays * n
-    three n h = omega (arith, times-more pays 3 n h)
+    three n h = omega (arith, mul-le-right pays 3 n h)
 
     -- as many voices
     same-voices : (m n : ℕ) → m ≡ n → voiceWeight * m ≡ voiceWeight * n
@@ -111,7 +111,7 @@ module _ (item byte pays rest voiceWeight : ℕ) where
 
     -- one voice more
     one-more : (n : ℕ) → voiceWeight * max 1 (n + 1) ≤ voiceWeight * max 1 n + voiceWeight
-    one-more n = omega (arith, times-more voiceWeight (max 1 (n + 1)) (max 1 n + 1) (omega arith), mul-add voiceWeight (max 1 n) 1)
+    one-more n = omega (arith, mul-le-right voiceWeight (max 1 (n + 1)) (max 1 n + 1) (omega arith), mul-add voiceWeight (max 1 n) 1)
 
     -- a V line of three bytes or more
     voice-budget : (s : ScanState) (v : List ℕ) (vs : List (List ℕ)) (n : ℕ) → max 1 (length vs) ≡ voiceCount s → 3 ≤ n → (known full mid : Bool) → Holds (Budget s n) (voiceOn s v vs known full mid)
@@ -131,7 +131,7 @@ module _ (item byte pays rest voiceWeight : ℕ) where
     play-budget s es (c ∷ l) n g h none = omega (arith, line-weight (length l) n h, more-bytes)
       where
         more-bytes : byte * (suc (length l) + 0) ≤ byte * suc (length l)
-        more-bytes = times-more byte (suc (length l) + 0) (suc (length l)) (omega arith)
+        more-bytes = mul-le-right byte (suc (length l) + 0) (suc (length l)) (omega arith)
 
     unit-budget : (s : ScanState) (n : ℕ) (u : Option ℕ) → Holds (Budget s n) (unitOn s u)
     unfolding unitOn Holds
@@ -143,7 +143,7 @@ module _ (item byte pays rest voiceWeight : ℕ) where
     act-budget s blank h n f = omega arith
     act-budget s (refused k) h n f = tt
     act-budget s (lyric t) true n f = omega arith
-    act-budget s (lyric t) false n f = omega (arith, line-weight (length t) n (omega arith), times-more byte (0 + length t) (suc (length t)) (omega arith))
+    act-budget s (lyric t) false n f = omega (arith, line-weight (length t) n (omega arith), mul-le-right byte (0 + length t) (suc (length t)) (omega arith))
     act-budget s (voice v mid) h n f = voice-budget s v (voicesBefore s) n (before-count s) f (elem v (voicesBefore s)) (leb mostVoices (length (voicesBefore s))) mid
     act-budget s (key k) true n f = omega (arith, item-weight n f)
     act-budget s (key k) false n f = omega (arith, item-weight n f)
@@ -165,7 +165,7 @@ module _ (item byte pays rest voiceWeight : ℕ) where
 
     -- a line feed pays what is left to it
     fed-row : (m n : ℕ) → m < n → pays * m + rest ≤ pays * n
-    fed-row m n h = omega (arith, times-more pays (suc m) n h, mul-suc pays m, paid .feed)
+    fed-row m n h = omega (arith, mul-le-right pays (suc m) n h, mul-suc pays m, paid .feed)
 
     -- THE ROWS OF A TEXT
     pub lines-budget : (rs : List TextLine) → Fed rs → (s : ScanState) → Holds (Budget s (sum length rs)) (run step s rs)
@@ -173,7 +173,7 @@ module _ (item byte pays rest voiceWeight : ℕ) where
     lines-budget [] f s = omega arith
     lines-budget (r ∷ []) f s =
         holds-run (Budget s (length (clean r))) (Budget s (length r + 0)) (λ t a u b. (u ≡ t) × (b ≡ [])) s r [] (line-budget s r) (λ t a h. (refl, refl))
-        (λ t a u b h q. omega (arith, h, sum-append (λ (x : ℕ × Item). weight (x .1)) a b, ap total (q .1), ap (λ (x : ScanState). voiceWeight * voiceCount x) (q .0), times-more pays (length (clean r)) (length r + 0) (omega (arith, clean-length r))))
+        (λ t a u b h q. omega (arith, h, sum-append (λ (x : ℕ × Item). weight (x .1)) a b, ap total (q .1), ap (λ (x : ScanState). voiceWeight * voiceCount x) (q .0), mul-le-right pays (length (clean r)) (length r + 0) (omega (arith, clean-length r))))
     lines-budget (r ∷ q ∷ rs) f s =
         holds-run (Budget s (length (clean r))) (Budget s (sum length (r ∷ q ∷ rs))) (λ t a u b. Budget t (sum length (q ∷ rs)) u b) s r (q ∷ rs) (line-budget s r) (λ t a h. lines-budget (q ∷ rs) (f .1) t)
         (λ t a u b h k. omega (arith, h, k, sum-append (λ (x : ℕ × Item). weight (x .1)) a b, fed-row (length (clean r)) (length r) (f .0), mul-add pays (length r) (sum length (q ∷ rs))))
@@ -225,7 +225,7 @@ module _ (item byte pays rest voiceWeight : ℕ) where
 
       -- a K line and its feed
       three-bytes : (m n : ℕ) → 2 ≤ m → m < n → item + extra ≤ pays * n
-      three-bytes m n h l = omega (arith, room, times-more pays 3 n (omega arith))
+      three-bytes m n h l = omega (arith, room, mul-le-right pays 3 n (omega arith))
 
       -- so it is for any rows
       pub head-budget : (rs : List TextLine) → Fed rs → (s : ScanState) → s .env .inHeader ≡ true → Holds (Headed s (sum length rs)) (run step s rs)

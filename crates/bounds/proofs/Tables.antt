@@ -9,7 +9,7 @@ use lib.Dec.{eqb, lit≤}
 use lib.ListN.{length}
 use Rattle.laws.specs.Lists.{foldl, sum}
 use Rattle.laws.proofs.Bools.{by-test}
-use Rattle.laws.proofs.Lists.{sum-append}
+use Rattle.laws.proofs.Lists.{sum-append, sum-mul}
 use Rattle.standard.specs.Keys.{Key}
 use Rattle.standard.specs.Fields.{Meter}
 use Rattle.reader.specs.Text.{textLines}
@@ -22,7 +22,6 @@ use Rattle.reader.specs.Part.{onToken, lineBegins, onItem, build}
 use Rattle.reader.specs.Answer.{scratchNeeded}
 use Rattle.reader.specs.Records.{notesOf, pitchesOf, lyrics, lyricText}
 use Rattle.bounds.specs.Weights.{Weights, Covered, tableWeights, itemRowWidth, scratchPerByte, scratchPerLineFeed, noteWeights, pitchWeights, accidentalWeights, measureWeights, syllableWeights, textWeights, stateWeight, scopesWeight, tokenWeight, musicBytes, lyricBytes, itemBytes}
-use Rattle.bounds.proofs.Generic.{sum-mul}
 use Rattle.bounds.proofs.TokenWeights.{line-covered}
 use Rattle.bounds.proofs.PartWeights.{tokens-step, begins-step, reading-weight, items-covered}
 use Rattle.bounds.proofs.Counts.{music-bound, lyric-bound, bytes-sum}

@@ -7,6 +7,7 @@ use native.Mathlib.Nat.{mul-add, mul-suc}
 use native.Mathlib.Omega.{arith}
 use lib.ListN.{length, take, length-take}
 use Rattle.laws.specs.Lists.{sum}
+use Rattle.laws.proofs.Numbers.{mul-le-right}
 use Rattle.standard.specs.Pitches.{Accidental, Written}
 use Rattle.reader.specs.Token.{Token, space, overlay, quoted, broken, tuplet, slur, graceOpen, graceClose, decoration, barline, volta, unit, meter, key, field, chord, rest, note, nothing, skipped, refused}
 use Rattle.reader.specs.Tokens.{tokenOf, tokens}
@@ -15,7 +16,6 @@ use Rattle.reader.proofs.TokenBounds.{takes-what-is-there}
 use Rattle.capacity.specs.Covers.{signCount, signsIn, makes}
 use Rattle.capacity.proofs.Weights as weights
 use Rattle.bounds.specs.Weights.{Weights, Covered, markWeight, writtenWeight, tokenWeight}
-use Rattle.bounds.proofs.Generic.{times-more}
 
 -- a sum of one price
 same-weight : (b : ℕ) (l : List ℕ) → sum (λ c. b) l ≡ b * length l
@@ -77,7 +77,7 @@ module _ (p : Weights) (paid : Covered p) where
       let t = tokenOf (c ∷ s) in
       let l = take (t .used) (c ∷ s) in
       let n : length l ≤ t .used = simp length-take (omega arith) in
-      omega (arith, token-same (t .token), weights.token-covered by-byte covered c s, same-weight (p .byte) l, times-more (p .byte) (length l) (t .used) n)
+      omega (arith, token-same (t .token), weights.token-covered by-byte covered c s, same-weight (p .byte) l, mul-le-right (p .byte) (length l) (t .used) n)
 
   -- THE BYTES OF A LINE PAY FOR ITS TOKENS; k of them belong to a token that is paid for
   tokens-covered : (k : ℕ) (s : List ℕ) → sum (tokenWeight p) (tokens k s) ≤ p .byte * (length s - k)
@@ -96,4 +96,4 @@ module _ (p : Weights) (paid : Covered p) where
 
   -- from its first byte on
   pub line-covered : (s : List ℕ) → sum (tokenWeight p) (tokens 0 s) ≤ p .byte * length s
-  line-covered s = omega (arith, tokens-covered 0 s, times-more (p .byte) (length s - 0) (length s) (omega arith))
+  line-covered s = omega (arith, tokens-covered 0 s, mul-le-right (p .byte) (length s - 0) (length s) (omega arith))

@@ -12,7 +12,7 @@ use lib.Seq.{drop-cons, drop-drop}
 use Rattle.laws.specs.Lists.{countWhile}
 use Rattle.laws.specs.Bytes.{part}
 use Rattle.laws.specs.Spans.{endIn}
-use Rattle.laws.proofs.Bools.{by-test, or-left, or-none}
+use Rattle.laws.proofs.Bools.{by-test, or-left, or-none, or-assoc, or-false}
 use Rattle.laws.proofs.Spans.{count-while-yes, count-while-no}
 use Rattle.laws.proofs.Parts.{count-while-part, endIn-le}
 use Rattle.reader.specs.Text.{push, textLines, hasHigh}
@@ -73,20 +73,12 @@ pub high-next : (t : List ℕ) (i m n : ℕ) → i < length t → ltb 127 n ≡ 
     → (ltb 127 m || hasHigh (drop i t)) ≡ hasHigh t → (ltb 127 n || hasHigh (drop (i + 1) t)) ≡ hasHigh t
 unfolding hasHigh
 high-next t i m n h e k =
-    ap (λ (b : Bool). b || hasHigh (drop (i + 1) t)) e ∙ three (ltb 127 m) (ltb 127 (getD t i 0)) (hasHigh (drop (i + 1) t))
+    ap (λ (b : Bool). b || hasHigh (drop (i + 1) t)) e ∙ or-assoc (ltb 127 m) (ltb 127 (getD t i 0)) (hasHigh (drop (i + 1) t))
     ∙ ap (λ (l : List ℕ). ltb 127 m || hasHigh l) (sym (drop-cons t i 0 h ∙ ap (λ (n : ℕ). getD t i 0 ∷ drop n t) (sym (add-one i)))) ∙ k
-  where
-    three : (a b c : Bool) → ((a || b) || c) ≡ (a || (b || c))
-    three true b c = refl
-    three false b c = refl
 
 pub high-over : (t : List ℕ) (i m : ℕ) → length t ≤ i → (ltb 127 m || hasHigh (drop i t)) ≡ hasHigh t → ltb 127 m ≡ hasHigh t
 unfolding hasHigh
-high-over t i m h k = sym (last (ltb 127 m)) ∙ ap (λ (l : List ℕ). ltb 127 m || hasHigh l) (sym (drop-of-length-le t h)) ∙ k
-  where
-    last : (a : Bool) → (a || false) ≡ a
-    last true = refl
-    last false = refl
+high-over t i m h k = sym (or-false (ltb 127 m)) ∙ ap (λ (l : List ℕ). ltb 127 m || hasHigh l) (sym (drop-of-length-le t h)) ∙ k
 
 -- THE END OF A ROW, by its first line feed
 row-count-while : (l : List ℕ) → rowLength l ≡ min (length l) (suc (countWhile (notByte 10) l))

@@ -11,9 +11,9 @@ use Rattle.laws.specs.Lists.{countWhile}
 use Rattle.laws.specs.Spans.{run, endOf}
 use Rattle.laws.proofs.Bools.{by-test, both-true}
 use Rattle.laws.proofs.Spans.{count-while-yes, count-while-no, run-yes, run-no, run-within}
+use Rattle.laws.proofs.Lists.{drop-next}
 use Rattle.reader.specs.Text.{push}
 use Rattle.reader.specs.Pieces.{pieces, separator}
-use Rattle.text_runs.proofs.Places.{drop-here}
 
 -- a byte of the run, P, is one of a piece, D, or a mark, x
 module _ (P D x : ℕ → Bool) (agree : (c : ℕ) → P c ≡ (D c || x c)) (apart : (c : ℕ) → x c ≡ true → D c ≡ false) (none : x 0 ≡ false) where
@@ -75,7 +75,7 @@ module _ (P D x : ℕ → Bool) (agree : (c : ℕ) → P c ≡ (D c || x c)) (ap
     -- a mark stands there
     module _ (m : x (getD line e 0) ≡ true) where
       here : drop e line ≡ getD line e 0 ∷ drop (e + 1) line
-      here = drop-here line e (run-within x none line e m)
+      here = drop-next line e 0 (run-within x none line e m)
 
       pub pieces-on : pieces (separator x) 0 (run P (drop i line)) ≡ run D (drop i line) ∷ pieces (separator x) 0 (run P (drop (e + 1) line))
       unfolding others
@@ -94,7 +94,7 @@ module _ (P D x : ℕ → Bool) (agree : (c : ℕ) → P c ≡ (D c || x c)) (ap
       no-others = go (decLt e (length line))
         where
           go : Dec (e < length line) → others (drop e line) ≡ []
-          go (yes h) = ap others (drop-here line e h) ∙ rw (m, others)
+          go (yes h) = ap others (drop-next line e 0 h) ∙ rw (m, others)
           go (no h) = let out : length line ≤ e = omega arith in rw (drop-of-length-le line out)
 
       no-more : more (drop e line) ≡ 0
@@ -102,7 +102,7 @@ module _ (P D x : ℕ → Bool) (agree : (c : ℕ) → P c ≡ (D c || x c)) (ap
       no-more = go (decLt e (length line))
         where
           go : Dec (e < length line) → more (drop e line) ≡ 0
-          go (yes h) = ap more (drop-here line e h) ∙ rw (m, more)
+          go (yes h) = ap more (drop-next line e 0 h) ∙ rw (m, more)
           go (no h) = let out : length line ≤ e = omega arith in rw (drop-of-length-le line out)
 
       pub pieces-last : pieces (separator x) 0 (run P (drop i line)) ≡ run D (drop i line) ∷ []

@@ -4,8 +4,8 @@ use mathlib.Core.Path.{_≡_, refl, sym, ap, _∙_}
 use Prim.Native.Nat.{_-_}
 use lib.ListN.{length, drop}
 use Rattle.laws.specs.Lists.{foldl}
+use Rattle.laws.proofs.Lists.{foldl-at, foldl-end}
 use Rattle.reader.specs.Text.{between, utf8Step, isBetween, isUtf8}
-use Rattle.text_white.proofs.Whites.{foldl-at, foldl-over}
 use Rattle.text_utf8.specs.States.{asUtf8}
 use Rattle.text_utf8.proofs.reads_utf8.Statement.{statement}
 use Rattle.text_utf8.proofs.reads_utf8.Tie as tie
@@ -34,14 +34,14 @@ loop-less c = search needs
 loop-again : tie.Need-loop-again Inv-loop μ-loop
 loop-again c =
     let l = c .before .before .before in
-    rw (c .utf8-step .ensures) (sym (foldl-at utf8Step _ _ _ (c .before .before .loop-test .taken)) ∙ l .loop .inv)
+    rw (c .utf8-step .ensures) (sym (foldl-at utf8Step _ _ _ 0 (c .before .before .loop-test .taken)) ∙ l .loop .inv)
 
 is-between-requires : tie.Need-is-between-requires Inv-loop μ-loop
 is-between-requires c κs = search needs
 
 returns : tie.Need-returns Inv-loop μ-loop
 unfolding isUtf8
-returns c = c .is-between .ensures ∙ ap isBetween (sym (foldl-over utf8Step _ _ _ (c .before .loop-test .left)) ∙ c .before .before .loop .inv)
+returns c = c .is-between .ensures ∙ ap isBetween (sym (foldl-end utf8Step _ _ _ (c .before .loop-test .left)) ∙ c .before .before .loop .inv)
 
 pub reads-utf8-spec : {M : Type 1} → statement M
 reads-utf8-spec =

@@ -4,9 +4,10 @@ use mathlib.Core.Path.{_≡_, refl, sym, ap, _∙_}
 use Prim.Native.Nat.{_-_}
 use lib.ListN.{length, drop}
 use Rattle.laws.specs.Lists.{foldl}
+use Rattle.laws.proofs.Lists.{foldl-at, foldl-end}
 use Rattle.reader.specs.Text.{white, whiteStep, isAllWhite, isBlank}
 use Rattle.text_white.specs.States.{asWhite, isOther}
-use Rattle.text_white.proofs.Whites.{foldl-at, foldl-over, other-is-not-blank}
+use Rattle.text_white.proofs.Whites.{other-is-not-blank}
 use Rattle.text_white.proofs.is_blank.Statement.{statement}
 use Rattle.text_white.proofs.is_blank.Tie as tie
 
@@ -44,14 +45,14 @@ loop-again : tie.Need-loop-again Inv-loop μ-loop
 loop-again c =
     let w = c .before .before in
     let l = w .before .before .before in
-    rw (w .white-step .ensures) (sym (foldl-at whiteStep _ _ _ (w .before .before .loop-test .taken)) ∙ l .loop .inv)
+    rw (w .white-step .ensures) (sym (foldl-at whiteStep _ _ _ 0 (w .before .before .loop-test .taken)) ∙ l .loop .inv)
 
 is-all-white-requires : tie.Need-is-all-white-requires Inv-loop μ-loop
 is-all-white-requires c κs = search needs
 
 returns-2 : tie.Need-returns-2 Inv-loop μ-loop
 unfolding isBlank
-returns-2 c = c .is-all-white .ensures ∙ ap isAllWhite (sym (foldl-over whiteStep _ _ _ (c .before .loop-test .left)) ∙ c .before .before .loop .inv)
+returns-2 c = c .is-all-white .ensures ∙ ap isAllWhite (sym (foldl-end whiteStep _ _ _ (c .before .loop-test .left)) ∙ c .before .before .loop .inv)
 
 pub is-blank-spec : {M : Type 1} → statement M
 is-blank-spec =

@@ -3,8 +3,8 @@ use Prim.Native.Nat.{_+_}
 use mathlib.Core.Path.{_≡_, refl, sym, _∙_}
 use mathlib.Core.List.{_∷_}
 use lib.ListN.{getD, drop}
+use Rattle.laws.proofs.Lists.{drop-next, first-at}
 use Rattle.standard.specs.Bytes.{first}
-use Rattle.text_runs.proofs.Places.{drop-here, first-at}
 use Rattle.token_symbols.proofs.Symbols.{start-symbol, double-symbol, final-symbol, normal-symbol, end-symbol, both-symbol, colon-symbol, other-symbol, other-than}
 use borrow.Author.Needs.{needs}
 use Rattle.token_symbols.proofs.parse_barline.Statement.{statement}
@@ -62,7 +62,7 @@ second c = first-at (c .before .before .before .args .line .now) (c .before .bef
 -- the line from its first byte on
 here : (c : tie.After-byte-at) → drop (c .before .before .before .args .at) (c .before .before .before .args .line .now)
     ≡ getD (c .before .before .before .args .line .now) (c .before .before .before .args .at) 0 ∷ drop (c .before .before .before .args .at + 1) (c .before .before .before .args .line .now)
-here c = drop-here (c .before .before .before .args .line .now) (c .before .before .before .args .at) (c .before .before .before .pre)
+here c = drop-next (c .before .before .before .args .line .now) (c .before .before .before .args .at) 0 (c .before .before .before .pre)
 
 returns : tie.Need-returns
 returns c =
