@@ -13,7 +13,7 @@ use lib.Seq.{take-add}
 use borrow.Author.Tests.{eqb-true}
 use Rattle.laws.specs.Lists.{countWhile, sum, All}
 use Rattle.laws.proofs.Bools.{by-test, or-left, or-right}
-use Rattle.laws.proofs.Lists.{sum-append}
+use Rattle.laws.proofs.Lists.{sum-append, sum-drop, sum-more}
 use Rattle.laws.proofs.Spans.{count-while-yes, count-while-no}
 use Rattle.standard.specs.Bytes.{is, isDigit, first}
 use Rattle.standard.specs.Bars.{Symbol, barSymbols, symbolAt}
@@ -32,17 +32,6 @@ use Rattle.reader.proofs.TokenBounds.{inChord, octave-in-chord, quarter-in-chor
 use Rattle.capacity.specs.Sizes.{isBar, isRest, isSign}
 use Rattle.capacity.specs.Covers.{signCount, signsIn, Rows, makes}
 use Rattle.capacity.proofs.Free.{Makes-nothing, closed-free, broken-free, tuplet-free, volta-free, field-free}
-
--- SUMS over a part of a list
-module _ {ℓ} {A : Type ℓ} (f : A → ℕ) where
-  pub sum-drop : (n : ℕ) (l : List A) → sum f (drop n l) ≤ sum f l
-  sum-drop n l = omega (arith, sym (sum-append f (take n l) (drop n l)) ∙ ap (sum f) (take-append-drop n l))
-
-  pub sum-more : (m n : ℕ) (l : List A) → m ≤ n → sum f (take m l) ≤ sum f (take n l)
-  sum-more zero n l h = zero-le
-  sum-more (suc m) zero l h = absurd (not-suc-le-zero h)
-  sum-more (suc m) (suc n) [] h = zero-le
-  sum-more (suc m) (suc n) (x ∷ l) h = omega (arith, sum-more m n l (omega arith))
 
 -- CLASSES: a barline's byte is `|` or `:`, a rest's one of four
 abbrev Begins : Class → ℕ → Type 0
