@@ -9,7 +9,7 @@ use native.Mathlib.Omega.{arith}
 use lib.ListN.{length, length-map}
 use Rattle.laws.specs.Lists.{foldl, any, sum}
 use Rattle.laws.proofs.Bools.{by-test}
-use Rattle.laws.proofs.Lists.{length-onFirst}
+use Rattle.laws.proofs.Lists.{length-onFirst, sum-reverse}
 use Rattle.standard.specs.Keys.{Key}
 use Rattle.reader.specs.Tokens.{tokens}
 use Rattle.reader.specs.Scan.{Item, voiceDeclared, reset, keyInHeader, keyChange, meterChange, lyricLine, musicLine, Env}
@@ -18,7 +18,6 @@ use Rattle.reader.specs.Part.{Part, hears, onLyric, onKey, onItem, onLine, line
 use Rattle.reader.specs.Voltas.{starts, endsAt, close, closed}
 use Rattle.reader.specs.Answer.{isMusic, built, parts, measureCount}
 use Rattle.reader.proofs.LineLaws.{Kept, kept-item, ready-begins, ready-after}
-use Rattle.bounds.proofs.Generic.{sum-reverse}
 
 -- a measure there stays
 open-some : (f : Measure → Measure) (s : PartState) → 0 < length (s .measures) → 0 < length (onOpen f s .measures)

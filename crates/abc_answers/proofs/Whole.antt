@@ -11,6 +11,7 @@ use Rattle.laws.specs.Lists.{any, sum}
 use Rattle.laws.specs.Bytes.{le32}
 use Rattle.laws.proofs.Bools.{by-test, or-left, or-right, eqb-same}
 use Rattle.laws.proofs.Lists.{any-none}
+use Rattle.reader.proofs.PartLaws.{parts-count}
 use Rattle.standard.specs.Keys.{Key}
 use Rattle.reader.specs.Steps.{itemsOf}
 use Rattle.reader.specs.Scan.{Item, Items, Env}
@@ -18,7 +19,7 @@ use Rattle.reader.specs.Part.{Part, build}
 use Rattle.reader.specs.Records.{sections}
 use Rattle.reader.specs.Answer.{isMusic, built, parts, partBytes, encode, measureCount}
 use Rattle.bounds.proofs.ScanWeights.{voiceCount}
-use Rattle.bounds.proofs.Length.{parts-count, silent-parts}
+use Rattle.bounds.proofs.Length.{silent-parts}
 use Rattle.abc_answers.specs.Parts.{partsOf, bytesOf, hasMusic}
 use Rattle.abc_answers.proofs.Silent.{built-sections}
 use Rattle.abc_answers.proofs.Sounding.{built-some}

@@ -11,6 +11,7 @@ use lib.ListN.{length, getElem?}
 use borrow.Author.Tests.{leb-true, le-leb}
 use Rattle.laws.specs.Lists.{All, sum, foldl}
 use Rattle.laws.proofs.Lists.{none-any}
+use Rattle.laws.proofs.Bools.{some≢none}
 use Rattle.reader.specs.Text.{Utf8, between, one, two, three, afterE0, afterED, afterF0, afterF4, invalid, utf8Step, isBetween, isUtf8, White, white, inC2, inE1, inE19A, inE2, inE280, inE281, inE3, inE380, other, whiteStep, isAllWhite, isBlank}
 use Rattle.reader.specs.Scan.{Item, Env}
 use Rattle.reader.specs.Part.{Part, build, emptyPart}
@@ -18,11 +19,9 @@ use Rattle.reader.specs.Answer.{Verdict, reading, Outcome, mostBytes, scratchNe
 use Rattle.blocks.specs.Demand.{Accepted, partIn}
 use Rattle.blocks.proofs.Machine.{Blank, IsUtf8}
 use Rattle.blocks.proofs.Instance.{Fits}
-use Rattle.blocks.proofs.Scan.{some≢none}
 
 -- BEFORE THE FIRST LINE
 is-between : (q : Utf8) → isBetween q ≡ true → q ≡ between
-unfolding isBetween
 is-between between h = refl
 is-between one h = absurd (false≢true h)
 is-between two h = absurd (false≢true h)
@@ -34,7 +33,6 @@ is-between afterF4 h = absurd (false≢true h)
 is-between invalid h = absurd (false≢true h)
 
 not-white : (q : White) → (q ≡ white → ⊥) → isAllWhite q ≡ false
-unfolding isAllWhite
 not-white white h = absurd (h refl)
 not-white inC2 h = refl
 not-white inE1 h = refl
@@ -51,11 +49,11 @@ unfolding isUtf8
 utf8-of t h = is-between (foldl utf8Step between t) h
 
 of-utf8 : (t : List ℕ) → IsUtf8 t → isUtf8 t ≡ true
-unfolding isUtf8 isBetween
+unfolding isUtf8
 of-utf8 t h = ap isBetween h
 
 blank-no : (t : List ℕ) → isBlank t ≡ false → Blank t → ⊥
-unfolding isBlank isAllWhite
+unfolding isBlank
 blank-no t h b = true≢false (sym (ap isAllWhite b) ∙ h)
 
 no-blank : (t : List ℕ) → (Blank t → ⊥) → isBlank t ≡ false

@@ -8,6 +8,7 @@ use native.Mathlib.Omega.{arith}
 use lib.ListN.{length, getElem?}
 use Rattle.laws.specs.Lists.{elem, indexOf}
 use Rattle.laws.proofs.Lists.{index-lt}
+use Rattle.reader.proofs.PartLaws as laws
 use Rattle.reader.specs.Text.{textLines}
 use Rattle.reader.specs.Steps.{refuse, on, itemsOf}
 use Rattle.reader.specs.Scan.{Item, Env, Out, scan}
@@ -19,11 +20,6 @@ use Rattle.blocks.proofs.Lists.{getElem?-some}
 use Rattle.blocks.proofs.Demand.{by-name}
 use Rattle.blocks.proofs.End.{Not, early-not, ended-reading}
 
-parts-length : (e : Env) (f : ℕ → List Item) (n q : ℕ) → length (parts e f n q) ≡ n
-unfolding parts
-parts-length e f zero q = refl
-parts-length e f (suc n) q = ap suc (parts-length e f n (suc q))
-
 abbrev Counted : Verdict → List (List ℕ) → Type 0
 Counted v is = (ps : List Part) × (v ≡ reading ps) × (length ps ≡ max 1 (length is))
 
@@ -32,7 +28,7 @@ unfolding scanned finish refusedWith
 after-scan rl sl (refuse n l) h = absurd h
 after-scan rl sl (on s a) h =
     let ps : List Part = parts (s .env) (λ p. itemsOf p a) (max 1 (length (s .env .voices))) 0 in
-    (ps, ended-reading ps rl sl h, parts-length (s .env) (λ p. itemsOf p a) (max 1 (length (s .env .voices))) 0)
+    (ps, ended-reading ps rl sl h, laws.parts-count (s .env) (λ p. itemsOf p a) (max 1 (length (s .env .voices))) 0)
 
 counted : (text : List ℕ) (rl sl : ℕ) (x : Option Outcome) → Not x → Accepted (unless text rl sl x) → Counted (unless text rl sl x .verdict) (voices text)
 unfolding unless

@@ -13,6 +13,7 @@ use Rattle.laws.specs.Lists.{sum, any}
 use Rattle.laws.proofs.Bools.{by-test}
 use Rattle.laws.specs.Bytes.{le32}
 use Rattle.laws.proofs.Numbers.{length-little}
+use Rattle.reader.proofs.PartLaws.{parts-count}
 use Rattle.reader.specs.Text.{textLines}
 use Rattle.reader.specs.Steps.{itemsOf}
 use Rattle.reader.specs.Scan.{Item, Env, ScanState, begin, scan, Items}
@@ -21,7 +22,7 @@ use Rattle.reader.specs.Records.{sections}
 use Rattle.reader.specs.Answer.{isMusic, built, parts, partBytes, encode, measureCount}
 use Rattle.bounds.specs.Weights.{itemBytes}
 use Rattle.bounds.proofs.Counts.{built-bound}
-use Rattle.bounds.proofs.RowWeights.{rows-length, rows-fed}
+use Rattle.bounds.proofs.LineWeights.{rows-length, rows-fed}
 use Rattle.bounds.proofs.ScanWeights.{Holds, holds-map, Silent, voiceCount, Enough, total, Headed, head-budget}
 
 -- EACH ITEM IS OF ONE PART
@@ -59,11 +60,6 @@ shares-all n q [] = none n q
 shares-all n q (x ∷ a) = omega (arith, shares-once n q x a, shares-all n q a)
 
 -- THE PARTS
-pub parts-count : (e : Env) (f : ℕ → List Item) (n q : ℕ) → length (parts e f n q) ≡ n
-unfolding parts
-parts-count e f zero q = refl
-parts-count e f (suc n) q = ap suc (parts-count e f n (suc q))
-
 -- 48 bytes for each, and 23 for each byte of its lines
 pub parts-bound : (e : Env) (a : Items) (n q : ℕ) → length (partBytes (parts e (λ p. itemsOf p a) n q)) ≤ 48 * n + 23 * shares n q a
 unfolding parts partBytes shares
@@ -89,7 +85,7 @@ unfolding parts built measureCount emptyPart
 silent-parts e a zero q s = refl
 silent-parts e a (suc n) q s = rw (silent-mine q a s) (omega (arith, silent-parts e a n (suc q) s))
 
--- THE SCAN OF A TEXT: nothing is played, or its bytes pay for all
+-- THE SCAN OF A TEXT: nothing is played, or its bytes cover all
 total-is : (a : Items) → total 0 23 23 0 48 a ≡ 23 * sum (λ (x : ℕ × Item). itemBytes (x .1)) a
 total-is [] = refl
 total-is (x ∷ a) = omega (arith, total-is a)

@@ -7,7 +7,7 @@ use lib.Dec.{ltb, eqb, lit<}
 use lib.ListN.{replicate}
 use Rattle.laws.specs.Lists.{foldl, All, eqText, isNil, alterAt}
 use Rattle.laws.proofs.Bools.{by-test}
-use Rattle.laws.proofs.Lists.{All-append, All-filter, All-alterAt}
+use Rattle.laws.proofs.Lists.{All-append, All-filter, All-alterAt, All-reverse}
 use Rattle.standard.specs.Bytes.{ascii, is, first, last}
 use Rattle.standard.specs.Keys.{Key}
 use Rattle.standard.specs.Lyrics.{Word, skip, hold, syllable, syllableText, syllables}
@@ -17,7 +17,6 @@ use Rattle.reader.specs.State.{Sung, newPart}
 use Rattle.reader.specs.Lyrics.{Syllable, orSkip, wordOf, wordsOf, lyricWords, put, held, sing, sungBy}
 use Rattle.reader.specs.Part.{onItem, finished, build, emptyPart}
 use Rattle.bounds.specs.Ranges.{Bytes, SungFits, SyllableFits, StateFits, ItemFits, PartFits}
-use Rattle.bounds.proofs.Generic.{All-reverse}
 use Rattle.bounds.proofs.PartRanges.{items-state, new-part-fits, finished-fit}
 use Rattle.bounds.proofs.ScanRanges.{push-bytes}
 

@@ -9,7 +9,7 @@ use lib.Dec.{ltb, leb, eqb, lit<, lit≤}
 use lib.ListN.{getD}
 use Rattle.laws.specs.Lists.{foldl, All, onFirst}
 use Rattle.laws.proofs.Bools.{by-test}
-use Rattle.laws.proofs.Lists.{All-alterAt, All-onFirst}
+use Rattle.laws.proofs.Lists.{All-alterAt, All-onFirst, All-reverse, All-here}
 use Rattle.standard.specs.Keys.{Key, keyAlter, place}
 use Rattle.standard.specs.Fields.{Meter}
 use Rattle.standard.specs.Bars.{Barline, normal, repeatStart, repeatEnd, repeatBoth, double, final}
@@ -30,7 +30,6 @@ use Rattle.reader.specs.Voltas.{starts, endsAt, close, closed}
 use Rattle.reader.specs.Part.{halvedNote, brokenNote, onBroken, afterHalf, canBeam, beamed, beamedAgain, onNothing, groupIn, grouped, oneFewer, countedIn, append, restNote, soundNote, onSound, leftSet, ended, onBarline, hears, onToken, opened, lineBegins, onLine, onLyric, onKey, onItem, dropped, inOrder, markedBy, marked, finished}
 use Rattle.reader.proofs.ValueLaws.{value-range}
 use Rattle.bounds.specs.Ranges.{MeterFits, PassesFit, SignFits, WrittenFits, PitchFits, TokenFits, NoteFits, MeasureFits, RunningFits, StateFits, ItemFits}
-use Rattle.bounds.proofs.Generic.{All-reverse, All-here}
 use Rattle.bounds.proofs.TokenRanges.{tokens-fit}
 
 -- NOTES
@@ -86,13 +85,13 @@ grouped-fits : (t : Option Running) (n : Note) → RunningFits t → NoteFits n 
 unfolding grouped groupIn RunningFits
 grouped-fits none n r h = h
 grouped-fits (some t) n r h =
-    record { value-fits = h .value-fits; dots-fit = h .dots-fit; actual-fits = r .0; normal-fits = r .1; boundary-fits = boundary-small (eqb (t .left) (t .tuplet .count)) (eqb (t .left) 1); pitches-fit = h .pitches-fit }
+    record { value-fits = h .value-fits; dots-fit = h .dots-fit; actual-fits = r .0; normal-fits = r .1; boundary-fits = boundary-small (eqb (t .remaining) (t .tuplet .count)) (eqb (t .remaining) 1); pitches-fit = h .pitches-fit }
 
 -- the tuplet after it
 fewer-fits : (t : Option Running) → RunningFits t → RunningFits (oneFewer t)
 unfolding oneFewer RunningFits
 fewer-fits none r = tt
-fewer-fits (some t) r = by-test (leb (t .left) 1) (λ e. rw e tt) (λ e. rw e r)
+fewer-fits (some t) r = by-test (leb (t .remaining) 1) (λ e. rw e tt) (λ e. rw e r)
 
 -- a rest
 rest-fits : (k : NoteKind) (u : ℕ) (l : Length) → NoteFits (restNote k (valueOf u l))

@@ -12,6 +12,7 @@ use Rattle.laws.specs.Lists.{foldl, sum, any, All}
 use Rattle.laws.specs.Bytes.{le32, zeros}
 use Rattle.laws.proofs.Bools.{by-test, and-no-right}
 use Rattle.laws.proofs.Numbers.{little-bytes}
+use Rattle.reader.proofs.PartLaws.{parts-count}
 use Rattle.reader.specs.Text.{within, Utf8, between, one, two, three, afterE0, afterED, afterF0, afterF4, invalid, utf8Step, isBetween, isUtf8, isBlank, textLines}
 use Rattle.reader.specs.Steps.{refuse, on, itemsOf}
 use Rattle.reader.specs.Scan.{Item, Env, ScanState, scan, Items, Out, mostVoices}
@@ -21,10 +22,10 @@ use Rattle.reader.specs.Answer.{Verdict, refusal, reading, Outcome, mostBytes, 
 use Rattle.bounds.specs.Weights.{itemBytes}
 use Rattle.bounds.specs.Ranges.{Bytes, ItemFits, PartFits}
 use Rattle.bounds.proofs.ScanWeights.{Holds, Silent, voiceCount}
-use Rattle.bounds.proofs.ScanRanges.{ItemsFit, OutFits, ScanFits, scan-out}
+use Rattle.bounds.proofs.ScanRanges.{refusal-byte, not-16, ItemsFit, OutFits, ScanFits, scan-out}
 use Rattle.bounds.proofs.LyricRanges.{part-fits, empty-fits}
 use Rattle.bounds.proofs.RecordBytes.{both, sections-bytes}
-use Rattle.bounds.proofs.Length.{parts-count, encode-bound, silent-parts, scan-bound}
+use Rattle.bounds.proofs.Length.{encode-bound, silent-parts, scan-bound}
 
 -- UTF-8 IS OF BYTES
 not-within : (a b c : ℕ) → b < c → within a b c ≡ false
@@ -50,7 +51,7 @@ big-invalid invalid c h = refl
 
 -- and it stays so
 stays-invalid : (s : List ℕ) → isBetween (foldl utf8Step invalid s) ≡ false
-unfolding utf8Step isBetween
+unfolding utf8Step
 stays-invalid [] = refl
 stays-invalid (c ∷ s) = stays-invalid s
 
@@ -128,26 +129,26 @@ enough : (text : List ℕ) (t : ScanState) (a : Items) → Silent a ⊎ (4 + 48 
 enough text t a (inl s) m = absurd (omega (arith, leb-true 1 (sum measureCount (partsAfter t a)) m, silent-parts (t .env) a (voiceCount t) 0 s))
 enough text t a (inr h) m = omega (arith, h, encode-bound (t .env) a (voiceCount t))
 
--- EVERY OUTCOME of a call: a refusal up to 15; refusal 16, of a store that is shorter than 23 bytes for each byte of the text; or a reading
+-- EVERY OUTCOME of a call: a refusal other than 16; refusal 16, of a store that is shorter than 23 bytes for each byte of the text; or a reading
 pub outcome-cases : (P : Outcome → Type 0) (text : List ℕ) (rl sl : ℕ)
-    → ((n l : ℕ) → n ≤ 15 → P (refusedWith n l rl sl))
+    → ((n l : ℕ) → (n < 256) × (n ≡ 16 → ⊥) → P (refusedWith n l rl sl))
     → (rl < 23 * length text → P (refusedWith 16 0 rl sl))
     → ((t : ScanState) (a : Items) → ScanFits t → ItemsFit a → length text ≤ mostBytes → length (encode (partsAfter t a)) ≤ 23 * length text → P (written (partsAfter t a) rl sl))
     → P (parseAbc text rl sl)
 unfolding scanned finish ended OutFits Holds
 outcome-cases P text rl sl refused short read =
-    call-cases P text rl sl (refused 1 0 (lit≤ tt)) (refused 2 0 (lit≤ tt)) (refused 3 0 (lit≤ tt)) (refused 15 0 (lit≤ tt))
+    call-cases P text rl sl (refused 1 0 (refusal-byte 1 tt, not-16 1 tt)) (refused 2 0 (refusal-byte 2 tt, not-16 2 tt)) (refused 3 0 (refusal-byte 3 tt, not-16 3 tt)) (refused 15 0 (lit< tt, λ e. absurd (omega (arith, e))))
     (λ len bytes. go len (scan (textLines text)) (scan-out text bytes) (scan-bound text))
   where
     go : length text ≤ mostBytes → (o : Out) → OutFits o → Holds (λ t a. Silent a ⊎ (4 + 48 * voiceCount t + 23 * sum (λ (x : ℕ × Item). itemBytes (x .1)) a ≤ 23 * length text)) o → P (scanned rl sl o)
-    go len (refuse n l) f b = refused n l (omega (arith, f .1))
+    go len (refuse n l) f b = refused n l (refusal-byte n f, not-16 n f)
     go len (on t a) f b =
         let ps = partsAfter t a in
         by-test (leb 1 (sum measureCount ps))
         (λ m. rw m
         (by-test (leb (length (encode ps)) rl) (λ k. rw k (read t a (f .0) (f .1) len (enough text t a b m)))
         (λ k. rw k (short (omega (arith, leb-false (length (encode ps)) rl k, enough text t a b m))))))
-        (λ m. rw m (refused 1 0 (lit≤ tt)))
+        (λ m. rw m (refused 1 0 (refusal-byte 1 tt, not-16 1 tt)))
 
 -- EVERY BYTE OF THE READING STORE is below 256, for every text and both store lengths
 pub reading-bytes : (text : List ℕ) (rl sl : ℕ) → Bytes (parseAbc text rl sl .reading)
@@ -183,7 +184,7 @@ NotShort need rl (reading ps) = Unit {0}
 verdict-16 : (text : List ℕ) (rl sl : ℕ) → NotShort (23 * length text) rl (parseAbc text rl sl .verdict)
 unfolding refusedWith written NotShort
 verdict-16 text rl sl =
-    outcome-cases (λ o. NotShort (23 * length text) rl (o .verdict)) text rl sl (λ n l h e. absurd (omega (arith, h, e))) (λ h e. h) (λ t a h f len short. tt)
+    outcome-cases (λ o. NotShort (23 * length text) rl (o .verdict)) text rl sl (λ n l h e. absurd (h .1 e)) (λ h e. h) (λ t a h f len short. tt)
 
 pub never-16 : (text : List ℕ) (rl sl l : ℕ) → 23 * length text ≤ rl → parseAbc text rl sl .verdict ≡ refusal 16 l → ⊥
 unfolding NotShort

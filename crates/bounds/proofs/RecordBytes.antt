@@ -11,6 +11,7 @@ use Rattle.laws.specs.Bytes.{le32}
 use Rattle.laws.proofs.Bools.{by-test}
 use Rattle.laws.proofs.Lists.{All-append}
 use Rattle.laws.proofs.Numbers.{little-bytes}
+use Rattle.reader.proofs.CodeLaws.{bit-le}
 use Rattle.standard.specs.Keys.{Key}
 use Rattle.standard.specs.Bars.{Barline, normal, repeatStart, repeatEnd, repeatBoth, double, final}
 use Rattle.standard.specs.Notes
@@ -31,7 +32,6 @@ both a b = All-append (λ c. c < 256) a b
 
 -- CODES
 barline-byte : (b : Barline) → barlineCode b < 256
-unfolding barlineCode
 barline-byte normal = lit< tt
 barline-byte repeatStart = lit< tt
 barline-byte repeatEnd = lit< tt
@@ -78,12 +78,6 @@ syllabic-byte Lyrics.begins = lit< tt
 syllabic-byte Lyrics.ends = lit< tt
 syllabic-byte Lyrics.middle = lit< tt
 
--- a flag
-bit-most : (b : Bool) (n : ℕ) → bit b n ≤ n
-unfolding bit
-bit-most true n = omega arith
-bit-most false n = omega arith
-
 -- a signed number
 signed-byte : (n : ℕ) → signed8 n < 256
 unfolding signed8
@@ -129,7 +123,7 @@ flag-byte : (n : Note) → flagByte n < 256
 unfolding flagByte
 flag-byte n =
     let f = n .flags in
-    omega (arith, bit-most (f .tieStart) 1, bit-most (f .tieEnd) 2, bit-most (f .slurStart) 4, bit-most (f .slurEnd) 8, bit-most (f .grace) 16, bit-most (isUnbeamed n) 32)
+    omega (arith, bit-le (f .tieStart) 1, bit-le (f .tieEnd) 2, bit-le (f .slurStart) 4, bit-le (f .slurEnd) 8, bit-le (f .grace) 16, bit-le (isUnbeamed n) 32)
 
 -- a note's record
 pub note-bytes : (n : Note) → NoteFits n → Bytes (noteBytes n)
@@ -148,7 +142,7 @@ pitch-bytes p h = (omega (arith, h .step-fits), (signed-byte (p .octave), (signe
 pub lyric-bytes : (i : ℕ) (y : Syllable) → SyllableFits y → Bytes (lyricBytes i y)
 unfolding lyricBytes
 lyric-bytes i y h =
-    All-append _ (le32 i) _ (little-bytes 4 i) (omega (arith, h .verse-fits), (syllabic-byte (y .syllabic), (omega (arith, bit-most (y .extend) 1), little-bytes 4 (length (y .text)))))
+    All-append _ (le32 i) _ (little-bytes 4 i) (omega (arith, h .verse-fits), (syllabic-byte (y .syllabic), (omega (arith, bit-le (y .extend) 1), little-bytes 4 (length (y .text)))))
 
 -- WHAT A PART WRITES
 tagged-fit : (v : ℕ) (ns : List Note) → All NoteFits ns → All (λ (x : ℕ × Note). NoteFits (x .1)) (tagged v ns)

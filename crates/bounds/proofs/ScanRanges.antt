@@ -1,15 +1,15 @@
--- The scan: its items are in their ranges, there are 32 voices at most, and its refusals are 4 to 14.
+-- The scan: its items are in their ranges, there are 32 voices at most, and it refuses with numbers of lines' refusals.
 use Prim.Native.Nat.{ℕ, zero, suc, _≤_, _<_}
-use mathlib.Core.Path.{_≡_, refl}
+use mathlib.Core.Path.{_≡_, refl, subst}
 use mathlib.Core.Bool.{Bool, true, false}
 use mathlib.Core.Option.{Option, none, some}
 use mathlib.Core.List.{List, [], _∷_, map}
 use native.Mathlib.Omega.{arith}
 use lib.Dec.{eqb, leb, ltb, lit<, lit≤}
 use lib.ListN.{length, drop, length-append}
-use borrow.Author.Tests.{leb-false}
+use borrow.Author.Tests.{leb-false, ltb-true}
 use Rattle.laws.specs.Lists.{All, elem, isNil}
-use Rattle.laws.proofs.Bools.{by-test}
+use Rattle.laws.proofs.Bools.{by-test, T→true, and-left}
 use Rattle.laws.proofs.Lists.{All-append}
 use Rattle.standard.specs.Fields.{Meter}
 use Rattle.reader.specs.Text.{isBlank, push, textLines, cut, trim, clean, hasHigh}
@@ -20,16 +20,28 @@ use Rattle.reader.specs.Tokens.{tokens, Effect, counts, refuses, setsUnit, sets
 use Rattle.reader.specs.Lines.{isV, isK, isL, isM, isX, isLyric, isField, Kind, blank, refused, lyric, voice, key, meter, unit, tune, other, music, voiceKind, keyKind, fieldKind, lineKind, kindOf}
 use Rattle.reader.specs.Steps.{TextLine, refuse, on, run, first}
 use Rattle.reader.specs.Scan.{Item, ScanState, begin, mostNotes, mostVoices, mostLines, lastMeter, firstRefusal, voicesBefore, playOn, voiceOn, unitOn, act, step, scan, Out, Items}
-use Rattle.bounds.specs.Ranges.{Bytes, MeterFits, TokenFits, ItemFits}
+use Rattle.bounds.specs.Ranges.{Bytes, MeterFits, isLineRefusal, LineRefusal, TokenFits, ItemFits}
 use Rattle.bounds.proofs.TokenRanges.{tokens-fit, meter-fits}
 use Rattle.bounds.proofs.ScanWeights.{before-count}
 
--- ROWS AND LINES of bytes
+-- THE NUMBER of a line's refusal is a byte
+pub refusal-byte : (n : ℕ) → LineRefusal n → n < 256
+refusal-byte n h = ltb-true n 256 (and-left _ _ (and-left _ _ (T→true (isLineRefusal n) h)))
+
+-- and neither 15
+pub not-15 : (n : ℕ) → LineRefusal n → n ≡ 15 → ⊥
+not-15 n h e = subst LineRefusal e h
+
+-- nor 16
+pub not-16 : (n : ℕ) → LineRefusal n → n ≡ 16 → ⊥
+not-16 n h e = subst LineRefusal e h
+
+-- LINES of bytes
 pub push-bytes : (c : ℕ) (ps : List (List ℕ)) → c < 256 → All Bytes ps → All Bytes (push c ps)
 push-bytes c [] h k = ((h, tt), tt)
 push-bytes c (p ∷ ps) h k = ((h, k .0), k .1)
 
--- each row
+-- each line of a text
 pub rows-bytes : (t : List ℕ) → Bytes t → All Bytes (textLines t)
 unfolding textLines
 rows-bytes [] h = tt
@@ -61,7 +73,7 @@ drop-bytes (suc n) (c ∷ s) h = drop-bytes n s (h .1)
 -- EFFECTS
 unfoldable EffectFits : Effect → Type 0
 EffectFits counts = Unit {0}
-EffectFits (refuses n) = (4 ≤ n) × (n ≤ 14)
+EffectFits (refuses n) = LineRefusal n
 EffectFits (setsUnit u) = Unit {0}
 EffectFits (setsMeter m) = MeterFits m
 EffectFits noEffect = Unit {0}
@@ -89,7 +101,7 @@ effect-fits (rest k l) h = tt
 effect-fits (note w l b) h = tt
 effect-fits nothing h = tt
 effect-fits skipped h = tt
-effect-fits (Token.refused n) h = (omega (arith, h .0), h .1)
+effect-fits (Token.refused n) h = h
 
 -- of tokens
 effects-map : (ts : List Token) → All TokenFits ts → All EffectFits (map effectOf ts)
@@ -114,13 +126,13 @@ last-fits (noEffect ∷ es) m f h = last-fits es m (f .1) h
 -- the first refusal among them
 unfoldable Refusal : Option ℕ → Type 0
 Refusal none = Unit {0}
-Refusal (some n) = (4 ≤ n) × (n ≤ 14)
+Refusal (some n) = LineRefusal n
 
--- it is from 4 to 14
+-- it is a line's
 first-fits : (n : ℕ) (es : List Effect) → All EffectFits es → Refusal (firstRefusal n es)
 unfolding firstRefusal EffectFits Refusal
 first-fits n [] f = tt
-first-fits n (counts ∷ es) f = by-test (ltb n mostNotes) (λ e. rw e (first-fits (suc n) es (f .1))) (λ e. rw e (lit≤ tt, lit≤ tt))
+first-fits n (counts ∷ es) f = by-test (ltb n mostNotes) (λ e. rw e (first-fits (suc n) es (f .1))) (λ e. rw e tt)
 first-fits n (refuses k ∷ es) f = f .0
 first-fits n (setsUnit u ∷ es) f = first-fits n es (f .1)
 first-fits n (setsMeter m ∷ es) f = first-fits n es (f .1)
@@ -129,7 +141,7 @@ first-fits n (noEffect ∷ es) f = first-fits n es (f .1)
 -- KINDS
 unfoldable KindRange : Kind → Type 0
 KindRange blank = Unit {0}
-KindRange (refused n) = (4 ≤ n) × (n ≤ 14)
+KindRange (refused n) = LineRefusal n
 KindRange (lyric t) = Bytes t
 KindRange (voice v mid) = Unit {0}
 KindRange (key k) = Unit {0}
@@ -144,13 +156,13 @@ field-range : (l : List ℕ) → KindRange (fieldKind l)
 unfolding fieldKind voiceKind keyKind KindRange
 field-range l =
     by-test (isV l)
-    (λ e. rw e (by-test (hasHigh l) (λ f. rw f (lit≤ tt, lit≤ tt)) (λ f. rw f (by-test (isNil (identifier (drop 2 l))) (λ g. rw g (lit≤ tt, lit≤ tt)) (λ g. rw g tt)))))
+    (λ e. rw e (by-test (hasHigh l) (λ f. rw f tt) (λ f. rw f (by-test (isNil (identifier (drop 2 l))) (λ g. rw g tt) (λ g. rw g tt)))))
     (λ e. rw e
-    (by-test (isK l) (λ f. rw f (by-test (hasHigh l) (λ g. rw g (lit≤ tt, lit≤ tt)) (λ g. rw g (by-test (middleWord (drop 2 l)) (λ k. rw k (lit≤ tt, lit≤ tt)) (λ k. rw k tt)))))
+    (by-test (isK l) (λ f. rw f (by-test (hasHigh l) (λ g. rw g tt) (λ g. rw g (by-test (middleWord (drop 2 l)) (λ k. rw k tt) (λ k. rw k tt)))))
     (λ f. rw f
-    (by-test (isL l) (λ g. rw g (by-test (hasHigh l) (λ k. rw k (lit≤ tt, lit≤ tt)) (λ k. rw k tt)))
+    (by-test (isL l) (λ g. rw g (by-test (hasHigh l) (λ k. rw k tt) (λ k. rw k tt)))
     (λ g. rw g
-    (by-test (isM l) (λ k. rw k (by-test (hasHigh l) (λ m. rw m (lit≤ tt, lit≤ tt)) (λ m. rw m (meter-fits (drop 2 l)))))
+    (by-test (isM l) (λ k. rw k (by-test (hasHigh l) (λ m. rw m tt) (λ m. rw m (meter-fits (drop 2 l)))))
     (λ k. rw k (by-test (isX l) (λ m. rw m tt) (λ m. rw m tt)))))))))
 
 -- any line
@@ -159,7 +171,7 @@ unfolding lineKind KindRange
 kind-range l h =
     by-test (isNil l) (λ e. rw e tt)
     (λ e. rw e
-    (by-test (ltb 1048576 (length l)) (λ f. rw f (lit≤ tt, lit≤ tt))
+    (by-test (ltb 1048576 (length l)) (λ f. rw f tt)
     (λ f. rw f
     (by-test (isLyric l) (λ g. rw g (drop-bytes 2 l h)) (λ g. rw g (by-test (isField l) (λ k. rw k (field-range l)) (λ k. rw k (effects-fit l))))))))
 
@@ -172,9 +184,9 @@ pub record ScanFits (s : ScanState) : Type 0 where
 abbrev pub ItemsFit : Items → Type 0
 ItemsFit a = All (λ (x : ℕ × Item). ItemFits (x .1)) a
 
--- a step: refused with a number from 4 to 14, or a state and items in their ranges
+-- a step: refused with a line's number, or a state and items in their ranges
 unfoldable pub OutFits : Out → Type 0
-OutFits (refuse n l) = (4 ≤ n) × (n ≤ 14)
+OutFits (refuse n l) = LineRefusal n
 OutFits (on t a) = ScanFits t × ItemsFit a
 
 -- no more voices than 32 are known at a V line either
@@ -184,10 +196,10 @@ before-most s h = omega (arith, before-count s, h .voices-in)
 -- a V line
 voice-out : (s : ScanState) (v : List ℕ) (vs : List (List ℕ)) → ScanFits s → length vs ≤ mostVoices → (known full mid : Bool) → (full ≡ false → length vs < mostVoices) → OutFits (voiceOn s v vs known full mid)
 unfolding voiceOn OutFits ItemFits
-voice-out s v vs h l true full true f = (lit≤ tt, lit≤ tt)
+voice-out s v vs h l true full true f = tt
 voice-out s v vs h l true full false f = (record { meter-in = h .meter-in; voices-in = l }, (tt, tt))
-voice-out s v vs h l false true mid f = (lit≤ tt, lit≤ tt)
-voice-out s v vs h l false false true f = (lit≤ tt, lit≤ tt)
+voice-out s v vs h l false true mid f = tt
+voice-out s v vs h l false false true f = tt
 voice-out s v vs h l false false false f = (record { meter-in = h .meter-in; voices-in = omega (arith, length-append vs (v ∷ []), f refl) }, (tt, (tt, tt)))
 
 -- a music line
@@ -218,25 +230,25 @@ act-out s (meter m) true h f = (record { meter-in = f; voices-in = h .voices-in 
 act-out s (meter m) false h f = (record { meter-in = f; voices-in = h .voices-in }, (f, tt))
 act-out s (unit u) b h f = unit-out s u h
 act-out s tune true h f = (record { meter-in = h .meter-in; voices-in = h .voices-in }, tt)
-act-out s tune false h f = (lit≤ tt, lit≤ tt)
+act-out s tune false h f = tt
 act-out s other b h f = (record { meter-in = h .meter-in; voices-in = h .voices-in }, tt)
 act-out s (music hi es l) true h f = (record { meter-in = h .meter-in; voices-in = h .voices-in }, tt)
-act-out s (music true es l) false h f = (lit≤ tt, lit≤ tt)
+act-out s (music true es l) false h f = tt
 act-out s (music false es l) false h f = play-out s es l (firstRefusal (s .notes) es) h f (first-fits (s .notes) es f)
 
--- a row
+-- a line of the text
 step-out : (s : ScanState) (r : TextLine) → ScanFits s → Bytes r → OutFits (step s r)
 unfolding step kindOf OutFits
 step-out s r h b =
-    by-test (ltb (s .lines) mostLines) (λ e. rw e (act-out s (lineKind (clean r)) (s .env .inHeader) h (kind-range (clean r) (clean-bytes r b)))) (λ e. rw e (lit≤ tt, lit≤ tt))
+    by-test (ltb (s .lines) mostLines) (λ e. rw e (act-out s (lineKind (clean r)) (s .env .inHeader) h (kind-range (clean r) (clean-bytes r b)))) (λ e. rw e tt)
 
--- THE ROWS
+-- THE LINES OF A TEXT
 first-out : (a : Items) (o : Out) → ItemsFit a → OutFits o → OutFits (first a o)
 unfolding OutFits
 first-out a (refuse n l) h f = f
 first-out a (on t b) h f = (f .0, All-append _ a b h (f .1))
 
--- any rows
+-- any lines
 run-out : (rs : List TextLine) (s : ScanState) → ScanFits s → All Bytes rs → OutFits (run step s rs)
 unfolding OutFits
 run-out [] s h b = (h, tt)

@@ -331,7 +331,7 @@ pitches-fit s ws e = subst ChordFits e (chord-fits 0 none s no-mark)
 -- TOKENS
 taken-fits : (n : ℕ) (s : List ℕ) (o : Option (List Written)) → ChordFits o → TokenFits (chordTaken n s o .token)
 unfolding chordTaken ChordFits TokenFits
-taken-fits n s none h = (lit≤ tt, lit≤ tt)
+taken-fits n s none h = tt
 taken-fits n s (some []) h = tt
 taken-fits n s (some (w ∷ ws)) h = h
 
@@ -346,7 +346,7 @@ unfolding noteAs TokenFits
 noteAs-fits a c s h =
     by-test (octaveOf c s .fine)
     (λ e. rw (e, noteAs) (record { step-fits = step-small c; octave-fits = octave-small c s e; mark-fits = h }))
-    (λ e. rw (e, noteAs) (lit≤ tt, lit≤ tt))
+    (λ e. rw (e, noteAs) tt)
 
 -- a note behind its accidental
 noteAfter-fits : (a : Before) (r : List ℕ) → SignFits (a .sign) → TokenFits (noteAfter a r .token)
@@ -367,7 +367,7 @@ closed-fits x t s other g h = by-test (ltb (countWhile (λ c. not (x c)) s) (len
 -- a broken rhythm
 broken-fits : (up : Bool) (n : ℕ) (s : List ℕ) → TokenFits (brokenOf up n s .token)
 unfolding brokenOf TokenFits
-broken-fits up n s = by-test (ltb 255 n) (λ e. rw (e, brokenOf) (lit≤ tt, lit≤ tt)) (λ e. rw (e, brokenOf) (omega (arith, ltb-false 255 n e)))
+broken-fits up n s = by-test (ltb 255 n) (λ e. rw (e, brokenOf) tt) (λ e. rw (e, brokenOf) (omega (arith, ltb-false 255 n e)))
 
 -- a barline
 barline-fits : (s : List ℕ) (o : Option Symbol) → TokenFits (barlineAs s o .token)
@@ -378,7 +378,7 @@ barline-fits s (some x) = tt
 -- an ending
 volta-fits : (n : ℕ) (s : List ℕ) (o : Option (List ℕ)) → ListFits 0 o → TokenFits (voltaAs n s o .token)
 unfolding voltaAs ListFits TokenFits
-volta-fits n s none h = (lit≤ tt, lit≤ tt)
+volta-fits n s none h = tt
 volta-fits n s (some ps) h = h
 
 -- an inline L
@@ -390,7 +390,7 @@ unit-fits (some u) = tt
 -- an inline K
 key-fits : (s : List ℕ) → TokenFits (keyToken s)
 unfolding keyToken TokenFits
-key-fits s = by-test (middleWord s) (λ e. rw (e, keyToken) (lit≤ tt, lit≤ tt)) (λ e. rw (e, keyToken) tt)
+key-fits s = by-test (middleWord s) (λ e. rw (e, keyToken) tt) (λ e. rw (e, keyToken) tt)
 
 -- an inline field
 field-fits : (s : List ℕ) → TokenFits (fieldToken s)

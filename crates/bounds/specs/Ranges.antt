@@ -1,7 +1,9 @@
 -- WHAT FITS IN A RECORD: the range of each number that a record holds in a byte, from a token to a part.
 use Prim.Native.Nat.{ℕ, _^_, _≤_, _<_}
+use mathlib.Core.Bool.{Bool, not, _&&_}
 use mathlib.Core.Option.{Option, none, some}
 use mathlib.Core.List.{List, [], _∷_}
+use lib.Dec.{T, ltb, eqb}
 use lib.ListN.{length}
 use Rattle.laws.specs.Lists.{All}
 use Rattle.standard.specs.Pitches.{Accidental, Written, Pitch}
@@ -44,7 +46,15 @@ pub record PitchFits (p : Pitch) : Type 0 where
   pub alter-fits : p .alter < 256
   pub cents-fits : p .cents < 256
 
--- a token; a refusal in a music line is 10, 12, 13 or 14
+-- the number of a refusal that a line gives: a byte, and neither 15 nor 16, which are about the stores
+abbrev pub isLineRefusal : ℕ → Bool
+isLineRefusal n = ltb n 256 && not (eqb n 15) && not (eqb n 16)
+
+-- the same as a type
+abbrev pub LineRefusal : ℕ → Type 0
+LineRefusal n = T (isLineRefusal n)
+
+-- a token
 unfoldable pub TokenFits : Token → Type 0
 TokenFits space = Unit {0}
 TokenFits overlay = Unit {0}
@@ -66,7 +76,7 @@ TokenFits (rest k l) = Unit {0}
 TokenFits (note w l b) = WrittenFits w
 TokenFits nothing = Unit {0}
 TokenFits skipped = Unit {0}
-TokenFits (refused n) = (10 ≤ n) × (n ≤ 14)
+TokenFits (refused n) = LineRefusal n
 
 -- a note
 pub record NoteFits (n : Note) : Type 0 where

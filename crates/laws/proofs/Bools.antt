@@ -1,9 +1,11 @@
--- Laws of tests. `by-test` is the daily one: go by the two answers of a test, with the equation in hand.
+-- Laws of tests, and of what is there or not. `by-test` is the daily one: go by the two answers of a test, with the equation in hand.
 -- From a test to the order or the equation that it tests, and back: `borrow.Author.Tests`.
-use Prim.Native.Nat.{ℕ}
+use Prim.Native.Nat.{ℕ, _≤_}
 use mathlib.Core.Path.{_≡_, refl, sym, _∙_}
 use mathlib.Core.Bool.{Bool, true, false, cond, not, _&&_, _||_, true≢false}
+use mathlib.Core.Option.{none, some}
 use mathlib.Core.Logic.{_⊎_, inl, inr}
+use native.Mathlib.Omega.{arith}
 use lib.Dec.{T, eqb}
 use borrow.Author.Tests.{eqb-true, eq-eqb}
 
@@ -25,6 +27,11 @@ true→T false e = absurd (true≢false (sym e))
 -- no test passes and fails
 pub both-true : (b : Bool) → b ≡ true → b ≡ false → ⊥
 both-true b p q = true≢false (sym p ∙ q)
+
+-- what never passes fails
+pub never-true : (b : Bool) → (b ≡ true → ⊥) → b ≡ false
+never-true true f = absurd (f refl)
+never-true false f = refl
 
 -- NOT
 -- its no passes: it fails
@@ -81,6 +88,11 @@ or-true false = refl
 pub or-false : (b : Bool) → (b || false) ≡ b
 or-false true = refl
 or-false false = refl
+
+-- three, by either two of them first
+pub or-assoc : (a b c : Bool) → ((a || b) || c) ≡ (a || (b || c))
+or-assoc true b c = refl
+or-assoc false b c = refl
 
 -- the first passes: so does one of both
 pub or-left : (a b : Bool) → a ≡ true → (a || b) ≡ true
@@ -150,6 +162,16 @@ module _ {ℓ} {A : Type ℓ} where
 pub cond-ap {ℓ κ} : {A : Type ℓ} {B : Type κ} (f : A → B) (b : Bool) (x y : A) → f (cond b x y) ≡ cond b (f x) (f y)
 cond-ap f true x y = refl
 cond-ap f false x y = refl
+
+-- a number or 0 is at most the number
+pub cond-le : (b : Bool) (n : ℕ) → cond b n 0 ≤ n
+cond-le true n = omega arith
+cond-le false n = omega arith
+
+-- THERE OR NOT
+-- what is there is not nothing
+pub some≢none {ℓ} : {A : Type ℓ} (a : A) → some a ≡ none → ⊥
+some≢none {A} a e = let z : _≡_ {A = ℕ} 0 1 = cc in omega arith
 
 -- for `simp`: what a test's operations and a choice come to at a known side
 pub ruleset Bool·simp = (cond-true, cond-false, and-no-left, and-both, or-left, or-none)

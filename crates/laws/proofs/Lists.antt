@@ -1,14 +1,14 @@
 -- Laws of the functions on lists of specs/Lists.antt, and of `map`.
-use Prim.Native.Nat.{ℕ, zero, suc, _+_, _≤_, _<_, zero-le, suc-le-suc}
+use Prim.Native.Nat.{ℕ, zero, suc, _+_, _*_, _≤_, _<_, zero-le, suc-le-suc}
 use mathlib.Core.Path.{_≡_, refl, sym, ap, ap₂, subst, _∙_}
 use mathlib.Core.Bool.{Bool, true, false, cond, _&&_, _||_, false≢true}
-use mathlib.Core.List.{List, [], _∷_, _++_, map, append-nil, append-assoc}
-use native.Mathlib.Nat.{not-suc-le-zero, le-of-suc-le-suc}
+use mathlib.Core.List.{List, [], _∷_, _++_, map, reverse, reverseAux, append-nil, append-assoc}
+use native.Mathlib.Nat.{not-suc-le-zero, le-of-suc-le-suc, add-zero, mul-add, mul-suc}
 use native.Mathlib.Numerals.{add-one}
 use native.Mathlib.Omega.{arith}
 use lib.Dec.{eqb}
 use lib.ListN.{length, getD, take, drop, set, length-append, drop-of-length-le}
-use lib.Seq.{drop-cons}
+use lib.Seq.{drop-cons, getD-drop}
 use borrow.Author.Tests.{eqb-true}
 use Rattle.laws.specs.Lists.{foldl, all, any, All, filter, concat, sum, alterAt, onFirst, isNil, eqText, startsWith, elem, indexOf}
 use Rattle.laws.proofs.Bools.{by-test, and-left, and-right, and-both, or-left, or-right, or-no-left, or-no-right, eqb-same, same-test}
@@ -16,6 +16,14 @@ use Rattle.laws.proofs.Bools.{by-test, and-left, and-right, and-both, o
 -- what is left from i on: the element there, and what is left from i + 1 on. So a function by recursion on the list goes on in a loop by position
 pub drop-next {ℓ} : {A : Type ℓ} (xs : List A) (i : ℕ) (d : A) → i < length xs → drop i xs ≡ getD xs i d ∷ drop (i + 1) xs
 drop-next xs i d h = rw (add-one i) (drop-cons xs i d h)
+
+-- the first byte of what is left from i on
+pub first-at : (s : List ℕ) (i : ℕ) → getD (drop i s) 0 0 ≡ getD s i 0
+first-at s i = getD-drop i s 0 0 ∙ ap (λ k. getD s k 0) (add-zero i)
+
+-- and n bytes further on
+pub first-on : (s : List ℕ) (i n : ℕ) → getD (drop n (drop i s)) 0 0 ≡ getD s (i + n) 0
+first-on s i n = first-at (drop i s) n ∙ getD-drop i s n 0
 
 -- FOLDS
 module _ {ℓ κ} {A : Type ℓ} {B : Type κ} where
@@ -187,6 +195,21 @@ module _ {ℓ} {A : Type ℓ} where
   All-getD P (x ∷ xs) p zero d h = p .0
   All-getD P (x ∷ xs) p (suc i) d h = All-getD P xs (p .1) i d (le-of-suc-le-suc h)
 
+  -- what holds of each holds of the list turned around
+  All-back : (P : A → Type 0) (xs ys : List A) → All P xs → All P ys → All P (reverseAux xs ys)
+  All-back P [] ys p q = q
+  All-back P (x ∷ xs) ys p q = All-back P xs (x ∷ ys) (p .1) (p .0, q)
+
+  -- of the whole list
+  pub All-reverse : (P : A → Type 0) (xs : List A) → All P xs → All P (reverse xs)
+  All-reverse P xs p = All-back P xs [] p tt
+
+  -- at any place, where it holds of what stands past the end
+  pub All-here : (P : A → Type 0) (xs : List A) → All P xs → (i : ℕ) (d : A) → P d → P (getD xs i d)
+  All-here P [] p i d q = q
+  All-here P (x ∷ xs) p zero d q = p .0
+  All-here P (x ∷ xs) p (suc i) d q = All-here P xs (p .1) i d q
+
 -- ELEMENTS KEPT
 module _ {ℓ} {A : Type ℓ} (t : A → Bool) where
   -- an element at the front that passes
@@ -296,6 +319,61 @@ module _ {ℓ} {A : Type ℓ} where
   pub sum-le : (f g : A → ℕ) (xs : List A) → All (λ x. f x ≤ g x) xs → sum f xs ≤ sum g xs
   sum-le f g [] h = zero-le
   sum-le f g (x ∷ xs) h = omega (arith, h .0, sum-le f g xs (h .1))
+
+  -- of a list turned around
+  sum-back : (f : A → ℕ) (xs ys : List A) → sum f (reverseAux xs ys) ≡ sum f xs + sum f ys
+  sum-back f [] ys = omega arith
+  sum-back f (x ∷ xs) ys = omega (arith, sum-back f xs (x ∷ ys))
+
+  -- the sum does not see the order
+  pub sum-reverse : (f : A → ℕ) (xs : List A) → sum f (reverse xs) ≡ sum f xs
+  sum-reverse f xs = omega (arith, sum-back f xs [])
+
+  -- one element put in the place of another: the sum grows by what the element grows
+  pub sum-put : (f : A → ℕ) (k : ℕ) (v : A) (xs : List A) (e : A) (d : ℕ) → f v ≤ f (getD xs k e) + d → sum f (alterAt k (λ old. v) xs) ≤ sum f xs + d
+  sum-put f k v [] e d h = omega arith
+  sum-put f zero v (x ∷ xs) e d h = omega arith
+  sum-put f (suc k) v (x ∷ xs) e d h = omega (arith, sum-put f k v xs e d h)
+
+  -- one element changed, where a change adds d at most
+  pub sum-alter : (f : A → ℕ) (k : ℕ) (g : A → A) (d : ℕ) → ((x : A) → f (g x) ≤ f x + d) → (xs : List A) → sum f (alterAt k g xs) ≤ sum f xs + d
+  sum-alter f k g d h [] = omega arith
+  sum-alter f zero g d h (x ∷ xs) = omega (arith, h x)
+  sum-alter f (suc k) g d h (x ∷ xs) = omega (arith, sum-alter f k g d h xs)
+
+  -- equal numbers have equal sums
+  pub sum-same : (f g : A → ℕ) → ((x : A) → f x ≡ g x) → (xs : List A) → sum f xs ≡ sum g xs
+  sum-same f g h [] = refl
+  sum-same f g h (x ∷ xs) = omega (arith, h x, sum-same f g h xs)
+
+  -- two sums at once
+  pub sum-both : (f g : A → ℕ) (xs : List A) → sum (λ x. f x + g x) xs ≡ sum f xs + sum g xs
+  sum-both f g [] = refl
+  sum-both f g (x ∷ xs) = omega (arith, sum-both f g xs)
+
+  -- so many times each
+  pub sum-mul : (n : ℕ) (f : A → ℕ) (xs : List A) → sum (λ x. n * f x) xs ≡ n * sum f xs
+  sum-mul n f [] = omega arith
+  sum-mul n f (x ∷ xs) = omega (arith, sum-mul n f xs, mul-add n (f x) (sum f xs))
+
+  -- of what is left of a list
+  pub sum-drop : (f : A → ℕ) (n : ℕ) (l : List A) → sum f (drop n l) ≤ sum f l
+  sum-drop f zero l = omega arith
+  sum-drop f (suc n) [] = zero-le
+  sum-drop f (suc n) (x ∷ l) = omega (arith, sum-drop f n l)
+
+  -- of more elements of its front
+  pub sum-more : (f : A → ℕ) (m n : ℕ) (l : List A) → m ≤ n → sum f (take m l) ≤ sum f (take n l)
+  sum-more f zero n l h = zero-le
+  sum-more f (suc m) zero l h = absurd (not-suc-le-zero h)
+  sum-more f (suc m) (suc n) [] h = zero-le
+  sum-more f (suc m) (suc n) (x ∷ l) h = omega (arith, sum-more f m n l (omega arith))
+
+  -- lists of one length, one after the other
+  pub concat-length {κ} : {B : Type κ} (P : A → Type 0) (f : A → List B) (n : ℕ) → ((x : A) → P x → length (f x) ≡ n) → (xs : List A) → All P xs → length (concat (map f xs)) ≡ n * length xs
+  concat-length P f n h [] p = omega arith
+  concat-length P f n h (x ∷ xs) p =
+      omega (arith, length-append (f x) (concat (map f xs)), h x (p .0), concat-length P f n h xs (p .1), mul-suc n (length xs))
 
 -- a number of a list is at most all of them
 pub getD-sum : (ns : List ℕ) (i : ℕ) → getD ns i 0 ≤ sum (λ n. n) ns

@@ -1,8 +1,8 @@
--- Laws of numbers in a store of bytes, for every width: le16 and u16At are `little 2` and `littleAt 2`, le32 and u32At are `little 4` and `littleAt 4`.
+-- Laws of products, and of numbers in a store of bytes, for every width: le16 and u16At are `little 2` and `littleAt 2`, le32 and u32At are `little 4` and `littleAt 4`.
 use Prim.Native.Nat.{ℕ, zero, suc, _+_, _*_, _/_, _%_, _^_, _≤_, _<_}
 use mathlib.Core.Path.{_≡_, refl, sym, ap, _∙_}
 use mathlib.Core.List.{List, [], _∷_}
-use native.Mathlib.Nat.{add-zero, add-assoc, pow-suc, div-div-eq-div-mul}
+use native.Mathlib.Nat.{add-zero, add-assoc, pow-suc, le-refl, mul-le-mul, div-div-eq-div-mul}
 use native.Mathlib.Numerals.{add-one}
 use native.Mathlib.Omega.{arith}
 use lib.ListN.{length, getD}
@@ -10,6 +10,14 @@ use Rattle.laws.specs.Lists.{All}
 use Rattle.laws.specs.Bytes.{part, splice, little, littleAt, le16, le32, u16At, u32At}
 use Rattle.laws.proofs.Parts.{getD-part, part-cons, part-none}
 use Rattle.laws.proofs.Splices.{part-same, part-below, part-above}
+
+-- a product grows with its second factor
+pub mul-le-right : (n a b : ℕ) → a ≤ b → n * a ≤ n * b
+mul-le-right n a b h = mul-le-mul (le-refl n) h
+
+-- and with its first
+pub mul-le-left : (m n a : ℕ) → m ≤ n → m * a ≤ n * a
+mul-le-left m n a h = mul-le-mul h (le-refl a)
 
 -- a number of w bytes has w
 pub length-little : (w v : ℕ) → length (little w v) ≡ w

@@ -15,7 +15,7 @@ use Rattle.standard.specs.Lyrics.{Syllabic, single, begins, ends, middle, sylla
 use Rattle.reader.specs.Pieces.{pieces, words, separator}
 use Rattle.reader.specs.Lyrics.{orSkip}
 use Rattle.reader.specs.Codes.{syllabicCode}
-use Rattle.reader.proofs.WordLaws.{stretch, words-mark, words-word}
+use Rattle.reader.proofs.WordLaws.{stretch, words-separator, words-word}
 use Rattle.lyric_words.specs.Words.{isHyphen, asSyllabic}
 
 abbrev pub noHyphen : ℕ → Bool
@@ -40,7 +40,7 @@ words-hyphens [] = refl
 words-hyphens (c ∷ s) =
     by-test (isHyphen c)
     (λ e. let one : separator isHyphen (c ∷ s) ≡ 1 = rw e in
-    words-mark (separator isHyphen) c s 0 one ∙ words-hyphens s ∙ ap (λ (k : ℕ). words (separator isHyphen) (drop k (c ∷ s))) (sym (count-while-yes isHyphen c s e)))
+    words-separator (separator isHyphen) c s 0 one ∙ words-hyphens s ∙ ap (λ (k : ℕ). words (separator isHyphen) (drop k (c ∷ s))) (sym (count-while-yes isHyphen c s e)))
     (λ e. ap (λ (k : ℕ). words (separator isHyphen) (drop k (c ∷ s))) (sym (count-while-no isHyphen c s e)))
 
 -- a piece goes up to the next hyphen

@@ -9,7 +9,7 @@ use Rattle.laws.specs.Bytes.{between}
 use Rattle.laws.proofs.Parts.{length-between, between-none, between-first, take-between, drop-between}
 use Rattle.reader.specs.Text.{isSpace, isBlank}
 use Rattle.reader.specs.Pieces.{words, whiteAt}
-use Rattle.reader.proofs.WordLaws.{stretch, words-mark, words-word}
+use Rattle.reader.proofs.WordLaws.{stretch, words-separator, words-word}
 use Rattle.text_white.proofs.Whites.{widthBy, width-space, width-plain}
 use Rattle.lyric_words.specs.Words.{WordStart, WordEnd}
 
@@ -52,7 +52,7 @@ module _ (text : List ℕ) (i end : ℕ) (h : i < end) (l : end ≤ length text)
   white-past (suc n) e p =
       let k : i + 1 + n ≡ i + suc n = omega arith in
       ap (words whiteAt) here
-      ∙ words-mark whiteAt (getD text i 0) (between text (i + 1) end) n (ap whiteAt (sym here) ∙ sym e)
+      ∙ words-separator whiteAt (getD text i 0) (between text (i + 1) end) n (ap whiteAt (sym here) ∙ sym e)
       ∙ ap (words whiteAt) (drop-between text (i + 1) end n ∙ ap (λ (j : ℕ). between text j end) k)
 
   -- ASCII by one byte: a space is passed over, another byte begins no white space

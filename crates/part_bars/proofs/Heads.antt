@@ -255,7 +255,7 @@ pub record Left (s : List ℕ) (at : ℕ) (b : standard.Barline) : Type 0 where
   pub sets : (m : Head) → splice (headRow m) 16 bytes ≡ headRow (leftSet b m)
 
 left-is : (s : List ℕ) (at : ℕ) (b : standard.Barline) → Left s at b
-unfolding leftStore leftSet barlineCode
+unfolding leftStore leftSet
 left-is s at normal = record { bytes = []; short = omega arith; written = sym (splice-nil s at); sets = λ m. splice-nil (headRow m) 16 }
 left-is s at repeatStart = record { bytes = 1 ∷ []; short = omega arith; written = refl; sets = λ m. head-left m repeatStart }
 left-is s at repeatEnd = record { bytes = []; short = omega arith; written = sym (splice-nil s at); sets = λ m. splice-nil (headRow m) 16 }
@@ -264,7 +264,7 @@ left-is s at double = record { bytes = 4 ∷ []; short = omega arith; written = 
 left-is s at final = record { bytes = []; short = omega arith; written = sym (splice-nil s at); sets = λ m. splice-nil (headRow m) 16 }
 
 code-is : (b : standard.Barline) → codeOf (barlineFor b) ≡ barlineCode b
-unfolding codeOf barlineCode
+unfolding codeOf
 code-is normal = refl
 code-is repeatStart = refl
 code-is repeatEnd = refl

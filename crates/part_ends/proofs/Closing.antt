@@ -100,7 +100,7 @@ head-ends m ps = ends-by m ps (m .key) refl
 
 -- NUMBERS AND CASES
 pub ends-code : (b : Barline) (c : ℕ) → c ≡ barlineCode b → (eqb c 2 || eqb c 3 || eqb c 5) ≡ endsEnding b
-unfolding barlineCode endsEnding
+unfolding endsEnding
 ends-code normal c e = rw e
 ends-code repeatStart c e = rw e
 ends-code repeatEnd c e = rw e

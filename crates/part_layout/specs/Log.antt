@@ -220,7 +220,7 @@ onToken s space = setLine (withRun 0 (s .line)) s
 onToken s overlay = setLine (withOverlay (nextVoice (s .line .overlay)) (s .line)) s
 onToken s quoted = s
 onToken s (broken up n) = onBroken up n (lastPlace s) s
-onToken s (tuplet t) = setLine (withTuplet (some (record { tuplet = t; left = t .count })) (s .line)) s
+onToken s (tuplet t) = setLine (withTuplet (some (record { tuplet = t; remaining = t .count })) (s .line)) s
 onToken s slur = setPending (slurOpens (s .pending)) s
 onToken s graceOpen = setPending (graceOpens (s .pending)) s
 onToken s graceClose = setPending (graceCloses (s .pending)) s

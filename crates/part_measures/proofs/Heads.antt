@@ -34,7 +34,7 @@ length-head m = length-by m (m .key) refl
 
 -- a new measure
 pub new-row : (t : Meter) (left : Barline) → newRow (barlineCode left) (t .0) (t .1) ≡ headRow (newHead t left)
-unfolding newRow headRow newHead little keyMarkBytes passBits barlineCode voltaCode
+unfolding newRow headRow newHead little keyMarkBytes passBits voltaCode
 new-row t left = refl
 
 pub length-new : (left top bottom : ℕ) → length (newRow left top bottom) ≡ 28

@@ -43,7 +43,7 @@ grouped-is (some t) m = refl
 pub fewer-is : (t : Option State.Running) → fewer (runningFor t) ≡ runningFor (oneFewer t)
 unfolding fewer oneFewer
 fewer-is none = refl
-fewer-is (some t) = by-test (leb (t .left) 1) (λ e. rw e) (λ e. rw e)
+fewer-is (some t) = by-test (leb (t .remaining) 1) (λ e. rw e) (λ e. rw e)
 
 -- a length by its value and dots
 length-proper : (v d : ℕ) → NoBar (lengthIn v d)

@@ -21,7 +21,7 @@ halfFor (some h) = half.Waits (h .up) (h .times)
 
 abbrev pub runningFor : Option State.Running → Running
 runningFor none = running.Nothing
-runningFor (some t) = running.Tuplet (t .tuplet .actual) (t .tuplet .normal) (t .tuplet .count) (t .left)
+runningFor (some t) = running.Tuplet (t .tuplet .actual) (t .tuplet .normal) (t .tuplet .count) (t .remaining)
 
 -- a run of more than two notes counts as two
 abbrev pub lineFor : State.Line → Line

@@ -107,7 +107,7 @@ module _ {t : Tables} {s : List ℕ} {r : Registers} (unit top bottom : ℕ) whe
   -- where there is none
   pub opens-first : RoomForBytes t (r .counts) (length s) [] → RepresentedBetween t s r → r .counts .heads ≡ 0 → (s′ : List ℕ) → s′ ≡ splice s (t .heads + 28 * 0) (newRow 0 top bottom)
       → (x : Registers) → x ≡ begun r 1 unit top bottom → SimulatesItem t s r s′ x [] (lineBegins unit (top, bottom)) × (1 ≤ x .counts .heads)
-  unfolding barlineCode bars letters rests signs
+  unfolding bars letters rests signs
   opens-first rest a z s′ e x d =
       let m : Meter = (top, bottom) in
       let room : Room t (r .counts) (length s) 1 0 0 0 =

@@ -95,7 +95,7 @@ module _ (r : Registers) (t : Tables) (s : List ℕ) where
   pub tuplet-does : (actual normal count : ℕ) → Simulates t s r s (lined r (r .line) (running.Tuplet actual normal count count)) 0 0 0 0 (λ l. onToken l (token.tuplet (record { actual = actual; normal = normal; count = count })))
   unfolding onToken
   tuplet-does actual normal count =
-      lined-does _ _ (withTuplet (some (record { tuplet = record { actual = actual; normal = normal; count = count }; left = count }))) (λ n e. e) (λ n. refl) (λ n e. refl)
+      lined-does _ _ (withTuplet (some (record { tuplet = record { actual = actual; normal = normal; count = count }; remaining = count }))) (λ n e. e) (λ n. refl) (λ n e. refl)
 
   pub unit-does : (unit : ℕ) → Simulates t s r s (lined r (record { unit = unit; top = r .line .top; bottom = r .line .bottom; overlay = r .line .overlay; run = r .line .run }) (r .group .running)) 0 0 0 0 (λ l. onToken l (token.unit unit))
   unfolding onToken

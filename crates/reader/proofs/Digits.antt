@@ -1,4 +1,4 @@
--- Texts of digits: how far they reach, what they write, and that nothing in them is white space or a mark.
+-- Texts of digits: how far they reach, what they write, and that nothing in them is white space or a separator.
 use Prim.Native.Nat.{ℕ, suc, _+_, _≤_, _<_}
 use mathlib.Core.Path.{_≡_, refl, ap, _∙_}
 use mathlib.Core.Bool.{Bool, true, false, not, _&&_, false≢true}
@@ -74,7 +74,7 @@ digits-solid (c ∷ d) a = rw (digit-solid c (and-left (isDigit c) (all isDigit 
 
 -- BEFORE AND AFTER A MARK that is no digit
 module _ (x : ℕ) (n : isDigit x ≡ false) where
-  -- the byte is the mark
+  -- the byte is the separator
   abbrev at : ℕ → Bool
   at c = eqb c x
 
@@ -85,7 +85,7 @@ module _ (x : ℕ) (n : isDigit x ≡ false) where
   before-digits (c ∷ d) t a =
       rw (digit-not c x (and-left (isDigit c) (all isDigit d) a) n, before) (ap (λ (r : List ℕ). c ∷ r) (before-digits d t (and-right (isDigit c) (all isDigit d) a)))
 
-  -- all of them, where there is no mark
+  -- all of them, where there is no separator
   pub before-all : (d : List ℕ) → all isDigit d ≡ true → before at d ≡ d
   unfolding before
   before-all [] a = refl
@@ -98,7 +98,7 @@ module _ (x : ℕ) (n : isDigit x ≡ false) where
   after-digits [] t a = rw (eqb-same x, after)
   after-digits (c ∷ d) t a = rw (digit-not c x (and-left (isDigit c) (all isDigit d) a) n, after) (after-digits d t (and-right (isDigit c) (all isDigit d) a))
 
-  -- PIECES between such marks: digits alone are one
+  -- PIECES between such separators: digits alone are one
   pub pieces-digits : (d : List ℕ) → all isDigit d ≡ true → pieces (separator at) 0 d ≡ d ∷ []
   unfolding pieces
   pieces-digits [] a = refl

@@ -2,6 +2,9 @@ pub mod TokenLaws
 pub mod TokenBounds
 pub mod WordLaws
 pub mod SharedLaws
+pub mod TextLaws
+pub mod CodeLaws
+pub mod PartLaws
 pub mod Sizes
 pub mod LineLaws
 pub mod ValueLaws

@@ -3,15 +3,14 @@ use Prim.Native.Nat.{ℕ, _+_, _*_}
 use mathlib.Core.Path.{_≡_, refl, ap, _∙_}
 use mathlib.Core.Bool.{Bool, true, false, cond}
 use mathlib.Core.Option.{Option, none, some}
-use mathlib.Core.List.{List, [], _∷_, _++_, map, reverse, reverseAux}
-use native.Mathlib.Nat.{mul-suc}
+use mathlib.Core.List.{List, [], _∷_, _++_, map, reverse}
 use native.Mathlib.Omega.{arith}
 use lib.ListN.{length, length-map, length-append}
 use Rattle.laws.specs.Lists.{foldl, All, any, concat, sum}
 use Rattle.laws.specs.Bytes.{little, le32}
 use Rattle.laws.proofs.Bools.{by-test}
 use Rattle.laws.proofs.Numbers.{length-little}
-use Rattle.laws.proofs.Lists.{foldl-holds, length-alterAt, All-onFirst, All-every}
+use Rattle.laws.proofs.Lists.{foldl-holds, length-alterAt, All-onFirst, All-every, All-reverse, concat-length}
 use Rattle.standard.specs.Keys.{Key}
 use Rattle.standard.specs.Bars.{Barline, normal, repeatStart, repeatEnd, repeatBoth, double, final}
 use Rattle.standard.specs.Pitches.{Pitch}
@@ -148,11 +147,6 @@ dropped-four [] p = tt
 dropped-four (m ∷ []) p = p
 dropped-four (m ∷ n ∷ ms) p = let h : Fours (dropped (n ∷ ms)) = dropped-four (n ∷ ms) (p .1) in by-test (isEmpty m) (λ e. rw (e, dropped) h) (λ e. rw (e, dropped) p)
 
--- in the other order
-back-four : (ms r : List Measure) → Fours ms → Fours r → Fours (reverseAux ms r)
-back-four [] r p q = q
-back-four (m ∷ ms) r p q = back-four ms (m ∷ r) (p .1) (p .0, q)
-
 -- notes as written
 order-four : (ms : List Measure) → Fours ms → Fours (map inOrder ms)
 unfolding inOrder
@@ -193,7 +187,7 @@ four-voices header items =
     let s : PartState = foldl (onItem header) newPart items in
     let p : Fours (s .measures) = foldl-holds (λ (x : PartState). Fours (x .measures)) (onItem header) (item-four header) newPart items tt in
     let r = reverse (dropped (s .measures)) in
-    marked-four header (close none (map inOrder r)) (close-four none (map inOrder r) (order-four r (back-four (dropped (s .measures)) [] (dropped-four (s .measures) p) tt)))
+    marked-four header (close none (map inOrder r)) (close-four none (map inOrder r) (order-four r (All-reverse Four (dropped (s .measures)) (dropped-four (s .measures) p))))
 
 -- THE LENGTH OF A PART'S SECTIONS
 -- a measure by its voices and its key mark
@@ -215,13 +209,6 @@ both-bytes (a ∷ b ∷ c ∷ d ∷ x ∷ xs) k m e = absurd (omega (arith, e))
 pub measure-bytes : (m : Measure) → Four m → length (measureBytes m) ≡ measureWidth
 unfolding with-both
 measure-bytes m p = both-bytes (m .voices) (m .key) m p
-
--- records of one width, one after the other
-concat-length {ℓ} : {A : Type ℓ} (P : A → Type 0) (f : A → List ℕ) (n : ℕ) → ((x : A) → P x → length (f x) ≡ n) → (xs : List A) → All P xs → length (concat (map f xs)) ≡ n * length xs
-concat-length P f n h [] p = omega arith
-concat-length P f n h (x ∷ xs) p =
-    let k : length (concat (map f xs)) ≡ n * length xs = concat-length P f n h xs (p .1) in
-    omega (arith, length-append (f x) (concat (map f xs)), h x (p .0), k, mul-suc n (length xs))
 
 -- a section: its count, and its records
 section-length {ℓ} : {A : Type ℓ} (P : A → Type 0) (f : A → List ℕ) (n : ℕ) → ((x : A) → P x → length (f x) ≡ n) → (xs : List A) → All P xs → length (section f xs) ≡ 4 + n * length xs

@@ -1,4 +1,4 @@
--- The words of a text, from left to right: a mark is passed over, a word is taken up to the next mark. For loops over words by position.
+-- The words of a text, from left to right: a separator is passed over, a word is taken up to the next separator. For loops over words by position.
 use Prim.Native.Nat.{ℕ, zero, suc, pred}
 use mathlib.Core.Path.{_≡_, refl, sym, ap, _∙_}
 use mathlib.Core.Bool.{not}
@@ -10,12 +10,12 @@ use Rattle.reader.specs.Text.{push}
 use Rattle.reader.specs.Pieces.{pieces, words}
 
 module _ (w : List ℕ → ℕ) where
-  -- how many bytes stand before the first mark
+  -- how many bytes stand before the first separator
   unfoldable pub stretch : List ℕ → ℕ
   stretch [] = 0
   stretch (c ∷ s) = elim (w (c ∷ s)) as (λ _. ℕ) [ zero ↦ suc (stretch s) | suc n ↦ 0 ]
 
-  -- bytes of a mark still to pass are dropped
+  -- bytes of a separator still to pass are dropped
   pub pieces-drop : (k : ℕ) (s : List ℕ) → pieces w k s ≡ pieces w 0 (drop k s)
   unfolding pieces
   pieces-drop zero s = refl
@@ -27,7 +27,7 @@ module _ (w : List ℕ → ℕ) where
   behind [] = []
   behind (c ∷ s) = pieces w 0 (drop (pred (w (c ∷ s))) s)
 
-  -- the first piece, by what the mark at the front takes
+  -- the first piece, by what the separator at the front takes
   first-piece-at : (c : ℕ) (s : List ℕ) (n : ℕ) → w (c ∷ s) ≡ n → pieces w 0 s ≡ take (stretch s) s ∷ behind (drop (stretch s) s) →
       pieces w 0 (c ∷ s) ≡ take (stretch (c ∷ s)) (c ∷ s) ∷ behind (drop (stretch (c ∷ s)) (c ∷ s))
   unfolding pieces stretch behind
@@ -41,16 +41,16 @@ module _ (w : List ℕ → ℕ) where
   first-piece (c ∷ s) = first-piece-at c s (w (c ∷ s)) refl (first-piece s)
 
   -- WORDS
-  -- a mark is passed over
-  pub words-mark : (c : ℕ) (s : List ℕ) (n : ℕ) → w (c ∷ s) ≡ suc n → words w (c ∷ s) ≡ words w (drop n s)
+  -- a separator is passed over
+  pub words-separator : (c : ℕ) (s : List ℕ) (n : ℕ) → w (c ∷ s) ≡ suc n → words w (c ∷ s) ≡ words w (drop n s)
   unfolding words pieces
-  words-mark c s n e = rw (e, pieces) (ap (filter (λ p. not (isNil p))) (pieces-drop n s))
+  words-separator c s n e = rw (e, pieces) (ap (filter (λ p. not (isNil p))) (pieces-drop n s))
 
-  -- what is left behind the first piece, by what the mark at the front takes
+  -- what is left behind the first piece, by what the separator at the front takes
   behind-at : (c : ℕ) (s : List ℕ) (n : ℕ) → w (c ∷ s) ≡ n → stretch (c ∷ s) ≡ 0 → filter (λ p. not (isNil p)) (behind (c ∷ s)) ≡ words w (c ∷ s)
   unfolding words behind stretch
   behind-at c s zero q e = let z : suc (stretch s) ≡ 0 = rw (q, stretch) at e in absurd (omega (arith, z))
-  behind-at c s (suc n) q e = ap (λ k. filter (λ p. not (isNil p)) (pieces w 0 (drop (pred k) s))) q ∙ sym (words-mark c s n q)
+  behind-at c s (suc n) q e = ap (λ k. filter (λ p. not (isNil p)) (pieces w 0 (drop (pred k) s))) q ∙ sym (words-separator c s n q)
 
   -- where no word stands, what is left behind the first piece is the words
   behind-words : (s : List ℕ) → stretch s ≡ 0 → filter (λ p. not (isNil p)) (behind s) ≡ words w s
@@ -58,19 +58,19 @@ module _ (w : List ℕ → ℕ) where
   behind-words [] e = refl
   behind-words (c ∷ s) e = behind-at c s (w (c ∷ s)) refl e
 
-  -- the end of a stretch, by what the mark at the front takes
+  -- the end of a stretch, by what the separator at the front takes
   stops-at : (c : ℕ) (s : List ℕ) (n : ℕ) → w (c ∷ s) ≡ n → stretch (drop (stretch s) s) ≡ 0 → stretch (drop (stretch (c ∷ s)) (c ∷ s)) ≡ 0
   unfolding stretch
   stops-at c s zero q h = rw (q, stretch) h
   stops-at c s (suc n) q h = rw (q, stretch) (rw (q, stretch))
 
-  -- behind a word stands a mark, or nothing
+  -- behind a word stands a separator, or nothing
   pub stops : (s : List ℕ) → stretch (drop (stretch s) s) ≡ 0
   unfolding stretch
   stops [] = refl
   stops (c ∷ s) = stops-at c s (w (c ∷ s)) refl (stops s)
 
-  -- a byte that begins no mark
+  -- a byte that begins no separator
   one-more : (c : ℕ) (s : List ℕ) → w (c ∷ s) ≡ 0 → stretch (c ∷ s) ≡ suc (stretch s)
   unfolding stretch
   one-more c s e = rw (e, stretch)

@@ -9,7 +9,7 @@ use Rattle.standard.specs.Bars.{Barline, normal, repeatStart, repeatEnd, repeat
 use Rattle.reader.specs.Token.{Token, barline, skipped, Taken, taken}
 
 -- the left barline of the measure behind it: `|:`, `::` and `||` stand there too
-unfoldable pub leftOf : Barline → Barline
+abbrev pub leftOf : Barline → Barline
 leftOf normal = normal
 leftOf repeatStart = repeatStart
 leftOf repeatEnd = normal

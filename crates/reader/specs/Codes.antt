@@ -8,7 +8,7 @@ use Rattle.standard.specs.Lyrics.{Syllabic}
 use Rattle.reader.specs.State.{Volta, noVolta, voltaBegins, voltaEnds, voltaAlone}
 
 -- "0 normal, 1 repeat start, 2 repeat end, 3 both, 4 double, 5 final"
-unfoldable pub barlineCode : Barline → ℕ
+abbrev pub barlineCode : Barline → ℕ
 barlineCode normal = 0
 barlineCode repeatStart = 1
 barlineCode repeatEnd = 2

@@ -82,6 +82,6 @@ lineKind l =
     (cond (ltb 1048576 (length l)) (refused 5)
     (cond (isLyric l) (lyric (drop 2 l)) (cond (isField l) (fieldKind l) (music (hasHigh l) (effects l) l))))
 
--- the kind of a row
+-- the kind of a line of the text
 unfoldable pub kindOf : List ℕ → Kind
 kindOf r = lineKind (clean r)

@@ -81,7 +81,7 @@ groupIn t =
     record {
       actual = t .tuplet .actual;
       normal = t .tuplet .normal;
-      boundary = boundary (eqb (t .left) (t .tuplet .count)) (eqb (t .left) 1);
+      boundary = boundary (eqb (t .remaining) (t .tuplet .count)) (eqb (t .remaining) 1);
     }
 
 unfoldable pub grouped : Option Running → Note → Note
@@ -91,7 +91,7 @@ grouped (some t) n = withGroup (groupIn t) n
 -- the tuplet after a note: over when its count is used up
 unfoldable pub oneFewer : Option Running → Option Running
 oneFewer none = none
-oneFewer (some t) = cond (leb (t .left) 1) none (some (record { tuplet = t .tuplet; left = t .left - 1 }))
+oneFewer (some t) = cond (leb (t .remaining) 1) none (some (record { tuplet = t .tuplet; remaining = t .remaining - 1 }))
 
 -- A NOTE, REST OR CHORD goes to the end of its voice; a voice 0 note that is no rest is counted for the lyrics
 unfoldable pub countedIn : ℕ → Note → Verses → Verses
@@ -168,7 +168,7 @@ onToken s space = setLine (withRun 0 (s .line)) s
 onToken s overlay = setLine (withOverlay (nextVoice (s .line .overlay)) (s .line)) s
 onToken s quoted = s
 onToken s (broken up n) = onBroken up n (voiceNow s) s
-onToken s (tuplet t) = setLine (withTuplet (some (record { tuplet = t; left = t .count })) (s .line)) s
+onToken s (tuplet t) = setLine (withTuplet (some (record { tuplet = t; remaining = t .count })) (s .line)) s
 onToken s slur = setPending (slurOpens (s .pending)) s
 onToken s graceOpen = setPending (graceOpens (s .pending)) s
 onToken s graceClose = setPending (graceCloses (s .pending)) s

@@ -22,7 +22,7 @@ unfoldable pub after : (ℕ → Bool) → List ℕ → Option (List ℕ)
 after p [] = none
 after p (c ∷ s) = elim (p c) [ true ↦ some s | false ↦ after p s ]
 
--- the pieces between marks; w: how many bytes a mark at the front takes, 0 where there is none; k: bytes of a mark still to pass
+-- the pieces between separators; w: how many bytes a separator at the front takes, 0 where there is none; k: bytes of a separator still to pass
 unfoldable pub pieces : (List ℕ → ℕ) → ℕ → List ℕ → List (List ℕ)
 pieces w k [] = [] ∷ []
 pieces w zero (c ∷ s) = elim (w (c ∷ s)) as (λ _. List (List ℕ)) [ zero ↦ push c (pieces w zero s) | suc n ↦ [] ∷ pieces w n s ]
@@ -32,7 +32,7 @@ pieces w (suc k) (c ∷ s) = pieces w k s
 unfoldable pub words : (List ℕ → ℕ) → List ℕ → List (List ℕ)
 words w s = filter (λ p. not (isNil p)) (pieces w 0 s)
 
--- a mark of one byte that passes
+-- a separator of one byte, which passes a test
 abbrev pub separator : (ℕ → Bool) → List ℕ → ℕ
 separator p s = cond (p (first s)) 1 0
 

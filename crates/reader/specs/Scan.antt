@@ -171,10 +171,10 @@ act s (music hi es l) true = on (nextLine s) []
 act s (music true es l) false = refuse 6 (suc (s .lines))
 act s (music false es l) false = playOn s es l (firstRefusal (s .notes) es)
 
--- a row; refusal 4 comes before anything in it
+-- a line of the text; refusal 4 comes before anything in it
 unfoldable pub step : ScanState → TextLine → Out
 step s r = cond (ltb (s .lines) mostLines) (act s (kindOf r) (s .env .inHeader)) (refuse 4 (suc (s .lines)))
 
--- the rows of a text
+-- the lines of a text
 unfoldable pub scan : List TextLine → Out
 scan rs = run step begin rs

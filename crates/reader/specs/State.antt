@@ -51,7 +51,7 @@ pub record Half : Type 0 where
 -- a tuplet being read, and how many of its notes are to come
 pub record Running : Type 0 where
   pub tuplet : Tuplet
-  pub left : ℕ
+  pub remaining : ℕ
 
 -- WHAT ENDS WITH THE LINE: the unit and meter in force; the overlay voice 0 to 3; the length of the beam's run; a half; a tuplet
 pub record Line : Type 0 where

@@ -30,7 +30,7 @@ utf8Step afterF0 c = cond (within 0x90 0xbf c) two invalid
 utf8Step afterF4 c = cond (within 0x80 0x8f c) two invalid
 utf8Step invalid c = invalid
 
-unfoldable pub isBetween : Utf8 → Bool
+abbrev pub isBetween : Utf8 → Bool
 isBetween between = true
 isBetween one = false
 isBetween two = false
@@ -67,7 +67,7 @@ whiteStep inE3 c = cond (eqb c 0x80) inE380 other
 whiteStep inE380 c = cond (eqb c 0x80) white other
 whiteStep other c = other
 
-unfoldable pub isAllWhite : White → Bool
+abbrev pub isAllWhite : White → Bool
 isAllWhite white = true
 isAllWhite inC2 = false
 isAllWhite inE1 = false
@@ -83,7 +83,7 @@ isAllWhite other = false
 unfoldable pub isBlank : List ℕ → Bool
 isBlank s = isAllWhite (foldl whiteStep white s)
 
--- LINES. A row is a line with its line feed; a last line that has none is a row too. `textLines` cuts a text after each line feed
+-- THE LINES OF A TEXT, each with its line feed; the last may have none. `push` puts a byte before the first line, `textLines` cuts a text after each line feed
 abbrev pub push : ℕ → List (List ℕ) → List (List ℕ)
 push c [] = (c ∷ []) ∷ []
 push c (r ∷ rs) = (c ∷ r) ∷ rs
@@ -97,7 +97,7 @@ unfoldable pub cut : List ℕ → List ℕ
 cut [] = []
 cut (c ∷ cs) = cond (eqb c 37) [] (c ∷ cut cs)
 
--- "trim white space (Unicode's, here and in lyrics) at the end": a row's line feed, and a carriage return before it, go with it
+-- "trim white space (Unicode's, here and in lyrics) at the end": a line's line feed, and a carriage return before it, go with it
 unfoldable pub trim : List ℕ → List ℕ
 trim [] = []
 trim (c ∷ cs) = cond (isBlank (c ∷ cs)) [] (c ∷ trim cs)

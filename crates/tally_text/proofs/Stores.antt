@@ -12,7 +12,7 @@ use Rattle.reader.specs.Text.{isUtf8, isBlank, textLines}
 use Rattle.reader.specs.Steps.{refuse, on}
 use Rattle.reader.specs.Scan.{Out, scan}
 use Rattle.reader.specs.Answer.{Verdict, refusal, reading, Outcome, mostBytes, scratchNeeded, refusedWith, early, encode, measureCount, written, ended, finish, scanned, unless, parseAbc}
-use Rattle.bounds.proofs.ScanRanges.{OutFits, scan-out}
+use Rattle.bounds.proofs.ScanRanges.{not-15, OutFits, scan-out}
 use Rattle.bounds.proofs.Reading.{partsAfter, utf8-bytes, never-16}
 use Rattle.tally_text.specs.Printed.{mostInput, readingBytes, scratchBytes}
 
@@ -23,7 +23,7 @@ Not15 (reading ps) = Unit {0}
 
 scanned-15 : (rl sl : ℕ) (o : Out) → OutFits o → Not15 (scanned rl sl o .verdict)
 unfolding scanned finish ended written refusedWith OutFits
-scanned-15 rl sl (refuse n l) f = λ e. absurd (omega (arith, e, f .1))
+scanned-15 rl sl (refuse n l) f = not-15 n f
 scanned-15 rl sl (on t a) f =
     let ps = partsAfter t a in
     by-test (leb 1 (sum measureCount ps))

@@ -15,9 +15,10 @@ use Rattle.laws.specs.Spans.{run, endIn}
 use Rattle.laws.proofs.Lists.{foldl-snoc}
 use Rattle.laws.proofs.Spans.{run-yes, run-no}
 use Rattle.laws.proofs.Parts.{between-first, between-last, between-none, length-between, take-part, endIn-le, run-between}
+use Rattle.reader.proofs.TextLaws.{other-stays, trim-keep}
 use Rattle.reader.specs.Text.{within, isSpace, White, white, inC2, inE1, inE19A, inE2, inE280, inE281, inE3, inE380, other, whiteStep, isAllWhite, isBlank, trim, cut, clean}
 use Rattle.text_white.specs.States.{isOther}
-use Rattle.text_white.proofs.Whites.{plain-is-other, other-stays, other-of}
+use Rattle.text_white.proofs.Whites.{plain-is-other, other-of}
 use Rattle.text_lines.specs.Lines.{notByte, trimFrom, TrimEnd, CleanEnd}
 
 -- A BYTE ALONE
@@ -104,15 +105,9 @@ plain inE380 c h e = rw (far c 0x80 h (omega arith))
 plain other c h e = refl
 
 dead : (l : List ℕ) → isAllWhite (foldl whiteStep other l) ≡ false
-unfolding isAllWhite
 dead l = ap isAllWhite (other-stays l)
 
 -- TRIMMING
-trim-keep : (c : ℕ) (l : List ℕ) → whiteStep white c ≡ other → length (trim (c ∷ l)) ≡ suc (length (trim l))
-unfolding trim isBlank
-trim-keep c l h =
-    ap (λ (b : Bool). length (cond b [] (c ∷ trim l))) (ap (λ (q : White). isAllWhite (foldl whiteStep q l)) h ∙ dead l)
-
 trim-white : (l : List ℕ) → isBlank l ≡ true → length (trim l) ≡ 0
 unfolding trim
 trim-white [] h = refl
@@ -147,7 +142,7 @@ module _ (q : White) (end b at : ℕ) (l : List ℕ) where
       (λ e. subst (λ (p : White). trimFrom (whiteStep p b) end (at + 1) l ≡ trimFrom p end at (b ∷ l)) (sym e)
       (both (isAllWhite (foldl whiteStep (whiteStep white b) l))))
       (⊎-elim (λ e. absurd (false≢true (sym h ∙ ap isOther e)))
-      (λ e. let k : at + 1 + n ≡ at + length (trim (b ∷ l)) = omega (arith, trim-keep b l e) in
+      (λ e. let k : at + 1 + n ≡ at + length (trim (b ∷ l)) = omega (arith, ap (λ (x : List ℕ). length x) (trim-keep b l e)) in
       ap (λ (m : ℕ). cond (isAllWhite (foldl whiteStep (whiteStep q b) l)) end m) k))
       (alone q b)
     where
@@ -172,7 +167,7 @@ module _ (q : White) (end b at : ℕ) (l : List ℕ) where
   -- it fails, and this byte begins none
   pub trim-past : isOther (whiteStep q b) ≡ true → isOther (whiteStep white b) ≡ true → trimFrom white (at + 1) (at + 1) l ≡ trimFrom q end at (b ∷ l)
   trim-past h k =
-      let e : at + 1 + n ≡ at + length (trim (b ∷ l)) = omega (arith, trim-keep b l (other-of (whiteStep white b) k)) in
+      let e : at + 1 + n ≡ at + length (trim (b ∷ l)) = omega (arith, ap (λ (x : List ℕ). length x) (trim-keep b l (other-of (whiteStep white b) k))) in
       trim-start (at + 1) l ∙ e ∙ sym (fails h)
 
   -- the byte is ASCII from `!` on
@@ -183,7 +178,7 @@ module _ (q : White) (end b at : ℕ) (l : List ℕ) where
       let none : isSpace b ≡ false = rw (le-leb 9 b (omega arith), lt-leb b 13 (omega arith), ne-eqb b 32 (λ e. omega arith)) in
       trim-past (ap isOther (plain q b high none)) (ap isOther (plain white b high none))
 
--- THE LINE is the front of its row
+-- THE LINE CUT AND TRIMMED is its front
 abbrev Front : List ℕ → List ℕ → Type 0
 Front m l = (length m ≤ length l) × (take (length m) l ≡ m)
 
@@ -232,7 +227,7 @@ module _ (text : List ℕ) (from to : ℕ) (q : White) (end i : ℕ) (r : Trimmi
 -- FROM THE END
 -- a space at the end goes; ASCII that is none stays, and what stands before it
 space-keeps : (q : White) (c : ℕ) → isSpace c ≡ true → c ≤ 127 → isAllWhite (whiteStep q c) ≡ isAllWhite q
-unfolding whiteStep isAllWhite
+unfolding whiteStep
 space-keeps white c e h = rw e
 space-keeps inC2 c e h = rw (far c 0x85 h (omega arith), far c 0xa0 h (omega arith))
 space-keeps inE1 c e h = rw (far c 0x9a h (omega arith))
@@ -250,11 +245,10 @@ blank-last c l = ap isAllWhite (foldl-snoc whiteStep white l c)
 
 module _ (c : ℕ) (h : c ≤ 127) where
   ends : isSpace c ≡ false → (l : List ℕ) → isBlank (l ++ (c ∷ [])) ≡ false
-  unfolding isAllWhite
   ends e l = blank-last c l ∙ ap isAllWhite (plain (foldl whiteStep white l) c h e)
 
   trim-space : isSpace c ≡ true → (l : List ℕ) → trim (l ++ (c ∷ [])) ≡ trim l
-  unfolding trim isBlank isAllWhite
+  unfolding trim isBlank
   trim-space e [] = ap (λ (b : Bool). cond b [] (c ∷ [])) (blank-last c [] ∙ space-keeps white c e h)
   trim-space e (d ∷ l) =
       (λ i. cond ((blank-last c (d ∷ l) ∙ space-keeps (foldl whiteStep white (d ∷ l)) c e h) i) [] (d ∷ trim-space e l i))

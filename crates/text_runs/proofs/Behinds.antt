@@ -7,8 +7,8 @@ use native.Mathlib.Omega.{arith}
 use lib.ListN.{length, getD, drop, drop-of-length-le}
 use borrow.Author.Tests.{ne-eqb}
 use Rattle.laws.proofs.Bools.{or-true, or-false}
+use Rattle.laws.proofs.Lists.{drop-next}
 use Rattle.reader.specs.Sounds.{behind}
-use Rattle.text_runs.proofs.Places.{drop-here}
 use Rattle.text_runs.specs.Behind.{behindFor}
 
 -- WHAT STANDS AT A POSITION
@@ -16,16 +16,16 @@ module _ (line : List ℕ) (i : ℕ) where
   behind-tie : i < length line → getD line i 0 ≡ 45
       → behind (drop i line) ≡ record { tie = true; slur = behind (drop (i + 1) line) .slur; used = suc (behind (drop (i + 1) line) .used) }
   unfolding behind
-  behind-tie h e = rw (drop-here line i h, e)
+  behind-tie h e = rw (drop-next line i 0 h, e)
 
   behind-slur : i < length line → getD line i 0 ≡ 41
       → behind (drop i line) ≡ record { tie = behind (drop (i + 1) line) .tie; slur = true; used = suc (behind (drop (i + 1) line) .used) }
   unfolding behind
-  behind-slur h e = rw (drop-here line i h, e)
+  behind-slur h e = rw (drop-next line i 0 h, e)
 
   behind-other : i < length line → (getD line i 0 ≡ 45 → ⊥) → (getD line i 0 ≡ 41 → ⊥) → behind (drop i line) ≡ record { tie = false; slur = false; used = 0 }
   unfolding behind
-  behind-other h m n = rw (drop-here line i h, ne-eqb _ _ m, ne-eqb _ _ n, behind)
+  behind-other h m n = rw (drop-next line i 0 h, ne-eqb _ _ m, ne-eqb _ _ n, behind)
 
   behind-end : length line ≤ i → behind (drop i line) ≡ record { tie = false; slur = false; used = 0 }
   unfolding behind

@@ -1,2 +1,1 @@
 mod Behinds
-pub mod Places

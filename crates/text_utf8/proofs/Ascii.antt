@@ -19,5 +19,5 @@ ascii [] h = refl
 ascii (c ∷ l) h = ap (λ (q : Utf8). foldl utf8Step q l) (stays c (or-no-left (ltb 127 c) (hasHigh l) h)) ∙ ascii l (or-no-right (ltb 127 c) (hasHigh l) h)
 
 pub ascii-is-utf8 : (l : List ℕ) → hasHigh l ≡ false → isUtf8 l ≡ true
-unfolding isUtf8 isBetween
+unfolding isUtf8
 ascii-is-utf8 l h = ap isBetween (ascii l h)

@@ -10,17 +10,11 @@ use lib.Dec.{eqb}
 use lib.ListN.{length, getD, drop, drop-of-length-le}
 use lib.Seq.{drop-cons}
 use Rattle.laws.specs.Lists.{foldl}
+use Rattle.laws.proofs.Lists.{foldl-at}
+use Rattle.reader.proofs.TextLaws.{other-stays}
 use Rattle.reader.specs.Text.{isSpace, White, white, inC2, inE1, inE19A, inE2, inE280, inE281, inE3, inE380, other, whiteStep, isAllWhite, isBlank}
 use Rattle.reader.specs.Pieces.{whiteAt}
 use Rattle.text_white.specs.States.{isOther}
-
--- a fold at a position: one byte further, and at the end
-module _ {S : Type 0} (step : S → ℕ → S) (q : S) (t : List ℕ) (i : ℕ) where
-  pub foldl-at : i < length t → foldl step q (drop i t) ≡ foldl step (step q (getD t i 0)) (drop (i + 1) t)
-  foldl-at h = rw (add-one i, drop-cons t i 0 h)
-
-  pub foldl-over : length t ≤ i → foldl step q (drop i t) ≡ q
-  foldl-over h = rw (drop-of-length-le t h)
 
 -- 0 is no byte of white space
 zero-is-other : (q : White) → whiteStep q 0 ≡ other
@@ -43,12 +37,7 @@ plain-is-other c h e =
     let far : (n : ℕ) → 128 ≤ n → eqb c n ≡ false = λ n k. ne-eqb c n (λ x. omega arith) in
     rw (e, far 0xc2 (omega arith), far 0xe1 (omega arith), far 0xe2 (omega arith), far 0xe3 (omega arith))
 
--- something else stays something else
-pub other-stays : (l : List ℕ) → foldl whiteStep other l ≡ other
-unfolding whiteStep
-other-stays [] = refl
-other-stays (c ∷ l) = other-stays l
-
+-- the test for something else
 pub other-of : (q : White) → isOther q ≡ true → q ≡ other
 other-of white h = absurd (false≢true h)
 other-of inC2 h = absurd (false≢true h)
@@ -64,12 +53,12 @@ other-of other h = refl
 -- a text in which the reading comes to something else is not blank
 pub other-is-not-blank : (t : List ℕ) (i : ℕ) (q : White) → i < length t → foldl whiteStep q (drop i t) ≡ foldl whiteStep white t
     → isOther (whiteStep q (getD t i 0)) ≡ true → false ≡ isBlank t
-unfolding isBlank isAllWhite
+unfolding isBlank
 other-is-not-blank t i q h e o =
     ap isAllWhite
     (sym (other-stays (drop (i + 1) t))
     ∙ ap (λ (p : White). foldl whiteStep p (drop (i + 1) t)) (sym (other-of (whiteStep q (getD t i 0)) o))
-    ∙ sym (foldl-at whiteStep q t i h)
+    ∙ sym (foldl-at whiteStep q t i 0 h)
     ∙ e)
 
 -- A WHITE CHARACTER at the front, by the first three bytes, 0 past the end
@@ -87,7 +76,6 @@ abbrev pub widthBy : Bool → Bool → Bool → ℕ
 widthBy a b c = elim a [ true ↦ 1 | false ↦ elim b [ true ↦ 2 | false ↦ cond c 3 0 ] ]
 
 short : (q : White) → isAllWhite (whiteStep q 0) ≡ false
-unfolding isAllWhite
 short q = ap isAllWhite (zero-is-other q)
 
 pub white-width : (s : List ℕ) → 0 < length s → whiteAt s ≡ widthBy (isAllWhite (after1 s)) (isAllWhite (after2 s)) (isAllWhite (after3 s))
@@ -124,11 +112,11 @@ module _ (s : List ℕ) (h : 0 < length s) where
 
 -- ASCII at the front: a space is white, and nothing else is
 pub width-space : (c : ℕ) (s : List ℕ) → isSpace c ≡ true → 1 ≡ whiteAt (c ∷ s)
-unfolding whiteStep isAllWhite
+unfolding whiteStep
 width-space c s e = width-one (c ∷ s) (omega arith) (rw e)
 
 pub width-plain : (c : ℕ) (s : List ℕ) → c ≤ 127 → isSpace c ≡ false → 0 ≡ whiteAt (c ∷ s)
-unfolding whiteStep isAllWhite
+unfolding whiteStep
 width-plain c s h e =
     let one : after1 (c ∷ s) ≡ other = plain-is-other c h e in
     let two : after2 (c ∷ s) ≡ other = ap (λ (q : White). whiteStep q (getD s 0 0)) one in

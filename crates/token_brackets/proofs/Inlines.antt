@@ -13,9 +13,9 @@ use Rattle.laws.specs.Spans.{endOf, endIn}
 use Rattle.laws.proofs.Bools.{by-test}
 use Rattle.laws.proofs.Spans.{count-while-yes, count-while-no}
 use Rattle.laws.proofs.Parts.{length-between}
+use Rattle.laws.proofs.Lists.{first-at}
 use Rattle.standard.specs.Bytes.{is, first}
 use Rattle.reader.specs.Inline.{isInline}
-use Rattle.text_runs.proofs.Places.{first-at}
 
 -- some byte passes where the run of those that fail ends before the end
 any-count-while : (p : ℕ → Bool) (t : List ℕ) → any p t ≡ ltb (countWhile (λ c. not (p c)) t) (length t)

@@ -12,6 +12,7 @@ use Rattle.laws.specs.Lists.{countWhile}
 use Rattle.laws.specs.Bytes.{between, part}
 use Rattle.laws.specs.Spans.{endOf}
 use Rattle.laws.proofs.Bools.{and-left}
+use Rattle.laws.proofs.Lists.{first-at}
 use Rattle.standard.specs.Bytes.{isDigit}
 use Rattle.reader.specs.Token.{Token, taken}
 use Rattle.reader.specs.PassLists.{voltaOf}
@@ -21,7 +22,6 @@ use Rattle.reader.specs.Tokens.{bracketOf, bracket, tokenAs}
 use Rattle.field_values.specs.Values as fields
 use Rattle.field_values.specs.declared.Field.{Field}
 use Rattle.token_lexemes.specs.Lexemes.{lexemeFor, cutFor}
-use Rattle.text_runs.proofs.Places.{first-at}
 
 -- a field by its token
 pub field-cut : (at close : ℕ) → at < close → (f : Field) (t : Token) → fields.tokenAs f ≡ t → record { lexeme = lexemeFor at (fields.tokenAs f); next = close + 1 } ≡ cutFor at (taken t (close + 1 - at))

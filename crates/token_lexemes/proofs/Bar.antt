@@ -7,26 +7,15 @@ use mathlib.Core.List.{List}
 use native.Mathlib.Omega.{arith}
 use lib.Dec.{eqb}
 use lib.ListN.{length, getD, drop}
-use Rattle.standard.specs.Bars as standard
+use Rattle.laws.proofs.Lists.{first-on}
 use Rattle.standard.specs.Bars.{Symbol, barSymbols, symbolAt}
 use Rattle.reader.specs.Barlines.{leftOf, barlineAs, barlineOf}
 use Rattle.reader.specs.Tokens.{bars, tokenAs}
-use Rattle.text_runs.proofs.Places.{first-on}
-use Rattle.token_symbols.specs.Bars.{barlineFor, leftFor, barFor}
+use Rattle.token_symbols.specs.Bars.{barlineFor, barFor}
 use Rattle.token_symbols.specs.declared.Barline.{Barline}
 use Rattle.token_symbols.specs.declared.Bar.the-variants.{Read, Nothing}
 use Rattle.token_lexemes.specs.Lexemes.{lexemeFor, cutFor}
 use Rattle.token_lexemes.specs.declared.Lexeme.the-variants as lexeme
-
--- the left barline is the definition's
-left-for : (b : standard.Barline) → leftFor (barlineFor b) ≡ barlineFor (leftOf b)
-unfolding leftOf
-left-for standard.normal = refl
-left-for standard.repeatStart = refl
-left-for standard.repeatEnd = refl
-left-for standard.repeatBoth = refl
-left-for standard.double = refl
-left-for standard.final = refl
 
 module _ (line : List ℕ) (at : ℕ) where
   none-by : (o : Option Symbol) → barFor at o ≡ Nothing → record { lexeme = lexeme.Skipped; next = at + 1 } ≡ cutFor at (barlineAs (drop at line) o)
@@ -40,8 +29,7 @@ module _ (line : List ℕ) (at : ℕ) where
   one-by none r l n e = let z : _≡_ {A = ℕ} 0 1 = cc in absurd (omega arith)
   one-by (some x) r l n e =
       let a : r ≡ barlineFor (x .barline) = cc in
-      let b : l ≡ leftFor (barlineFor (x .barline)) = cc in
-      let d : l ≡ barlineFor (leftOf (x .barline)) = b ∙ left-for (x .barline) in
+      let d : l ≡ barlineFor (leftOf (x .barline)) = cc in
       let m : n ≡ at + length (x .text) = cc in
       let f : getD line n 0 ≡ getD (drop (length (x .text)) (drop at line)) 0 0 = ap (λ k. getD line k 0) m ∙ sym (first-on line at (length (x .text))) in
       λ j. record { lexeme = lexeme.Barline (a j) (d j) (not (eqb (f j) 93)); next = m j }

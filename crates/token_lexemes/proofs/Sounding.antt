@@ -7,6 +7,7 @@ use native.Mathlib.Omega.{arith}
 use lib.ListN.{length, getD, drop, length-drop, drop-of-length-le}
 use lib.Seq.{drop-drop}
 use Rattle.laws.proofs.Bools.{by-test}
+use Rattle.laws.proofs.Lists.{drop-next, first-at}
 use Rattle.standard.specs.Pitches.{isLetter, stepOf}
 use Rattle.standard.specs.Bytes.{first}
 use Rattle.standard.specs.Notes as standard
@@ -16,7 +17,6 @@ use Rattle.reader.specs.Sounds.{behind, noteAs, noteAfter, noteOf}
 use Rattle.reader.specs.Tokens.{pitched, tokenAs}
 use Rattle.token_lengths.specs.declared.Suffix.{Suffix}
 use Rattle.token_lengths.specs.Values.{suffixAt}
-use Rattle.text_runs.proofs.Places.{drop-here, first-at}
 use Rattle.text_runs.specs.declared.Behind as runs
 use Rattle.text_runs.specs.Behind.{behindFor}
 use Rattle.token_pitches.specs.Pitches.{noteChar, signFor, signOf, beforeFor, octaveFor}
@@ -148,7 +148,7 @@ module _ (line : List ℕ) (at : ℕ) (b : code.Before) (e : b ≡ beforeFor at 
     unfolding tokenAs noteOf
     note-other f =
         ap (λ x. record { lexeme = Nothing; next = x + 1 }) place
-        ∙ after-other (accidentalOf (drop at line)) (drop (accidentalOf (drop at line) .used) (drop at line)) at (getD line (b .next) 0) (drop (b .next + 1) line) (there ∙ drop-here line (b .next) h) f
+        ∙ after-other (accidentalOf (drop at line)) (drop (accidentalOf (drop at line) .used) (drop at line)) at (getD line (b .next) 0) (drop (b .next + 1) line) (there ∙ drop-next line (b .next) 0 h) f
 
     pub note-letter : isLetter (getD line (b .next) 0) ≡ true
         → cutFor (b .next) (noteAs (record { sign = signOf (b .sign); used = 0 }) (getD line (b .next) 0) (drop (b .next + 1) line)) ≡ cutFor at (tokenAs pitched (drop at line))
@@ -156,4 +156,4 @@ module _ (line : List ℕ) (at : ℕ) (b : code.Before) (e : b ≡ beforeFor at 
     note-letter f =
         let m : signOf (b .sign) ≡ accidentalOf (drop at line) .sign = ap (λ (x : code.Before). signOf (x .sign)) e ∙ mark-back (accidentalOf (drop at line) .sign) in
         (λ j. cutFor (place j) (noteAs (record { sign = m j; used = 0 }) (getD line (b .next) 0) (drop (b .next + 1) line)))
-        ∙ after-letter (accidentalOf (drop at line)) (drop (accidentalOf (drop at line) .used) (drop at line)) at (getD line (b .next) 0) (drop (b .next + 1) line) (there ∙ drop-here line (b .next) h) f
+        ∙ after-letter (accidentalOf (drop at line)) (drop (accidentalOf (drop at line) .used) (drop at line)) at (getD line (b .next) 0) (drop (b .next + 1) line) (there ∙ drop-next line (b .next) 0 h) f

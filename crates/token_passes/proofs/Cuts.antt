@@ -1,4 +1,4 @@
--- A run of bytes cut at its marks, by position: the first piece ends at the first mark, and what stands behind that is cut in the same way.
+-- A run of bytes cut at its separators, by position: the first piece ends at the first separator, and what stands behind that is cut in the same way.
 use Prim.Native.Nat.{ℕ, suc, _+_, _≤_, _<_}
 use mathlib.Core.Path.{_≡_, refl, sym, ap, _∙_}
 use mathlib.Core.Bool.{Bool, true, false, _||_}
@@ -11,11 +11,11 @@ use Rattle.laws.specs.Lists.{countWhile}
 use Rattle.laws.specs.Spans.{run, endOf}
 use Rattle.laws.proofs.Bools.{by-test, both-true}
 use Rattle.laws.proofs.Spans.{count-while-yes, count-while-no, run-yes, run-no, run-within}
+use Rattle.laws.proofs.Lists.{drop-next}
 use Rattle.reader.specs.Text.{push}
 use Rattle.reader.specs.Pieces.{pieces, separator}
-use Rattle.text_runs.proofs.Places.{drop-here}
 
--- a byte of the run, P, is one of a piece, D, or a mark, x
+-- a byte of the run, P, is one of a piece, D, or a separator, x
 module _ (P D x : ℕ → Bool) (agree : (c : ℕ) → P c ≡ (D c || x c)) (apart : (c : ℕ) → x c ≡ true → D c ≡ false) (none : x 0 ≡ false) where
   -- the pieces behind the first one, which ends before s
   unfoldable others : List ℕ → List (List ℕ)
@@ -72,10 +72,10 @@ module _ (P D x : ℕ → Bool) (agree : (c : ℕ) → P c ≡ (D c || x c)) (ap
     there : drop (countWhile D (drop i line)) (drop i line) ≡ drop e line
     there = drop-drop (countWhile D (drop i line)) i line ∙ ap (λ n. drop n line) (sym k)
 
-    -- a mark stands there
+    -- a separator stands there
     module _ (m : x (getD line e 0) ≡ true) where
       here : drop e line ≡ getD line e 0 ∷ drop (e + 1) line
-      here = drop-here line e (run-within x none line e m)
+      here = drop-next line e 0 (run-within x none line e m)
 
       pub pieces-on : pieces (separator x) 0 (run P (drop i line)) ≡ run D (drop i line) ∷ pieces (separator x) 0 (run P (drop (e + 1) line))
       unfolding others
@@ -87,14 +87,14 @@ module _ (P D x : ℕ → Bool) (agree : (c : ℕ) → P c ≡ (D c || x c)) (ap
           let q : more (drop (countWhile D (drop i line)) (drop i line)) ≡ suc (countWhile P (drop (e + 1) line)) = ap more (there ∙ here) ∙ rw (m, more) in
           omega (arith, count-run (drop i line), q, k)
 
-    -- no mark stands there
+    -- no separator stands there
     module _ (m : x (getD line e 0) ≡ false) where
       no-others : others (drop e line) ≡ []
       unfolding others
       no-others = go (decLt e (length line))
         where
           go : Dec (e < length line) → others (drop e line) ≡ []
-          go (yes h) = ap others (drop-here line e h) ∙ rw (m, others)
+          go (yes h) = ap others (drop-next line e 0 h) ∙ rw (m, others)
           go (no h) = let out : length line ≤ e = omega arith in rw (drop-of-length-le line out)
 
       no-more : more (drop e line) ≡ 0
@@ -102,7 +102,7 @@ module _ (P D x : ℕ → Bool) (agree : (c : ℕ) → P c ≡ (D c || x c)) (ap
       no-more = go (decLt e (length line))
         where
           go : Dec (e < length line) → more (drop e line) ≡ 0
-          go (yes h) = ap more (drop-here line e h) ∙ rw (m, more)
+          go (yes h) = ap more (drop-next line e 0 h) ∙ rw (m, more)
           go (no h) = let out : length line ≤ e = omega arith in rw (drop-of-length-le line out)
 
       pub pieces-last : pieces (separator x) 0 (run P (drop i line)) ≡ run D (drop i line) ∷ []

@@ -11,6 +11,7 @@ use borrow.Author.Tests.{lt-ltb, le-ltb, ltb-true, eq-eqb, ne-eqb, eqb-true}
 use Rattle.laws.specs.Spans.{run, endOf}
 use Rattle.laws.proofs.Bools.{by-test, both-true, and-left, and-right, and-no-right}
 use Rattle.laws.proofs.Spans.{run-yes, run-no}
+use Rattle.laws.proofs.Lists.{first-at}
 use Rattle.standard.specs.Bytes.{is, isDigit, first}
 use Rattle.standard.specs.Passes.{Item, pass, passes, passesOf, rising}
 use Rattle.reader.specs.Pieces.{pieces, separator}
@@ -19,7 +20,6 @@ use Rattle.text_numbers.specs.declared.Digits.{Digits}
 use Rattle.text_numbers.specs.Digits.{written, option}
 use Rattle.text_numbers.proofs.Numbers.{option-run}
 use Rattle.reader.proofs.Digits.{digits-le}
-use Rattle.text_runs.proofs.Places.{first-at}
 use Rattle.token_passes.specs.Passes.{passFor, isItemByte, itemAt, itemFor}
 use Rattle.token_passes.specs.declared.Number.the-variants as number
 use Rattle.token_passes.specs.declared.Item.the-variants as item

@@ -11,9 +11,9 @@ use borrow.Author.Tests.{eq-eqb, ne-eqb}
 use Rattle.laws.specs.Lists.{countWhile}
 use Rattle.laws.specs.Spans.{endOf}
 use Rattle.laws.proofs.Bools.{and-no-left, and-no-right}
+use Rattle.laws.proofs.Lists.{first-at, first-on}
 use Rattle.standard.specs.Bytes.{is, first}
 use Rattle.reader.specs.Pitches.{natural, quarterTone, moved, signs, accidentalOf}
-use Rattle.text_runs.proofs.Places.{first-at, first-on}
 use Rattle.token_pitches.specs.Pitches.{beforeFor, quarterFor}
 use Rattle.token_pitches.specs.declared.Sign.the-variants as sign
 

@@ -8,9 +8,9 @@ use native.Mathlib.Omega.{arith}
 use lib.ListN.{getD, drop}
 use borrow.Author.Tests.{eq-eqb, ne-eqb}
 use Rattle.laws.proofs.Bools.{by-test}
+use Rattle.laws.proofs.Lists.{first-at}
 use Rattle.standard.specs.Pitches.{stepOf}
 use Rattle.reader.specs.Pitches.{added, isQuarter, moved, octaveFrom, octaveOf}
-use Rattle.text_runs.proofs.Places.{first-at}
 use Rattle.token_pitches.specs.Pitches.{noteChar, quarterFor, beforeFor, octaveFor, signFor, signOf}
 use Rattle.token_pitches.specs.Chords.{signIn, letterMet, metFor}
 use Rattle.token_pitches.specs.declared.Sign.{Sign}

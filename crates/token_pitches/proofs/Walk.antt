@@ -10,10 +10,10 @@ use lib.ListN.{length, getD, drop, drop-of-length-le}
 use lib.Seq.{drop-drop}
 use borrow.Author.Tests.{ne-eqb}
 use Rattle.laws.proofs.Bools.{by-test}
+use Rattle.laws.proofs.Lists.{drop-next}
 use Rattle.standard.specs.Bytes.{is}
 use Rattle.standard.specs.Pitches.{Accidental, Written, isLetter, stepOf}
 use Rattle.reader.specs.Pitches.{natural, quarterTone, added, isQuarter, Octave, octaveOf, consPitch, chordOf}
-use Rattle.text_runs.proofs.Places.{drop-here}
 use Rattle.token_pitches.specs.Pitches.{signFor, signOf, pitchFor}
 use Rattle.token_pitches.specs.Chords.{Met, over, out, met, further, signIn, letterMet, pitchMet, metFor, chordFor}
 use Rattle.token_pitches.specs.declared.Pitch.{Pitch}
@@ -149,7 +149,7 @@ module _ (line : List ℕ) (i : ℕ) (a : Option Accidental) where
   -- the chord is closed
   pub met-close : i < length line → getD line i 0 ≡ 93 → metFor i (pitchMet 0 a (drop i line)) ≡ met-as.Over
   unfolding pitchMet metFor
-  met-close h e = rw (drop-here line i h, e)
+  met-close h e = rw (drop-next line i 0 h, e)
 
   -- the line is over
   pub met-end : length line ≤ i → metFor i (pitchMet 0 a (drop i line)) ≡ met-as.Over
@@ -162,10 +162,10 @@ module _ (line : List ℕ) (i : ℕ) (a : Option Accidental) where
         ≡ metFor (i + signIn up a (drop (i + 1) line) .used) (pitchMet 0 (signIn up a (drop (i + 1) line) .sign) (drop (i + signIn up a (drop (i + 1) line) .used) line))
     met-sign =
         let b = signIn up a (drop (i + 1) line) in
-        ap (λ s. metFor i (pitchMet 0 a s)) (drop-here line i h)
+        ap (λ s. metFor i (pitchMet 0 a s)) (drop-next line i 0 h)
         ∙ ap (metFor i) (sign-step up (getD line i 0) a (drop (i + 1) line) e f u)
         ∙ further-at i (b .used) (pitchMet 0 (b .sign) (drop (b .used) (getD line i 0 ∷ drop (i + 1) line)))
-        ∙ ap (λ s. metFor (i + b .used) (pitchMet 0 (b .sign) (drop (b .used) s))) (sym (drop-here line i h))
+        ∙ ap (λ s. metFor (i + b .used) (pitchMet 0 (b .sign) (drop (b .used) s))) (sym (drop-next line i 0 h))
         ∙ ap (λ s. metFor (i + b .used) (pitchMet 0 (b .sign) s)) (drop-drop (b .used) i line)
 
   pub met-up : i < length line → getD line i 0 ≡ 94 → metFor i (pitchMet 0 a (drop i line))
@@ -179,20 +179,20 @@ module _ (line : List ℕ) (i : ℕ) (a : Option Accidental) where
   -- a natural
   pub met-natural : i < length line → getD line i 0 ≡ 61 → metFor i (pitchMet 0 a (drop i line)) ≡ metFor (i + 1) (pitchMet 0 (some natural) (drop (i + 1) line))
   unfolding pitchMet
-  met-natural h e = rw (drop-here line i h, e) (further-at i 1 (pitchMet 0 (some natural) (drop (i + 1) line)))
+  met-natural h e = rw (drop-next line i 0 h, e) (further-at i 1 (pitchMet 0 (some natural) (drop (i + 1) line)))
 
   -- neither `]` nor a sign
   module _ (h : i < length line) (n1 : getD line i 0 ≡ 93 → ⊥) (n2 : getD line i 0 ≡ 94 → ⊥) (n3 : getD line i 0 ≡ 95 → ⊥) (n4 : getD line i 0 ≡ 61 → ⊥) where
     pub met-letter : isLetter (getD line i 0) ≡ true → metFor i (pitchMet 0 a (drop i line)) ≡ metFor i (letterMet (getD line i 0) a (octaveOf (getD line i 0) (drop (i + 1) line)))
     unfolding pitchMet
     met-letter e =
-        rw (drop-here line i h)
+        rw (drop-next line i 0 h)
         (rw (ne-eqb (getD line i 0) 93 n1, pitchMet) (rw (ne-eqb (getD line i 0) 94 n2, ne-eqb (getD line i 0) 95 n3) (rw (ne-eqb (getD line i 0) 61 n4) (rw e))))
 
     pub met-other : isLetter (getD line i 0) ≡ false → metFor i (pitchMet 0 a (drop i line)) ≡ metFor (i + 1) (pitchMet 0 a (drop (i + 1) line))
     unfolding pitchMet
     met-other e =
-        rw (drop-here line i h)
+        rw (drop-next line i 0 h)
         (rw (ne-eqb (getD line i 0) 93 n1, pitchMet) (rw (ne-eqb (getD line i 0) 94 n2, ne-eqb (getD line i 0) 95 n3) (rw (ne-eqb (getD line i 0) 61 n4) (rw e (further-at i 1 (pitchMet 0 a (drop (i + 1) line)))))))
 
 -- THE COUNT

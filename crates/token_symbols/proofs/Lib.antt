@@ -1,3 +1,3 @@
 mod Table
-mod Symbols
+pub mod Symbols
 mod Ratios

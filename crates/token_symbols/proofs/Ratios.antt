@@ -12,6 +12,7 @@ use borrow.Author.Tests.{lt-ltb, le-ltb, eq-eqb, ne-eqb}
 use Rattle.laws.specs.Lists.{countWhile}
 use Rattle.laws.specs.Spans.{run, endOf}
 use Rattle.laws.proofs.Bools.{by-test}
+use Rattle.laws.proofs.Lists.{first-at}
 use Rattle.standard.specs.Bytes.{isDigit, first, digits}
 use Rattle.reader.specs.Tuplets.{notZero, positive, normalFor, tupletToken, counted, withCount, withNormal, withActual, tupletOf}
 use Rattle.text_numbers.specs.declared.Digits.{Digits}
@@ -19,7 +20,6 @@ use Rattle.text_numbers.specs.declared.Digits.the-variants as digit
 use Rattle.text_numbers.specs.Digits.{written, option}
 use Rattle.text_numbers.proofs.Numbers.{option-run}
 use Rattle.reader.proofs.Digits.{digits-le}
-use Rattle.text_runs.proofs.Places.{first-at}
 use Rattle.token_symbols.specs.Tuplets.{numberFor, tupletIn, tupletFor}
 use Rattle.token_symbols.specs.declared.Number.the-variants as number
 use Rattle.token_symbols.specs.declared.Tuplet.the-variants.{Read, Nothing}

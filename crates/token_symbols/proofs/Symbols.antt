@@ -1,4 +1,4 @@
--- The bar symbol at the front, by its first two bytes.
+-- The bar symbol at the front, by its first two bytes; barlines as the code has them.
 use Prim.Native.Nat.{ℕ}
 use mathlib.Core.Path.{_≡_, refl, sym, _∙_}
 use mathlib.Core.Bool.{true, false}
@@ -9,7 +9,17 @@ use borrow.Author.Tests.{eq-eqb, ne-eqb, eqb-false}
 use Rattle.laws.specs.Lists.{startsWith}
 use Rattle.laws.proofs.Bools.{and-true}
 use Rattle.standard.specs.Bytes.{first}
-use Rattle.standard.specs.Bars.{symbol, symbolAt, barSymbols, normal, repeatStart, repeatEnd, repeatBoth, double, final}
+use Rattle.standard.specs.Bars.{Barline, symbol, symbolAt, barSymbols, normal, repeatStart, repeatEnd, repeatBoth, double, final}
+use Rattle.token_symbols.specs.Bars.{barlineFor, asBarline}
+
+-- the code's barline for one of the definition's stands for that one
+pub as-for : (b : Barline) → asBarline (barlineFor b) ≡ b
+as-for normal = refl
+as-for repeatStart = refl
+as-for repeatEnd = refl
+as-for repeatBoth = refl
+as-for double = refl
+as-for final = refl
 
 -- a text of one byte, which is not 0
 starts-one : (p : ℕ) (s : List ℕ) → eqb p 0 ≡ false → startsWith (p ∷ []) s ≡ eqb p (first s)

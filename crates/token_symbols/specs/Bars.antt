@@ -4,11 +4,13 @@ use mathlib.Core.Option.{Option, none, some}
 use lib.ListN.{length}
 use Rattle.standard.specs.Bars as standard
 use Rattle.standard.specs.Bars.{normal, repeatStart, repeatEnd, repeatBoth, double, final, Symbol}
+use Rattle.reader.specs.Barlines.{leftOf}
 use Rattle.token_symbols.specs.declared.Barline.{Barline}
 use Rattle.token_symbols.specs.declared.Barline.the-variants.{Normal, RepeatStart, RepeatEnd, RepeatBoth, Double, Final}
 use Rattle.token_symbols.specs.declared.Bar.{Bar}
 use Rattle.token_symbols.specs.declared.Bar.the-variants.{Read, Nothing}
 
+-- the code's for the definition's
 abbrev pub barlineFor : standard.Barline → Barline
 barlineFor normal = Normal
 barlineFor repeatStart = RepeatStart
@@ -17,16 +19,20 @@ barlineFor repeatBoth = RepeatBoth
 barlineFor double = Double
 barlineFor final = Final
 
--- the left barline of the measure behind it (`left-for`: the definition's leftOf)
+-- the definition's for the code's
+abbrev pub asBarline : Barline → standard.Barline
+asBarline Normal = normal
+asBarline RepeatStart = repeatStart
+asBarline RepeatEnd = repeatEnd
+asBarline RepeatBoth = repeatBoth
+asBarline Double = double
+asBarline Final = final
+
+-- the left barline of the measure behind it
 abbrev pub leftFor : Barline → Barline
-leftFor Normal = Normal
-leftFor RepeatStart = RepeatStart
-leftFor RepeatEnd = Normal
-leftFor RepeatBoth = RepeatBoth
-leftFor Double = Double
-leftFor Final = Normal
+leftFor b = barlineFor (leftOf (asBarline b))
 
 -- a bar symbol at a position, with the position after it
 abbrev pub barFor : ℕ → Option Symbol → Bar
 barFor at none = Nothing
-barFor at (some x) = Read (barlineFor (x .barline)) (leftFor (barlineFor (x .barline))) (at + length (x .text))
+barFor at (some x) = Read (barlineFor (x .barline)) (barlineFor (leftOf (x .barline))) (at + length (x .text))

@@ -1,4 +1,4 @@
-// Marks in a music line: the letter classes, barlines, tuplets, pass lists.
+// Symbols in a music line: the letter classes, barlines, tuplets.
 ghost use mathlib.Core.Path.{_≡_};
 ghost use mathlib.Core.Option.{none};
 ghost use Prim.Native.Nat.{_+_, _<_, _≤_};
@@ -6,10 +6,11 @@ ghost use lib.ListN.{length, drop};
 ghost use Rattle.laws.specs.Spans.{endOf};
 ghost use Rattle.standard.specs.Bytes.{isDigit};
 ghost use Rattle.standard.specs.Bars.{barSymbols, symbolAt};
+ghost use Rattle.reader.specs.Codes.{barlineCode};
 ghost use Rattle.reader.specs.Tokens.{classOf};
 ghost use Rattle.reader.specs.Tuplets.{tupletOf, positive, normalFor};
 ghost use Rattle.token_symbols.specs.Classes.{classCode, classTable};
-ghost use Rattle.token_symbols.specs.Bars.{leftFor, barFor};
+ghost use Rattle.token_symbols.specs.Bars.{asBarline, leftFor, barFor};
 ghost use Rattle.token_symbols.specs.Tuplets.{numberFor, tupletFor};
 
 // THE CLASS OF A BYTE, which says how its token is read.
@@ -145,6 +146,20 @@ pub fn class_of(classes: &[u8; 128], b: u8) -> u8
     if k < 128 { classes[k] } else { SKIP }
 }
 
+// A barline's number in the reading.
+pub fn barline_code(barline: Barline) -> u8
+    ensures { λ r. ⌜ r ≡ barlineCode (asBarline barline) ⌝ }
+{
+    match barline {
+        Barline::Normal => 0,
+        Barline::RepeatStart => 1,
+        Barline::RepeatEnd => 2,
+        Barline::RepeatBoth => 3,
+        Barline::Double => 4,
+        Barline::Final => 5,
+    }
+}
+
 // A repeat start, a repeat of both kinds and a double bar stand at the next measure's left too.
 fn left_of(barline: Barline) -> Barline
     ensures { λ r. ⌜ r ≡ leftFor barline ⌝ }
@@ -174,7 +189,7 @@ pub fn parse_barline(line: &[u8], at: usize) -> Bar
     ensures { λ r. ⌜ r ≡ barFor at (symbolAt barSymbols (drop at (now (line .entry)))) ⌝ }
 {
     let first = line[at];
-    let second = text_numbers::byte_at(line, at + 1);
+    let second = text_bytes::byte_at(line, at + 1);
     match first {
         b'|' => match second {
             b':' => read_bar(Barline::RepeatStart, at + 2),
@@ -239,7 +254,7 @@ pub fn parse_abc_tuplet(line: &[u8], at: usize) -> Tuplet
         return Tuplet::Nothing;
     }
     let actual = p as u8;
-    if text_numbers::byte_at(line, after_actual) != b':' {
+    if text_bytes::byte_at(line, after_actual) != b':' {
         return Tuplet::Read {
             actual,
             normal: usual_normal(actual),
@@ -255,7 +270,7 @@ pub fn parse_abc_tuplet(line: &[u8], at: usize) -> Tuplet
         return Tuplet::Nothing;
     };
     let normal = q as u8;
-    if text_numbers::byte_at(line, after_normal) != b':' {
+    if text_bytes::byte_at(line, after_normal) != b':' {
         return Tuplet::Read {
             actual,
             normal,

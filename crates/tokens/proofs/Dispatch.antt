@@ -10,6 +10,7 @@ use lib.Seq.{drop-drop}
 use borrow.Author.Tests.{eqb-false}
 use Rattle.laws.proofs.Bools.{by-test, not-true}
 use Rattle.laws.proofs.Finite.{below}
+use Rattle.laws.proofs.Lists.{first-at}
 use Rattle.standard.specs.Notes as Notes
 use Rattle.standard.specs.Bytes.{first}
 use Rattle.standard.specs.Pitches.{Accidental}
@@ -20,7 +21,6 @@ use Rattle.reader.specs.Sounds.{restAs, noteAs}
 use Rattle.reader.specs.Token.{Token, space, overlay, quoted, broken, tuplet, slur, graceOpen, graceClose, decoration, barline, volta, unit, meter, key, field, chord, rest, note, nothing, skipped, refused, Taken, taken}
 use Rattle.reader.specs.Tokens.{Class, white, ampersand, quote, more, less, paren, braceOpen, braceClose, bang, plus, bars, bracket, pitched, none-of-these, resting, classes, classIn, classOf, tokenAs, tokenOf, effectOf}
 use Rattle.token_symbols.specs.Classes.{classCode}
-use Rattle.text_runs.proofs.Places.{first-at}
 use Rattle.token_lexemes.specs.Lexemes.{lexemeFor, cutFor, restFor}
 use Rattle.tokens.specs.Tokens.{restLength, tokenFor, tokenisedFor, valuedFor, tokenisedIn, effectFor, effectedFor, effectIn, effectedIn}
 

@@ -4,8 +4,8 @@ use mathlib.Core.Path.{_≡_, refl, sym, ap, _∙_}
 use Prim.Native.Nat.{_-_}
 use lib.ListN.{length, drop}
 use Rattle.laws.specs.Lists.{foldl}
+use Rattle.laws.proofs.Lists.{foldl-at, foldl-end}
 use Rattle.reader.specs.Text.{between, utf8Step, isBetween, isUtf8}
-use Rattle.text_white.proofs.Whites.{foldl-at, foldl-over}
 use Rattle.text_utf8.specs.States.{asUtf8}
 use Rattle.text_utf8.proofs.reads_utf8.Statement.{statement}
 use Rattle.text_utf8.proofs.reads_utf8.Tie as tie
@@ -19,29 +19,14 @@ abbrev μ-loop : tie.MeasureT-loop
 loop-holds : tie.Need-loop-holds Inv-loop μ-loop
 loop-holds c = refl
 
-shared-slice-read-utf8-step : tie.Need-shared-slice-read-utf8-step Inv-loop μ-loop
-shared-slice-read-utf8-step c = search needs
-
-utf8-step-requires : tie.Need-utf8-step-requires Inv-loop μ-loop
-utf8-step-requires c κs = search needs
-
-add-i : tie.Need-add-i Inv-loop μ-loop
-add-i c = search needs
-
-loop-less : tie.Need-loop-less Inv-loop μ-loop
-loop-less c = search needs
-
 loop-again : tie.Need-loop-again Inv-loop μ-loop
 loop-again c =
     let l = c .before .before .before in
-    rw (c .utf8-step .ensures) (sym (foldl-at utf8Step _ _ _ (c .before .before .loop-test .taken)) ∙ l .loop .inv)
-
-is-between-requires : tie.Need-is-between-requires Inv-loop μ-loop
-is-between-requires c κs = search needs
+    rw (c .utf8-step .ensures) (sym (foldl-at utf8Step _ _ _ 0 (c .before .before .loop-test .taken)) ∙ l .loop .inv)
 
 returns : tie.Need-returns Inv-loop μ-loop
 unfolding isUtf8
-returns c = c .is-between .ensures ∙ ap isBetween (sym (foldl-over utf8Step _ _ _ (c .before .loop-test .left)) ∙ c .before .before .loop .inv)
+returns c = c .is-between .ensures ∙ ap isBetween (sym (foldl-end utf8Step _ _ _ (c .before .loop-test .left)) ∙ c .before .before .loop .inv)
 
 pub reads-utf8-spec : {M : Type 1} → statement M
 reads-utf8-spec =
@@ -50,10 +35,10 @@ reads-utf8-spec =
     Inv-loop
     μ-loop
     loop-holds
-    shared-slice-read-utf8-step
-    utf8-step-requires
-    add-i
-    loop-less
+    (λ c. search needs)
+    (λ c κs. search needs)
+    (λ c. search needs)
+    (λ c. search needs)
     loop-again
-    is-between-requires
+    (λ c κs. search needs)
     returns)
