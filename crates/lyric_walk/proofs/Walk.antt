@@ -13,7 +13,7 @@ use Rattle.laws.proofs.Parts.{length-between, part-suc}
 use Rattle.standard.specs.Lyrics.{syllableText}
 use Rattle.reader.specs.Lyrics.{Syllable, put}
 use Rattle.lyrics.specs.declared.Sheet.{Sheet}
-use Rattle.lyrics.specs.Sheet.{syllableOf, happens, syllablesIn}
+use Rattle.lyrics.specs.Sheet.{holdCode, syllableOf, happens, syllablesIn}
 use Rattle.lyric_walk.specs.declared.Found.{Found}
 use Rattle.lyric_walk.specs.declared.Next.the-variants as N
 use Rattle.lyric_walk.specs.declared.Sole.the-variants as S
@@ -53,14 +53,14 @@ module _ (text s : List ℕ) (log k : ℕ) (r : Link) (is : LinkIs s log k r) (l
   alone : chain text s log k ≡ happens text (rowOfLink r) []
   alone = is .sung text ∙ ap (happens text (rowOfLink r)) (ap (chain text s log) last ∙ chain-none text s log)
 
-  pub sole-hold : r .code ≡ 4 → SoleIs text s log k S.Nothing
+  pub sole-hold : r .code ≡ holdCode → SoleIs text s log k S.Nothing
   unfolding happens
-  sole-hold e = record { says = alone ∙ rw (eq-eqb (r .code) 4 e, happens) }
+  sole-hold e = record { says = alone ∙ rw (eq-eqb (r .code) holdCode e, happens) }
 
-  pub sole-one : (r .code ≡ 4 → ⊥) → (f : Found) → InText (length text) (found r false) f → SoleIs text s log k (S.One f)
+  pub sole-one : (r .code ≡ holdCode → ⊥) → (f : Found) → InText (length text) (found r false) f → SoleIs text s log k (S.One f)
   unfolding happens put syllableOf syllableIs
   sole-one n f i =
-      let one : happens text (rowOfLink r) [] ≡ syllableIs text (found r false) ∷ [] = rw (ne-eqb (r .code) 4 n, happens) in
+      let one : happens text (rowOfLink r) [] ≡ syllableIs text (found r false) ∷ [] = rw (ne-eqb (r .code) holdCode n, happens) in
       record { says = (alone ∙ one ∙ ap (λ (y : Syllable). y ∷ []) (sym (same-syllable text (found r false) f i)), i .cut .order, i .cut .high) }
 
 -- WALKING

@@ -10,7 +10,7 @@ use Rattle.reader.specs.Text.{textLines}
 use Rattle.reader.specs.Steps.{refuse, on}
 use Rattle.reader.specs.Scan.{Item, Items, ScanState, Out, scan}
 use Rattle.reader.specs.Answer.{isMusic}
-use Rattle.scan_table.specs.Rows.{voicesIn, itemsIn}
+use Rattle.scan_table.specs.Rows.{tableEnd, voicesIn, itemsIn}
 use Rattle.scan_states.specs.declared.State.{State}
 use Rattle.scan_states.specs.declared.Step.{Step}
 use Rattle.scan_states.specs.declared.Step.the-variants.{On, Refused}
@@ -24,7 +24,7 @@ pub record Open (n : ℕ) (st : State) : Type 0 where
   pub lines-fit : st .lines ≤ 10000
   pub voices-fit : st .voices ≤ 32
   pub part-fits : st .part < 32
-  pub room : 256 + 16 * (st .items + 2) ≤ n
+  pub room : tableEnd (st .items + 2) ≤ n
 
 -- a line, after which there are 10,000 at most
 abbrev pub LinesFit : Step → Type 0

@@ -57,8 +57,8 @@ fn set_key(scratch: &mut [u8], st: State, k: Key) -> State
         r.in_header = false;
         r.fifths = k.fifths;
         r.minor = k.minor;
-        let headed = Row {
-            kind: 2,
+        let row = Row {
+            kind: scan_table::KEY_IN_HEADER,
             part: st.part,
             a: 0,
             b: 0,
@@ -66,10 +66,10 @@ fn set_key(scratch: &mut [u8], st: State, k: Key) -> State
             end: 0,
             unit: 0,
         };
-        return scan_states::add_item(scratch, r, headed);
+        return scan_states::add_item(scratch, r, row);
     }
     let row = Row {
-        kind: 3,
+        kind: scan_table::KEY_CHANGE,
         part: st.part,
         a: k.fifths,
         b: scan_states::flag(k.minor),
@@ -108,7 +108,7 @@ fn set_meter(scratch: &mut [u8], st: State, m: Meter) -> State
         return scan_states::next_line(r);
     }
     let row = Row {
-        kind: 4,
+        kind: scan_table::METER_CHANGE,
         part: st.part,
         a: m.top,
         b: m.bottom,

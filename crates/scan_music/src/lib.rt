@@ -152,7 +152,7 @@ fn add_played(scratch: &mut [u8], st: State, from: usize, end: usize, q: Count) 
     ensures { λ r. ⌜ ((text : List ℕ) → reached text (now (scratch .exit)) (Step.On r) ≡ on (held text (now (scratch .entry)) (playedTo st q)) (itemsIn text (now (scratch .entry)) (st .items) ++ ((st .part, musicLine (st .unit) (st .top, st .bottom) (between text from end)) ∷ []))) ⌝ }
 {
     let row = Row {
-        kind: 6,
+        kind: scan_table::MUSIC_LINE,
         part: st.part,
         a: st.top,
         b: st.bottom,

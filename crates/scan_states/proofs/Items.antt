@@ -11,7 +11,7 @@ use Rattle.reader.specs.Lines.{Kind, refused}
 use Rattle.reader.specs.Steps.{on, first}
 use Rattle.reader.specs.Scan.{Item, Items, ScanState, act}
 use Rattle.scan_table.specs.declared.Row.{Row}
-use Rattle.scan_table.specs.Rows.{voicesIn, itemIn, itemsIn, encItem}
+use Rattle.scan_table.specs.Rows.{itemRowWidth, rowFrom, voicesIn, itemIn, itemsIn, encItem}
 use Rattle.scan_table.proofs.Rows.{voices-below, items-push}
 use Rattle.scan_states.specs.declared.State.{State}
 use Rattle.scan_states.specs.declared.Step.{Step}
@@ -23,13 +23,13 @@ pub stays : (a : Items) (t : ScanState) → on t a ≡ first a (on t [])
 stays a t = ap (λ (l : Items). on t l) (sym (append-nil a))
 
 -- one item, written behind the others
-pub added : (text s s′ : List ℕ) (st : State) (row : Row) → s′ ≡ splice s (256 + 16 * st .items) (encItem row) → row .at < 2 ^ 32 → row .end < 2 ^ 32 → row .unit < 2 ^ 32
-    → st .voices ≤ 32 → 256 + 16 * st .items + 16 ≤ length s
+pub added : (text s s′ : List ℕ) (st : State) (row : Row) → s′ ≡ splice s (rowFrom (st .items)) (encItem row) → row .at < 2 ^ 32 → row .end < 2 ^ 32 → row .unit < 2 ^ 32
+    → st .voices ≤ 32 → rowFrom (st .items) + itemRowWidth ≤ length s
     → reached text s′ (On (addedTo st)) ≡ on (held text s (nextOf st)) (itemsIn text s (st .items) ++ (itemIn text row ∷ []))
 added text s s′ st row e a b u v room =
     let n = st .items in
     let bs = encItem row in
-    let vs : voicesIn text s′ (st .voices) ≡ voicesIn text s (st .voices) = ap (λ (l : List ℕ). voicesIn text l (st .voices)) e ∙ voices-below text s (st .voices) (256 + 16 * n) bs (omega arith) in
+    let vs : voicesIn text s′ (st .voices) ≡ voicesIn text s (st .voices) = ap (λ (l : List ℕ). voicesIn text l (st .voices)) e ∙ voices-below text s (st .voices) (rowFrom n) bs (omega arith) in
     let is : itemsIn text s′ (n + 1) ≡ itemsIn text s n ++ (itemIn text row ∷ []) = ap (λ (l : List ℕ). itemsIn text l (n + 1)) e ∙ items-push text s n row a b u room in
     λ i. on (heldIn (vs i) (nextOf st)) (is i)
 

@@ -4,7 +4,7 @@ use mathlib.Core.Path.{_≡_}
 use mathlib.Core.List.{List, []}
 use Rattle.reader.specs.Steps.{refuse, on, first}
 use Rattle.reader.specs.Scan.{ScanState, Out}
-use Rattle.scan_table.specs.Rows.{voicesIn, itemsIn}
+use Rattle.scan_table.specs.Rows.{tableEnd, voicesIn, itemsIn}
 use Rattle.scan_states.specs.declared.State.{State}
 use Rattle.scan_states.specs.declared.Step.{Step}
 use Rattle.scan_states.specs.declared.Step.the-variants.{On, Refused}
@@ -72,7 +72,7 @@ pub record Ready (n : ℕ) (st : State) : Type 0 where
   pub lines-fit : st .lines < 10000
   pub voices-fit : st .voices ≤ 32
   pub part-fits : st .part < 32
-  pub room : 256 + 16 * (st .items + 2) ≤ n
+  pub room : tableEnd (st .items + 2) ≤ n
 
 -- what a line leaves: at most one item more, and one for each voice that is new
 abbrev pub Follows : State → Step → Type 0

@@ -9,7 +9,7 @@ ghost use Rattle.laws.specs.Bytes.{between};
 ghost use Rattle.reader.specs.Lines.{lyric, tune};
 ghost use Rattle.reader.specs.Scan.{begin, act};
 ghost use Rattle.reader.specs.Steps.{on};
-ghost use Rattle.scan_table.specs.Rows.{voicesIn, itemIn, itemsIn};
+ghost use Rattle.scan_table.specs.Rows.{itemRowWidth, rowFrom, voicesIn, itemIn, itemsIn};
 ghost use Rattle.scan_states.specs.States.{heldIn, held, reached, nextOf, addedTo, Ready, Stepped};
 use scan_table::Row;
 
@@ -86,7 +86,7 @@ pub fn flag(b: bool) -> u8
 
 // One item more, and one line.
 pub fn add_item(scratch: &mut [u8], st: State, row: Row) -> State
-    requires { ⌜ (256 + 16 * st .items + 16 ≤ length (now scratch)) × (st .lines ≤ 10000) × (st .voices ≤ 32) ⌝ }
+    requires { ⌜ (rowFrom (st .items) + itemRowWidth ≤ length (now scratch)) × (st .lines ≤ 10000) × (st .voices ≤ 32) ⌝ }
     requires { ⌜ (row .at < 2 ^ 32) × (row .end < 2 ^ 32) ⌝ }
     ensures { λ r. ⌜ r ≡ addedTo st ⌝ }
     ensures { λ r. ⌜ ((text : List ℕ) → reached text (now (scratch .exit)) (Step.On r) ≡ on (held text (now (scratch .entry)) (nextOf st)) (itemsIn text (now (scratch .entry)) (st .items) ++ (itemIn text row ∷ []))) ⌝ }
@@ -110,7 +110,7 @@ pub fn lyric_line(scratch: &mut [u8], st: State, from: usize, end: usize) -> Sta
         return next_line(st);
     }
     let row = Row {
-        kind: 5,
+        kind: scan_table::LYRIC_LINE,
         part: st.part,
         a: flag(st.part < st.places),
         b: 0,

@@ -17,7 +17,7 @@ use Rattle.reader.specs.Lines.{voice}
 use Rattle.reader.specs.Steps.{refuse, on, first}
 use Rattle.reader.specs.Scan.{Item, Items, voiceDeclared, reset, ScanState, Out, withUnnamed, voicesBefore, voiceOn, act}
 use Rattle.scan_table.specs.declared.Row.{Row}
-use Rattle.scan_table.specs.Rows.{voicesIn, itemIn, itemsIn, encItem}
+use Rattle.scan_table.specs.Rows.{voiceRowWidth, itemRowWidth, rowFrom, voicesIn, itemIn, itemsIn, encItem}
 use Rattle.scan_table.proofs.Rows.{length-voice, length-voices, voices-none, voices-push, voices-below, items-push, items-above}
 use Rattle.scan_states.specs.declared.State.{State}
 use Rattle.scan_states.specs.declared.Step.the-variants.{On, Refused}
@@ -46,31 +46,31 @@ module _ (text s : List ℕ) (st : State) where
       let p : 0 < length (voicesIn text s (st .voices)) = rw length-voices (omega arith) in
       record { voices = sym (some-voices (st .opened) (voicesIn text s (st .voices)) p); items = refl; low = omega arith; high = h }
 
-  pub unnamed-one : (s′ : List ℕ) → s′ ≡ splice s (8 * 0) (le32 0 ++ le32 0) → st .voices ≡ 0 → st .opened ≡ true → 8 ≤ length s → Unnamed text s st s′ 1
+  pub unnamed-one : (s′ : List ℕ) → s′ ≡ splice s (voiceRowWidth * 0) (le32 0 ++ le32 0) → st .voices ≡ 0 → st .opened ≡ true → voiceRowWidth ≤ length s → Unnamed text s st s′ 1
   unfolding withUnnamed
   unnamed-one s′ w e o room =
       record {
         voices = ap (λ (l : List ℕ). voicesIn text l 1) w ∙ voices-push text s 0 0 0 (omega arith) (omega arith) (omega arith)
             ∙ (λ i. voices-none text s i ++ (between-none text 0 0 (omega arith) i ∷ []))
             ∙ sym (ap (λ (n : ℕ). withUnnamed (st .opened) (voicesIn text s n)) e ∙ (λ i. withUnnamed (o i) (voices-none text s i)));
-        items = ap (λ (l : List ℕ). itemsIn text l (st .items)) w ∙ items-above text s (st .items) (8 * 0) (le32 0 ++ le32 0) (rw length-voice (omega arith));
+        items = ap (λ (l : List ℕ). itemsIn text l (st .items)) w ∙ items-above text s (st .items) (voiceRowWidth * 0) (le32 0 ++ le32 0) (rw length-voice (omega arith));
         low = omega arith;
         high = omega arith;
       }
 
--- A NEW VOICE: its row, then the item that it is born, then one more
-pub new-voice : (text s s₂ s₃ : List ℕ) (n m a b : ℕ) (row : Row) (h : Bool) → s₂ ≡ splice s (8 * n) (le32 a ++ le32 b) → s₃ ≡ splice s₂ (256 + 16 * m) (encItem row)
-    → n < 32 → a < 2 ^ 32 → b < 2 ^ 32 → row .at < 2 ^ 32 → row .end < 2 ^ 32 → row .unit < 2 ^ 32 → itemIn text row ≡ (n, voiceDeclared h) → 256 + 16 * m + 16 ≤ length s → (t : State) (x : ℕ × Item)
+-- A NEW VOICE: its row, then two items: it is declared, and a reset
+pub new-voice : (text s s₂ s₃ : List ℕ) (n m a b : ℕ) (row : Row) (h : Bool) → s₂ ≡ splice s (voiceRowWidth * n) (le32 a ++ le32 b) → s₃ ≡ splice s₂ (rowFrom m) (encItem row)
+    → n < 32 → a < 2 ^ 32 → b < 2 ^ 32 → row .at < 2 ^ 32 → row .end < 2 ^ 32 → row .unit < 2 ^ 32 → itemIn text row ≡ (n, voiceDeclared h) → rowFrom m + itemRowWidth ≤ length s → (t : State) (x : ℕ × Item)
     → x ≡ (n, reset)
     → on (heldIn (voicesIn text s₃ (n + 1)) t) (itemsIn text s₃ (m + 1) ++ (x ∷ []))
     ≡ on (heldIn (voicesIn text s n ++ (between text a b ∷ [])) t) (itemsIn text s m ++ ((n, voiceDeclared h) ∷ ((n, reset) ∷ [])))
 new-voice text s s₂ s₃ n m a b row h e₂ e₃ nh ah bh rh re ru ri room t x ex =
-    let l : length s₂ ≡ length s = ap length e₂ ∙ length-splice s (8 * n) (le32 a ++ le32 b) in
+    let l : length s₂ ≡ length s = ap length e₂ ∙ length-splice s (voiceRowWidth * n) (le32 a ++ le32 b) in
     let vs : voicesIn text s₃ (n + 1) ≡ voicesIn text s n ++ (between text a b ∷ []) =
-    ap (λ (z : List ℕ). voicesIn text z (n + 1)) e₃ ∙ voices-below text s₂ (n + 1) (256 + 16 * m) (encItem row) (omega arith)
+    ap (λ (z : List ℕ). voicesIn text z (n + 1)) e₃ ∙ voices-below text s₂ (n + 1) (rowFrom m) (encItem row) (omega arith)
     ∙ ap (λ (z : List ℕ). voicesIn text z (n + 1)) e₂ ∙ voices-push text s n a b ah bh (omega arith) in
     let was : itemsIn text s₂ m ≡ itemsIn text s m =
-    ap (λ (z : List ℕ). itemsIn text z m) e₂ ∙ items-above text s m (8 * n) (le32 a ++ le32 b) (rw length-voice (omega arith)) in
+    ap (λ (z : List ℕ). itemsIn text z m) e₂ ∙ items-above text s m (voiceRowWidth * n) (le32 a ++ le32 b) (rw length-voice (omega arith)) in
     let is : itemsIn text s₃ (m + 1) ≡ itemsIn text s m ++ ((n, voiceDeclared h) ∷ []) =
     ap (λ (z : List ℕ). itemsIn text z (m + 1)) e₃ ∙ items-push text s₂ m row rh re ru (omega arith) ∙ (λ i. was i ++ (ri i ∷ [])) in
     (λ i. on (heldIn (vs i) t) (is i ++ (ex i ∷ []))) ∙ ap (λ (z : Items). on (heldIn (voicesIn text s n ++ (between text a b ∷ [])) t) z) (append-assoc (itemsIn text s m) ((n, voiceDeclared h) ∷ []) ((n, reset) ∷ []))

@@ -41,7 +41,7 @@ fn known_voice(scratch: &mut [u8], st: State, n: usize, i: usize) -> State
     r.voices = n;
     r.part = part;
     let row = Row {
-        kind: 1,
+        kind: scan_table::RESET,
         part,
         a: 0,
         b: 0,
@@ -61,8 +61,8 @@ fn new_voice(scratch: &mut [u8], st: State, n: usize, a: usize, b: usize) -> Sta
 {
     scan_table::push_voice(scratch, n, a, b);
     let part = n as u8;
-    let voiceDeclared = Row {
-        kind: 0,
+    let declared = Row {
+        kind: scan_table::VOICE_DECLARED,
         part,
         a: scan_states::flag(st.in_header),
         b: 0,
@@ -71,13 +71,13 @@ fn new_voice(scratch: &mut [u8], st: State, n: usize, a: usize, b: usize) -> Sta
         unit: 0,
     };
     let m = st.items;
-    scan_table::put_item(scratch, m, voiceDeclared);
+    scan_table::put_item(scratch, m, declared);
     let mut r = st;
     r.voices = n + 1;
     r.part = part;
     r.items = m + 1;
     let row = Row {
-        kind: 1,
+        kind: scan_table::RESET,
         part,
         a: 0,
         b: 0,
