@@ -10,6 +10,7 @@ ghost use Rattle.text_lines.specs.declared.Class.{Class};
 ghost use Rattle.text_lines.specs.Lines.{kindAs, classOf};
 ghost use Rattle.scan_states.specs.States.{held, Ready, Stepped};
 ghost use Rattle.scan.specs.Scanned.{Open, Line, scannedAs, ScanIs};
+use field_keys::Key;
 use scan_states::State;
 use scan_states::Step;
 use scan_table::Row;
@@ -19,8 +20,7 @@ use text_lines::Class;
 // is music among them.
 pub struct Shared {
     pub voices: usize,
-    pub fifths: u8,
-    pub minor: bool,
+    pub key: Key,
     pub items: usize,
     pub music: bool,
 }
@@ -81,10 +81,10 @@ fn scan_answer(s: Step) -> Scanned
 {
     match s {
         Step::On(st) => {
+            let key = st.key;
             let shared = Shared {
                 voices: st.voices,
-                fifths: st.fifths,
-                minor: st.minor,
+                key,
                 items: st.items,
                 music: 0 < st.places,
             };

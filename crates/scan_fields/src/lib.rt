@@ -55,8 +55,7 @@ fn set_key(scratch: &mut [u8], st: State, k: Key) -> State
     if st.in_header {
         let mut r = st;
         r.in_header = false;
-        r.fifths = k.fifths;
-        r.minor = k.minor;
+        r.key = k;
         let row = Row {
             kind: scan_table::KEY_IN_HEADER,
             part: st.part,

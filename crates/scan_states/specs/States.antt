@@ -4,6 +4,7 @@ use mathlib.Core.Path.{_≡_}
 use mathlib.Core.List.{List, []}
 use Rattle.reader.specs.Steps.{refuse, on, first}
 use Rattle.reader.specs.Scan.{ScanState, Out}
+use Rattle.field_keys.specs.Passed.{keyAs}
 use Rattle.scan_table.specs.Rows.{tableEnd, voicesIn, itemsIn}
 use Rattle.scan_states.specs.declared.State.{State}
 use Rattle.scan_states.specs.declared.Step.{Step}
@@ -13,7 +14,7 @@ use Rattle.scan_states.specs.declared.Step.the-variants.{On, Refused}
 abbrev pub heldIn : List (List ℕ) → State → ScanState
 heldIn vs st =
     record {
-      env = record { inHeader = st .in_header; voices = vs; headerKey = record { fifths = st .fifths; minor = st .minor } };
+      env = record { inHeader = st .in_header; voices = vs; headerKey = keyAs (st .key) };
       unit = st .unit;
       meter = (st .top, st .bottom);
       part = st .part;
@@ -36,8 +37,7 @@ reached text s (Refused n l) = refuse n l
 abbrev pub nextOf : State → State
 nextOf st = record {
   in_header = st .in_header;
-  fifths = st .fifths;
-  minor = st .minor;
+  key = st .key;
   unit = st .unit;
   top = st .top;
   bottom = st .bottom;
@@ -53,8 +53,7 @@ nextOf st = record {
 abbrev pub addedTo : State → State
 addedTo st = record {
   in_header = st .in_header;
-  fifths = st .fifths;
-  minor = st .minor;
+  key = st .key;
   unit = st .unit;
   top = st .top;
   bottom = st .bottom;

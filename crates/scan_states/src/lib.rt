@@ -11,14 +11,14 @@ ghost use Rattle.reader.specs.Scan.{begin, act};
 ghost use Rattle.reader.specs.Steps.{on};
 ghost use Rattle.scan_table.specs.Rows.{itemRowWidth, rowFrom, voicesIn, itemIn, itemsIn};
 ghost use Rattle.scan_states.specs.States.{heldIn, held, reached, nextOf, addedTo, Ready, Stepped};
+use field_keys::Key;
 use scan_table::Row;
 
-// L is `unit`, M `top` and `bottom`; `part` is the part being read; so many notes, lines, parts with a place for verses, voices and items;
+// `key` is the header's; L is `unit`, M `top` and `bottom`; `part` is the part being read; so many notes, lines, parts with a place for verses, voices and items;
 // `opened`: the first part has had a music line.
 pub struct State {
     pub in_header: bool,
-    pub fifths: u8,
-    pub minor: bool,
+    pub key: Key,
     pub unit: u32,
     pub top: u8,
     pub bottom: u8,
@@ -43,8 +43,10 @@ pub fn begin_state() -> State
 {
     State {
         in_header: true,
-        fifths: 128,
-        minor: false,
+        key: Key {
+            fifths: 128,
+            minor: false,
+        },
         unit: 8,
         top: 4,
         bottom: 4,
