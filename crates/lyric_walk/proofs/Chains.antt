@@ -18,7 +18,7 @@ use Rattle.laws.proofs.Rows.{rows-get, length-rows}
 use Rattle.reader.specs.Lyrics.{Syllable, put, held}
 use Rattle.lyrics.specs.declared.Sheet.{Sheet}
 use Rattle.lyrics.specs.declared.Row.{Row}
-use Rattle.lyrics.specs.Sheet.{lyricHeadWidth, lyricRowWidth, verseAt, codeAt, startAt, endAt, nextAt, holdCode, rowOf, nextOf, rowAt, syllableOf, happens, sungFrom, headOf, headsIn, syllablesIn}
+use Rattle.lyrics.specs.Sheet.{lyricHeadWidth, lyricRowWidth, verseAt, codeAt, startAt, endAt, nextAt, holdCode, rowOf, nextOf, rowAt, syllableOf, applyRow, sungFrom, headOf, headsIn, syllablesIn}
 use Rattle.lyric_walk.specs.Walks.{chain, HeadIs, LinkIs}
 use Rattle.lyric_walk.proofs.Verses.{held-verse}
 
@@ -62,15 +62,15 @@ module _ (text s : List ℕ) (log : ℕ) where
       go (no l) = chain-out n k (omega arith) ∙ sym chain-none ∙ ap (λ (x : ℕ). chain text s log x) (sym (e ∙ rw (le-ltb k (n + 1) (omega arith))))
 
   -- the newest row, and those below it
-  newest : (m : ℕ) → chain text s log (suc m) ≡ happens text (rowOf (rowAt s log m)) (sungFrom text s log m (nextOf (rowAt s log m)))
+  newest : (m : ℕ) → chain text s log (suc m) ≡ applyRow text (rowOf (rowAt s log m)) (sungFrom text s log m (nextOf (rowAt s log m)))
   unfolding sungFrom
   newest m = rw (eq-eqb (suc m) (suc m) refl, sungFrom)
 
   pub chain-row : (m k j : ℕ) → k ≡ m + 1 → j ≡ cond (ltb (nextOf (rowAt s log m)) (m + 1)) (nextOf (rowAt s log m)) 0
-      → chain text s log k ≡ happens text (rowOf (rowAt s log m)) (chain text s log j)
+      → chain text s log k ≡ applyRow text (rowOf (rowAt s log m)) (chain text s log j)
   chain-row m k j e f =
       let one : k ≡ suc m = omega arith in
-      ap (λ (x : ℕ). chain text s log x) one ∙ newest m ∙ ap (happens text (rowOf (rowAt s log m))) (chain-any m (nextOf (rowAt s log m)) j f)
+      ap (λ (x : ℕ). chain text s log x) one ∙ newest m ∙ ap (applyRow text (rowOf (rowAt s log m))) (chain-any m (nextOf (rowAt s log m)) j f)
 
 -- a place that is capped
 pub capped : (k x r : ℕ) → r ≡ cond (ltb x k) x 0 → 0 < k → r < k
@@ -109,7 +109,7 @@ link-is s log k low at end place next a e p n =
     let c : next ≡ cond (ltb (nextOf (rowAt s log (k - 1))) (k - 1 + 1)) (nextOf (rowAt s log (k - 1))) 0 = n ∙ (λ i. cond (ltb (q i) (one i)) (q i) 0) in
     record {
       low = capped k place next n (omega arith);
-      sung = λ text. chain-row text s log (k - 1) k next one c ∙ ap (λ (r : Row). happens text r (chain text s log next)) (row-is s (log + lyricRowWidth * (k - 1)) at end a e);
+      sung = λ text. chain-row text s log (k - 1) k next one c ∙ ap (λ (r : Row). applyRow text r (chain text s log next)) (row-is s (log + lyricRowWidth * (k - 1)) at end a e);
     }
 
 -- THE HEAD of a note
@@ -145,10 +145,10 @@ held-all : (v : ℕ) (ys : List Syllable) → All (λ (y : Syllable). y .verse <
 held-all v [] a = tt
 held-all v (y ∷ ys) a = (rw (held-verse v y) (a .0), held-all v ys (a .1))
 
-row-all : (text : List ℕ) (r : Row) (ys : List Syllable) → r .verse < 256 → All (λ (y : Syllable). y .verse < 256) ys → All (λ (y : Syllable). y .verse < 256) (happens text r ys)
-unfolding happens syllableOf
+row-all : (text : List ℕ) (r : Row) (ys : List Syllable) → r .verse < 256 → All (λ (y : Syllable). y .verse < 256) ys → All (λ (y : Syllable). y .verse < 256) (applyRow text r ys)
+unfolding applyRow syllableOf
 row-all text r ys h a =
-    by-test (eqb (r .code) holdCode) (λ e. rw (e, happens) (held-all (r .verse) ys a)) (λ e. rw (e, happens) (put-all (λ (y : Syllable). y .verse < 256) (syllableOf text r) ys h a))
+    by-test (eqb (r .code) holdCode) (λ e. rw (e, applyRow) (held-all (r .verse) ys a)) (λ e. rw (e, applyRow) (put-all (λ (y : Syllable). y .verse < 256) (syllableOf text r) ys h a))
 
 pub verses-small : (text s : List ℕ) (log n k : ℕ) → ((i : ℕ) → getD s i 0 < 256) → All (λ (y : Syllable). y .verse < 256) (sungFrom text s log n k)
 unfolding sungFrom rowOf

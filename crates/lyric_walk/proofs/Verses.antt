@@ -11,7 +11,7 @@ use Rattle.laws.specs.Lists.{All}
 use Rattle.laws.proofs.Bools.{by-test}
 use Rattle.reader.specs.Lyrics.{Syllable, put, held}
 use Rattle.lyrics.specs.declared.Row.{Row}
-use Rattle.lyrics.specs.Sheet.{holdCode, syllableOf, happens, sungFrom, rowOf, rowAt, nextOf}
+use Rattle.lyrics.specs.Sheet.{holdCode, syllableOf, applyRow, sungFrom, rowOf, rowAt, nextOf}
 use Rattle.lyric_walk.specs.Walks.{noVerse, least, better, ofVerse, fromVerse}
 
 -- RISING VERSES
@@ -38,10 +38,10 @@ rising-held : (low v : ℕ) (ys : List Syllable) → Rising low ys → Rising lo
 rising-held low v [] r = tt
 rising-held low v (y ∷ ys) r = rw (held-verse v y) (r .0, rising-held (suc (y .verse)) v ys (r .1))
 
-pub rising-row : (text : List ℕ) (r : Row) (ys : List Syllable) → Rising 0 ys → Rising 0 (happens text r ys)
-unfolding happens
+pub rising-row : (text : List ℕ) (r : Row) (ys : List Syllable) → Rising 0 ys → Rising 0 (applyRow text r ys)
+unfolding applyRow
 rising-row text r ys h =
-    by-test (eqb (r .code) holdCode) (λ e. rw (e, happens) (rising-held 0 (r .verse) ys h)) (λ e. rw (e, happens) (rising-put 0 (syllableOf text r) ys (omega arith) h))
+    by-test (eqb (r .code) holdCode) (λ e. rw (e, applyRow) (rising-held 0 (r .verse) ys h)) (λ e. rw (e, applyRow) (rising-put 0 (syllableOf text r) ys (omega arith) h))
 
 pub rising-chain : (text s : List ℕ) (log n k : ℕ) → Rising 0 (sungFrom text s log n k)
 unfolding sungFrom
@@ -97,11 +97,11 @@ least-put from x (y ∷ ys) =
     (λ f. rw (e, f, put) (least-is from x (y ∷ ys))))
 
 -- a row: what was the least so far
-pub least-row : (text : List ℕ) (r : Row) (from best : ℕ) (ys : List Syllable) → min best (least from (happens text r ys)) ≡ min (better from best (r .verse) (r .code)) (least from ys)
-unfolding happens syllableOf
+pub least-row : (text : List ℕ) (r : Row) (from best : ℕ) (ys : List Syllable) → min best (least from (applyRow text r ys)) ≡ min (better from best (r .verse) (r .code)) (least from ys)
+unfolding applyRow syllableOf
 least-row text r from best ys =
-    by-test (eqb (r .code) holdCode) (λ e. rw (e, happens) (ap (min best) (least-held from (r .verse) ys)))
-    (λ e. rw (e, happens) (ap (min best) (least-put from (syllableOf text r) ys) ∙ by-test (leb from (r .verse)) (λ f. rw f (omega arith)) (λ f. rw f refl)))
+    by-test (eqb (r .code) holdCode) (λ e. rw (e, applyRow) (ap (min best) (least-held from (r .verse) ys)))
+    (λ e. rw (e, applyRow) (ap (min best) (least-put from (syllableOf text r) ys) ∙ by-test (leb from (r .verse)) (λ f. rw f (omega arith)) (λ f. rw f refl)))
 
 -- nothing is left of an empty chain
 pub least-none : (from best : ℕ) → best ≤ noVerse → min best (least from []) ≡ best
@@ -196,15 +196,15 @@ held-by v false ys = refl
 
 -- A ROW that is not the syllable sought: holds go on
 pub of-row : (text : List ℕ) (r : Row) (v : ℕ) (x : Bool) (ys : List Syllable) → (not (eqb (r .code) holdCode) && eqb (r .verse) v) ≡ false
-    → heldBy v x (ofVerse v (happens text r ys)) ≡ heldBy v (x || (eqb (r .code) holdCode && eqb (r .verse) v)) (ofVerse v ys)
-unfolding happens syllableOf
+    → heldBy v x (ofVerse v (applyRow text r ys)) ≡ heldBy v (x || (eqb (r .code) holdCode && eqb (r .verse) v)) (ofVerse v ys)
+unfolding applyRow syllableOf
 of-row text r v x ys n =
     by-test (eqb (r .code) holdCode)
-    (λ e. rw (e, happens) (ap (heldBy v x) (of-held v (r .verse) ys)
+    (λ e. rw (e, applyRow) (ap (heldBy v x) (of-held v (r .verse) ys)
     ∙ by-test (eqb (r .verse) v)
     (λ f. rw f (ap (λ (u : ℕ). heldBy v x (map (held u) (ofVerse v ys))) (eqb-true (r .verse) v f) ∙ held-by v x (ofVerse v ys) ∙ or-true v x (ofVerse v ys)))
     (λ f. rw f (ap (heldBy v x) (held-other v (r .verse) ys (eqb-false (r .verse) v f)) ∙ or-false v x (ofVerse v ys)))))
-    (λ e. rw (e, happens) (ap (heldBy v x) (of-put-other v (syllableOf text r) ys (eqb-false (r .verse) v (rw e at n))) ∙ or-false v x (ofVerse v ys)))
+    (λ e. rw (e, applyRow) (ap (heldBy v x) (of-put-other v (syllableOf text r) ys (eqb-false (r .verse) v (rw e at n))) ∙ or-false v x (ofVerse v ys)))
   where
     or-true : (w : ℕ) (b : Bool) (zs : List Syllable) → heldBy w true zs ≡ heldBy w (b || true) zs
     or-true w true zs = refl
@@ -216,11 +216,11 @@ of-row text r v x ys n =
 
 -- the syllable sought
 pub of-found : (text : List ℕ) (r : Row) (v : ℕ) (x : Bool) (ys : List Syllable) → (not (eqb (r .code) holdCode) && eqb (r .verse) v) ≡ true → Rising 0 ys
-    → heldBy v x (ofVerse v (happens text r ys)) ≡ heldBy v x (syllableOf text r ∷ [])
-unfolding happens syllableOf
+    → heldBy v x (ofVerse v (applyRow text r ys)) ≡ heldBy v x (syllableOf text r ∷ [])
+unfolding applyRow syllableOf
 of-found text r v x ys y rising =
     by-test (eqb (r .code) holdCode) (λ e. absurd (false≢true (rw e at y)))
-    (λ e. rw (e, happens) (ap (heldBy v x) (of-put-same v 0 (syllableOf text r) ys (eqb-true (r .verse) v (rw e at y)) rising)))
+    (λ e. rw (e, applyRow) (ap (heldBy v x) (of-put-same v 0 (syllableOf text r) ys (eqb-true (r .verse) v (rw e at y)) rising)))
 
 -- THE SYLLABLES FROM A VERSE ON
 from-yes : (v : ℕ) (y : Syllable) (ys : List Syllable) → v ≤ y .verse → fromVerse v (y ∷ ys) ≡ y ∷ fromVerse v ys

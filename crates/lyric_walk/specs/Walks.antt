@@ -14,7 +14,7 @@ use Rattle.reader.specs.Lyrics.{Syllable}
 use Rattle.lyric_words.specs.Words.{asSyllabic}
 use Rattle.lyrics.specs.declared.Sheet.{Sheet}
 use Rattle.lyrics.specs.declared.Row.{Row}
-use Rattle.lyrics.specs.Sheet.{lyricHeadWidth, lyricRowWidth, holdCode, happens, sungFrom, syllablesIn}
+use Rattle.lyrics.specs.Sheet.{lyricHeadWidth, lyricRowWidth, holdCode, applyRow, sungFrom, syllablesIn}
 use Rattle.lyric_walk.specs.declared.Found.{Found}
 use Rattle.lyric_walk.specs.declared.Next.{Next}
 use Rattle.lyric_walk.specs.declared.Next.the-variants as N
@@ -42,7 +42,7 @@ rowOfLink r = record { verse = r .verse; code = r .code; at = r .at; end = r .en
 -- r is row k, and the chain goes on below it
 pub record LinkIs (s : List ℕ) (log k : ℕ) (r : Link) : Type 0 where
   pub low : r .next < k
-  pub sung : (text : List ℕ) → chain text s log k ≡ happens text (rowOfLink r) (chain text s log (r .next))
+  pub sung : (text : List ℕ) → chain text s log k ≡ applyRow text (rowOfLink r) (chain text s log (r .next))
 
 -- a number past every verse
 abbrev pub noVerse : ℕ

@@ -19,7 +19,7 @@ use Rattle.laws.proofs.Rows.{length-rows, rows-below, rows-put, rows-get}
 use Rattle.reader.specs.Lyrics.{Syllable}
 use Rattle.lyrics.specs.declared.Sheet.{Sheet}
 use Rattle.lyrics.specs.declared.Row.{Row}
-use Rattle.lyrics.specs.Sheet.{lyricHeadWidth, lyricRowWidth, withCount, rowBytes, rowOf, nextOf, rowAt, happens, sungFrom, headOf, headsIn, syllablesIn, Kept, Room, Outside, RowAppended}
+use Rattle.lyrics.specs.Sheet.{lyricHeadWidth, lyricRowWidth, withCount, rowBytes, rowOf, nextOf, rowAt, applyRow, sungFrom, headOf, headsIn, syllablesIn, Kept, Room, Outside, RowAppended}
 
 -- A ROW
 pub length-row : (r : Row) (next : ℕ) → length (rowBytes r next) ≡ lyricRowWidth
@@ -45,7 +45,7 @@ module _ (text : List ℕ) (log : ℕ) where
       let e = h n (omega arith) in
       let below : (j : ℕ) → sungFrom text t log n j ≡ sungFrom text s log n j = λ j. chain-same s t n j (λ m l. h m (omega arith)) in
       by-test (eqb k (suc n))
-      (λ y. rw (y, sungFrom) (ap₂ (λ (b : List ℕ) (ys : List Syllable). happens text (rowOf b) ys) e (below (nextOf (rowAt t log n)) ∙ ap (λ (b : List ℕ). sungFrom text s log n (nextOf b)) e)))
+      (λ y. rw (y, sungFrom) (ap₂ (λ (b : List ℕ) (ys : List Syllable). applyRow text (rowOf b) ys) e (below (nextOf (rowAt t log n)) ∙ ap (λ (b : List ℕ). sungFrom text s log n (nextOf b)) e)))
       (λ y. rw (y, sungFrom) (below k))
 
   -- a row more does not change the chains that do not begin with it
@@ -56,7 +56,7 @@ module _ (text : List ℕ) (log : ℕ) where
       rw (add-one n) (rw (ne-eqb k (suc n) d, sungFrom))
 
   -- the chain that begins with it
-  pub chain-new : (s : List ℕ) (n : ℕ) → sungFrom text s log (n + 1) (n + 1) ≡ happens text (rowOf (rowAt s log n)) (sungFrom text s log n (nextOf (rowAt s log n)))
+  pub chain-new : (s : List ℕ) (n : ℕ) → sungFrom text s log (n + 1) (n + 1) ≡ applyRow text (rowOf (rowAt s log n)) (sungFrom text s log n (nextOf (rowAt s log n)))
   unfolding sungFrom
   chain-new s n = rw (add-one n) (rw (eq-eqb (suc n) (suc n) refl, sungFrom))
 
@@ -154,18 +154,18 @@ module _ (s t u : List ℕ) (h : Sheet) (note : ℕ) (r : Row) (next : ℕ) (roo
   unfolding headsIn
   many = length-rows headOf lyricHeadWidth s (h .heads) (h .sounded)
 
-  row-sung : (text : List ℕ) → syllablesIn text u (withCount h (h .count + 1)) ≡ alterAt note (happens text r) (syllablesIn text s h)
+  row-sung : (text : List ℕ) → syllablesIn text u (withCount h (h .count + 1)) ≡ alterAt note (applyRow text r) (syllablesIn text s h)
   unfolding syllablesIn
   row-sung text =
       let f = sungFrom text s (h .log) (h .count) in
       let g = sungFrom text u (h .log) (h .count + 1) in
       let same : (k : ℕ) → k ≤ h .count → g k ≡ f k = λ k x. chain-other text (h .log) u (h .count) k x ∙ chain-same text (h .log) s u (h .count) k old in
-      let new : g (h .count + 1) ≡ happens text r (f (getD (headsIn s (h .heads) (h .sounded)) note 0)) =
+      let new : g (h .count + 1) ≡ applyRow text r (f (getD (headsIn s (h .heads) (h .sounded)) note 0)) =
       chain-new text (h .log) u (h .count)
-      ∙ ap (λ (b : List ℕ). happens text (rowOf b) (sungFrom text u (h .log) (h .count) (nextOf b))) fresh
-      ∙ ap₂ (λ (x : Row) (k : ℕ). happens text x (sungFrom text u (h .log) (h .count) k)) (row-back r next low high) (next-back r next few ∙ sym head-then)
-      ∙ ap (happens text r) (chain-same text (h .log) s u (h .count) (getD (headsIn s (h .heads) (h .sounded)) note 0) old) in
-      ap (map g) heads-now ∙ map-new f g (happens text r) (h .count) (h .count + 1) same (headsIn s (h .heads) (h .sounded)) note (rw many l) (kept .firsts) new
+      ∙ ap (λ (b : List ℕ). applyRow text (rowOf b) (sungFrom text u (h .log) (h .count) (nextOf b))) fresh
+      ∙ ap₂ (λ (x : Row) (k : ℕ). applyRow text x (sungFrom text u (h .log) (h .count) k)) (row-back r next low high) (next-back r next few ∙ sym head-then)
+      ∙ ap (applyRow text r) (chain-same text (h .log) s u (h .count) (getD (headsIn s (h .heads) (h .sounded)) note 0) old) in
+      ap (map g) heads-now ∙ map-new f g (applyRow text r) (h .count) (h .count + 1) same (headsIn s (h .heads) (h .sounded)) note (rw many l) (kept .firsts) new
 
   pub row-appended : RowAppended s u h note r (h .count + 1)
   row-appended =
@@ -203,7 +203,7 @@ pub none-appended : (s : List ℕ) (h : Sheet) (note : ℕ) (r : Row) → Kept s
 none-appended s h note r kept l =
     record {
       kept = record { apart = kept .apart; inside = kept .inside; firsts = kept .firsts };
-      sung = λ text. sym (alter-past note (happens text r) (syllablesIn text s h) (rw (how-many text s h) l));
+      sung = λ text. sym (alter-past note (applyRow text r) (syllablesIn text s h) (rw (how-many text s h) l));
       more = omega arith;
       one = omega arith;
       outside = outside-none s (h .heads) (h .log + lyricRowWidth * h .count);

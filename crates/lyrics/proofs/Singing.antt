@@ -25,7 +25,7 @@ use Rattle.lyrics.specs.declared.Sheet.{Sheet}
 use Rattle.lyrics.specs.declared.Row.{Row}
 use Rattle.lyrics.specs.declared.Line.{Line}
 use Rattle.lyrics.specs.declared.Sung.{Sung}
-use Rattle.lyrics.specs.Sheet.{lyricRowWidth, holdCode, withCount, syllableOf, happens, syllablesIn, Kept, Room, Outside, RowAppended}
+use Rattle.lyrics.specs.Sheet.{lyricRowWidth, holdCode, withCount, syllableOf, applyRow, syllablesIn, Kept, Room, Outside, RowAppended}
 use Rattle.lyrics.specs.Lines.{rowsFor, WordSung, LineFits, LineSung}
 use Rattle.lyrics.proofs.Sheets.{outside-none, outside-next}
 
@@ -36,12 +36,12 @@ abbrev pub row : ℕ → ℕ → ℕ → ℕ → Row
 row verse code at end = record { verse = verse; code = code; at = at; end = end }
 
 -- a row that is no hold
-happens-put : (text : List ℕ) (r : Row) → eqb (r .code) holdCode ≡ false → happens text r ≡ put (syllableOf text r)
-unfolding happens
+happens-put : (text : List ℕ) (r : Row) → eqb (r .code) holdCode ≡ false → applyRow text r ≡ put (syllableOf text r)
+unfolding applyRow
 happens-put text r e = λ i ys. at ys i
   where
-    at : (ys : List Syllable) → happens text r ys ≡ put (syllableOf text r) ys
-    at ys = rw (e, happens)
+    at : (ys : List Syllable) → applyRow text r ys ≡ put (syllableOf text r) ys
+    at ys = rw (e, applyRow)
 
 -- A WORD
 module _ (s : List ℕ) (h : Sheet) (l : Line) (taken : ℕ) where
@@ -67,7 +67,7 @@ module _ (s : List ℕ) (h : Sheet) (l : Line) (taken : ℕ) where
 
   -- that writes a row
   written : (t : List ℕ) (w : Token) (note n : ℕ) (r : Row) → RowAppended s t h note r n
-      → ((text : List ℕ) (ws : List Word) (notes : List (List Syllable)) → sing (l .start) (l .verse) (taken + 1) ws (alterAt note (happens text r) notes) ≡ sing (l .start) (l .verse) taken (said text w ++ ws) notes)
+      → ((text : List ℕ) (ws : List Word) (notes : List (List Syllable)) → sing (l .start) (l .verse) (taken + 1) ws (alterAt note (applyRow text r) notes) ≡ sing (l .start) (l .verse) taken (said text w ++ ws) notes)
       → WordSung s t h l taken w (sung (taken + 1) n)
   written t w note n r m e =
       record {
@@ -99,7 +99,7 @@ hold-law start v (suc j) ws notes some =
 
 pub sung-hold : (s t : List ℕ) (h : Sheet) (l : Line) (taken n : ℕ) → (taken ≡ 0 → ⊥) → RowAppended s t h (l .start + taken - 1) (row (l .verse) holdCode 0 0) n
     → WordSung s t h l taken T.Hold (sung (taken + 1) n)
-unfolding said happens
+unfolding said applyRow
 sung-hold s t h l taken n some m =
     written s h l taken t T.Hold (l .start + taken - 1) n (row (l .verse) holdCode 0 0) m (λ text ws notes. hold-law (l .start) (l .verse) taken ws notes some)
 

@@ -62,15 +62,15 @@ unfoldable pub syllableOf : List ℕ → Row → Syllable
 syllableOf text r = record { verse = r .verse; syllabic = asSyllabic (r .code); extend = false; text = syllableText (between text (r .at) (r .end)) }
 
 -- what a row does to what was sung to its note before
-unfoldable pub happens : List ℕ → Row → List Syllable → List Syllable
-happens text r ys = elim (eqb (r .code) holdCode) [ true ↦ map (held (r .verse)) ys | false ↦ put (syllableOf text r) ys ]
+unfoldable pub applyRow : List ℕ → Row → List Syllable → List Syllable
+applyRow text r ys = elim (eqb (r .code) holdCode) [ true ↦ map (held (r .verse)) ys | false ↦ put (syllableOf text r) ys ]
 
 -- what the chain from row k on (from 1; 0 for none) says, if k is among the first n rows: a chain goes down
 unfoldable pub sungFrom : List ℕ → List ℕ → ℕ → ℕ → ℕ → List Syllable
 sungFrom text s log zero k = []
 sungFrom text s log (suc m) k =
     elim (eqb k (suc m)) [
-      | true ↦ happens text (rowOf (rowAt s log m)) (sungFrom text s log m (nextOf (rowAt s log m)))
+      | true ↦ applyRow text (rowOf (rowAt s log m)) (sungFrom text s log m (nextOf (rowAt s log m)))
       | false ↦ sungFrom text s log m k
     ]
 
@@ -106,7 +106,7 @@ pub record Outside (s t : List ℕ) (lo hi : ℕ) : Type 0 where
 -- a row was added to the chain of note `note`, if there is such a note; n rows are now written
 pub record RowAppended (s t : List ℕ) (h : Sheet) (note : ℕ) (r : Row) (n : ℕ) : Type 0 where
   pub kept : Kept t (withCount h n)
-  pub sung : (text : List ℕ) → syllablesIn text t (withCount h n) ≡ alterAt note (happens text r) (syllablesIn text s h)
+  pub sung : (text : List ℕ) → syllablesIn text t (withCount h n) ≡ alterAt note (applyRow text r) (syllablesIn text s h)
   pub more : h .count ≤ n
   pub one : n ≤ h .count + 1
   pub outside : Outside s t (h .heads) (h .log + lyricRowWidth * n)

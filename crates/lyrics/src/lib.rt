@@ -1,5 +1,5 @@
-// The syllables of a part in scratch. What is sung to a note is a chain of rows, the newest first: a syllable, or a hold of the one before it. Rows
-// are only ever added, so no chain is changed by what is added to another.
+// The syllables of a part in scratch: for each note that sounds a chain of rows, the newest first, each a syllable or a hold of the one before it.
+// Rows are only ever added, so no chain is changed by what is added to another.
 ghost use Prim.Native.Nat.{_+_, _*_, _^_, _≤_, _<_};
 ghost use mathlib.Core.Path.{_≡_};
 ghost use mathlib.Core.List.{[]};
@@ -70,7 +70,7 @@ fn put_row(scratch: &mut [u8], at: usize, row: Row, next: u32)
     store::put_u32(scratch, at + NEXT, next);
 }
 
-// Adds a row to what is sung to a note; past the last note nothing. Answers how many rows are written.
+// Adds a row to the chain of a note; past the last note nothing. Answers how many rows are written.
 fn append_row(scratch: &mut [u8], sheet: Sheet, note: usize, row: Row) -> usize
     requires { ⌜ (Room (now scratch) sheet) × (row .at < 2 ^ 32) × (row .end < 2 ^ 32) ⌝ }
     ensures { λ r. ⌜ RowAppended (now (scratch .entry)) (now (scratch .exit)) sheet note row r ⌝ }

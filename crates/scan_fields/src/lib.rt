@@ -12,7 +12,7 @@ ghost use Rattle.field_keys.specs.Passed.{keyAs};
 ghost use Rattle.field_values.specs.Values.{meterAs, unitAs};
 ghost use Rattle.text_lines.specs.declared.Class.{Class};
 ghost use Rattle.text_lines.specs.Lines.{kindAs};
-ghost use Rattle.scan_states.specs.States.{held, Ready, Stepped};
+ghost use Rattle.scan_states.specs.States.{stateIn, Ready, Stepped};
 use field_keys::Key;
 use field_values::FieldUnit;
 use field_values::Meter;
@@ -32,7 +32,7 @@ pub fn is_high(text: &[u8], from: usize, end: usize) -> bool
 pub fn voice_line(text: &[u8], scratch: &mut [u8], st: State, from: usize, end: usize) -> Step
     requires { ⌜ Ready (length (now scratch)) st ⌝ }
     requires { ⌜ (from + 2 ≤ end) × (end ≤ length (now text)) × (length (now text) < 2 ^ 32) ⌝ }
-    ensures { λ r. ⌜ Stepped (now (text .entry)) (now (scratch .entry)) st (act (held (now (text .entry)) (now (scratch .entry)) st) (kindAs (between (now (text .entry)) from end) Class.Voice) (st .in_header)) (now (scratch .exit)) r ⌝ }
+    ensures { λ r. ⌜ Stepped (now (text .entry)) (now (scratch .entry)) st (act (stateIn (now (text .entry)) (now (scratch .entry)) st) (kindAs (between (now (text .entry)) from end) Class.Voice) (st .in_header)) (now (scratch .exit)) r ⌝ }
 {
     if is_high(text, from, end) {
         return scan_states::refuse(st, 6);
@@ -50,7 +50,7 @@ pub fn voice_line(text: &[u8], scratch: &mut [u8], st: State, from: usize, end: 
 // A key: the first one ends the header.
 fn set_key(scratch: &mut [u8], st: State, k: Key) -> State
     requires { ⌜ Ready (length (now scratch)) st ⌝ }
-    ensures { λ r. ⌜ ((text : List ℕ) → Stepped text (now (scratch .entry)) st (act (held text (now (scratch .entry)) st) (key (keyAs k)) (st .in_header)) (now (scratch .exit)) (Step.On r)) ⌝ }
+    ensures { λ r. ⌜ ((text : List ℕ) → Stepped text (now (scratch .entry)) st (act (stateIn text (now (scratch .entry)) st) (key (keyAs k)) (st .in_header)) (now (scratch .exit)) (Step.On r)) ⌝ }
 {
     if st.in_header {
         let mut r = st;
@@ -83,7 +83,7 @@ fn set_key(scratch: &mut [u8], st: State, k: Key) -> State
 pub fn key_line(text: &[u8], scratch: &mut [u8], st: State, from: usize, end: usize) -> Step
     requires { ⌜ Ready (length (now scratch)) st ⌝ }
     requires { ⌜ (from + 2 ≤ end) × (end ≤ length (now text)) × (length (now text) < 2 ^ 32) ⌝ }
-    ensures { λ r. ⌜ Stepped (now (text .entry)) (now (scratch .entry)) st (act (held (now (text .entry)) (now (scratch .entry)) st) (kindAs (between (now (text .entry)) from end) Class.Key) (st .in_header)) (now (scratch .exit)) r ⌝ }
+    ensures { λ r. ⌜ Stepped (now (text .entry)) (now (scratch .entry)) st (act (stateIn (now (text .entry)) (now (scratch .entry)) st) (kindAs (between (now (text .entry)) from end) Class.Key) (st .in_header)) (now (scratch .exit)) r ⌝ }
 {
     if is_high(text, from, end) {
         return scan_states::refuse(st, 6);
@@ -98,7 +98,7 @@ pub fn key_line(text: &[u8], scratch: &mut [u8], st: State, from: usize, end: us
 // A meter, which goes to the part being read once the header has ended.
 fn set_meter(scratch: &mut [u8], st: State, m: Meter) -> State
     requires { ⌜ Ready (length (now scratch)) st ⌝ }
-    ensures { λ r. ⌜ ((text : List ℕ) → Stepped text (now (scratch .entry)) st (act (held text (now (scratch .entry)) st) (meter (meterAs m)) (st .in_header)) (now (scratch .exit)) (Step.On r)) ⌝ }
+    ensures { λ r. ⌜ ((text : List ℕ) → Stepped text (now (scratch .entry)) st (act (stateIn text (now (scratch .entry)) st) (meter (meterAs m)) (st .in_header)) (now (scratch .exit)) (Step.On r)) ⌝ }
 {
     let mut r = st;
     r.top = m.top;
@@ -122,7 +122,7 @@ fn set_meter(scratch: &mut [u8], st: State, m: Meter) -> State
 pub fn meter_line(text: &[u8], scratch: &mut [u8], st: State, from: usize, end: usize) -> Step
     requires { ⌜ Ready (length (now scratch)) st ⌝ }
     requires { ⌜ (from + 2 ≤ end) × (end ≤ length (now text)) × (length (now text) < 2 ^ 32) ⌝ }
-    ensures { λ r. ⌜ Stepped (now (text .entry)) (now (scratch .entry)) st (act (held (now (text .entry)) (now (scratch .entry)) st) (kindAs (between (now (text .entry)) from end) Class.Meter) (st .in_header)) (now (scratch .exit)) r ⌝ }
+    ensures { λ r. ⌜ Stepped (now (text .entry)) (now (scratch .entry)) st (act (stateIn (now (text .entry)) (now (scratch .entry)) st) (kindAs (between (now (text .entry)) from end) Class.Meter) (st .in_header)) (now (scratch .exit)) r ⌝ }
 {
     if is_high(text, from, end) {
         return scan_states::refuse(st, 6);
@@ -134,7 +134,7 @@ pub fn meter_line(text: &[u8], scratch: &mut [u8], st: State, from: usize, end: 
 // A unit, if the L line sets one.
 fn set_unit(st: State, u: FieldUnit) -> State
     requires { ⌜ (st .lines < 10000) × (st .voices ≤ 32) × (st .part < 32) ⌝ }
-    ensures { λ r. ⌜ ((text s : List ℕ) → Stepped text s st (act (held text s st) (unit (unitAs u)) (st .in_header)) s (Step.On r)) ⌝ }
+    ensures { λ r. ⌜ ((text s : List ℕ) → Stepped text s st (act (stateIn text s st) (unit (unitAs u)) (st .in_header)) s (Step.On r)) ⌝ }
 {
     match u {
         FieldUnit::Nothing => scan_states::next_line(st),
@@ -150,7 +150,7 @@ fn set_unit(st: State, u: FieldUnit) -> State
 pub fn unit_line(text: &[u8], st: State, from: usize, end: usize) -> Step
     requires { ⌜ (st .lines < 10000) × (st .voices ≤ 32) × (st .part < 32) ⌝ }
     requires { ⌜ (from + 2 ≤ end) × (end ≤ length (now text)) ⌝ }
-    ensures { λ r. ⌜ ((s : List ℕ) → Stepped (now (text .entry)) s st (act (held (now (text .entry)) s st) (kindAs (between (now (text .entry)) from end) Class.Unit) (st .in_header)) s r) ⌝ }
+    ensures { λ r. ⌜ ((s : List ℕ) → Stepped (now (text .entry)) s st (act (stateIn (now (text .entry)) s st) (kindAs (between (now (text .entry)) from end) Class.Unit) (st .in_header)) s r) ⌝ }
 {
     if is_high(text, from, end) {
         return scan_states::refuse(st, 6);

@@ -27,7 +27,7 @@ use Rattle.text_lines.specs.Lines.{kindAs}
 use Rattle.scan_table.specs.Rows.{itemsIn}
 use Rattle.scan_states.specs.declared.State.{State}
 use Rattle.scan_states.specs.declared.Step.the-variants as S
-use Rattle.scan_states.specs.States.{held, reached, Stepped}
+use Rattle.scan_states.specs.States.{stateIn, outIn, Stepped}
 use Rattle.scan_music.specs.declared.Count.{Count}
 use Rattle.scan_music.specs.declared.Counted.{Counted}
 use Rattle.scan_music.specs.declared.Counted.the-variants.{On, Refused}
@@ -132,12 +132,12 @@ countOf st = record { notes = st .notes; unit = st .unit; top = st .top; bottom 
 
 -- in the header it is passed over; refusal 6
 pub line-high : (text s s′ : List ℕ) (st : State) (from end : ℕ) → st .in_header ≡ false → hasHigh (between text from end) ≡ true
-    → Stepped text s st (act (held text s st) (kindAs (between text from end) C.Music) (st .in_header)) s′ (S.Refused 6 (suc (st .lines)))
+    → Stepped text s st (act (stateIn text s st) (kindAs (between text from end) C.Music) (st .in_header)) s′ (S.Refused 6 (suc (st .lines)))
 unfolding act
 line-high text s s′ st from end body high =
     let l = between text from end in
     record {
-      is = sym (ap (first (itemsIn text s (st .items))) (ap (λ (b : Bool). act (held text s st) (music (hasHigh l) (effects l) l) b) body ∙ ap (λ (b : Bool). act (held text s st) (music b (effects l) l) false) high));
+      is = sym (ap (first (itemsIn text s (st .items))) (ap (λ (b : Bool). act (stateIn text s st) (music (hasHigh l) (effects l) l) b) body ∙ ap (λ (b : Bool). act (stateIn text s st) (music b (effects l) l) false) high));
       follows = tt;
     }
 
@@ -152,21 +152,21 @@ module _ (text s : List ℕ) (st : State) (from end : ℕ) (body : st .in_header
   abbrev es : List Effect
   es = effects line
 
-  music-line : act (held text s st) (kindAs line C.Music) (st .in_header) ≡ playOn (held text s st) es line (firstRefusal (st .notes) es)
+  music-line : act (stateIn text s st) (kindAs line C.Music) (st .in_header) ≡ playOn (stateIn text s st) es line (firstRefusal (st .notes) es)
   unfolding act
-  music-line = ap (λ (b : Bool). act (held text s st) (music (hasHigh line) es line) b) body ∙ ap (λ (b : Bool). act (held text s st) (music b es line) false) low
+  music-line = ap (λ (b : Bool). act (stateIn text s st) (music (hasHigh line) es line) b) body ∙ ap (λ (b : Bool). act (stateIn text s st) (music b es line) false) low
 
-  pub line-refused : (s′ : List ℕ) (k : ℕ) → Refused k ≡ countedFor (countOf st) es → Stepped text s st (act (held text s st) (kindAs line C.Music) (st .in_header)) s′ (S.Refused k (suc (st .lines)))
+  pub line-refused : (s′ : List ℕ) (k : ℕ) → Refused k ≡ countedFor (countOf st) es → Stepped text s st (act (stateIn text s st) (kindAs line C.Music) (st .in_header)) s′ (S.Refused k (suc (st .lines)))
   unfolding countedFor countedAs playOn
   line-refused s′ k e = record { is = sym (ap (first (itemsIn text s (st .items))) (music-line ∙ go (firstRefusal (st .notes) es) e)); follows = tt }
     where
-      go : (o : Option ℕ) → Refused k ≡ countedAs (countOf st) es o → playOn (held text s st) es line o ≡ refuse k (suc (st .lines))
+      go : (o : Option ℕ) → Refused k ≡ countedAs (countOf st) es o → playOn (stateIn text s st) es line o ≡ refuse k (suc (st .lines))
       go (some j) x = let q : j ≡ k = cc in ap (λ (n : ℕ). refuse n (suc (st .lines))) q
       go none x = let z : _≡_ {A = ℕ} 0 1 = cc in absurd (omega arith)
 
   pub line-counted : (s′ : List ℕ) (q : Count) (r : State) → On q ≡ countedFor (countOf st) es → st .voices ≤ 32 → st .part < 32 → r ≡ stateAfter st q
-      → reached text s′ (S.On r) ≡ on (held text s (stateAfter st q)) (itemsIn text s (st .items) ++ ((st .part, musicLine (st .unit) (st .top, st .bottom) line) ∷ []))
-      → Stepped text s st (act (held text s st) (kindAs line C.Music) (st .in_header)) s′ (S.On r)
+      → outIn text s′ (S.On r) ≡ on (stateIn text s (stateAfter st q)) (itemsIn text s (st .items) ++ ((st .part, musicLine (st .unit) (st .top, st .bottom) line) ∷ []))
+      → Stepped text s st (act (stateIn text s st) (kindAs line C.Music) (st .in_header)) s′ (S.On r)
   unfolding countedFor countedAs playOn
   line-counted s′ q r e v p f x =
       record {
@@ -174,9 +174,9 @@ module _ (text s : List ℕ) (st : State) (from end : ℕ) (body : st .in_header
         follows = rw f (refl, (v, (p, omega arith)));
       }
     where
-      go : (o : Option ℕ) → On q ≡ countedAs (countOf st) es o → playOn (held text s st) es line o ≡ on (held text s (stateAfter st q)) ((st .part, musicLine (st .unit) (st .top, st .bottom) line) ∷ [])
+      go : (o : Option ℕ) → On q ≡ countedAs (countOf st) es o → playOn (stateIn text s st) es line o ≡ on (stateIn text s (stateAfter st q)) ((st .part, musicLine (st .unit) (st .top, st .bottom) line) ∷ [])
       go (some j) x = let z : _≡_ {A = ℕ} 0 1 = cc in absurd (omega arith)
       go none x =
           let c : Count = record { notes = st .notes + noteCount es; unit = lastUnit es (st .unit); top = lastMeter es (st .top, st .bottom) .0; bottom = lastMeter es (st .top, st .bottom) .1 } in
           let y : c ≡ q = cc in
-          ap (λ (d : Count). on (held text s (stateAfter st d)) ((st .part, musicLine (st .unit) (st .top, st .bottom) line) ∷ [])) y
+          ap (λ (d : Count). on (stateIn text s (stateAfter st d)) ((st .part, musicLine (st .unit) (st .top, st .bottom) line) ∷ [])) y

@@ -14,7 +14,7 @@ ghost use Rattle.token_symbols.specs.Classes.{classTable};
 ghost use Rattle.text_lines.specs.declared.Class.{Class};
 ghost use Rattle.text_lines.specs.Lines.{kindAs};
 ghost use Rattle.scan_table.specs.Rows.{itemsIn};
-ghost use Rattle.scan_states.specs.States.{held, reached, Ready, Stepped};
+ghost use Rattle.scan_states.specs.States.{stateIn, outIn, Ready, Stepped};
 ghost use Rattle.scan_music.specs.MusicLines.{effectAs, countedFor, countedOn, stateAfter, goesOn};
 use scan_states::State;
 use scan_states::Step;
@@ -149,7 +149,7 @@ fn add_music_line(scratch: &mut [u8], st: State, from: usize, end: usize, q: Cou
     requires { ⌜ Ready (length (now scratch)) st ⌝ }
     requires { ⌜ (from < 2 ^ 32) × (end < 2 ^ 32) ⌝ }
     ensures { λ r. ⌜ r ≡ stateAfter st q ⌝ }
-    ensures { λ r. ⌜ ((text : List ℕ) → reached text (now (scratch .exit)) (Step.On r) ≡ on (held text (now (scratch .entry)) (stateAfter st q)) (itemsIn text (now (scratch .entry)) (st .items) ++ ((st .part, musicLine (st .unit) (st .top, st .bottom) (between text from end)) ∷ []))) ⌝ }
+    ensures { λ r. ⌜ ((text : List ℕ) → outIn text (now (scratch .exit)) (Step.On r) ≡ on (stateIn text (now (scratch .entry)) (stateAfter st q)) (itemsIn text (now (scratch .entry)) (st .items) ++ ((st .part, musicLine (st .unit) (st .top, st .bottom) (between text from end)) ∷ []))) ⌝ }
 {
     let row = Row {
         kind: scan_table::MUSIC_LINE,
@@ -176,7 +176,7 @@ fn add_music_line(scratch: &mut [u8], st: State, from: usize, end: usize, q: Cou
 pub fn music_line(text: &[u8], scratch: &mut [u8], st: State, from: usize, end: usize) -> Step
     requires { ⌜ Ready (length (now scratch)) st ⌝ }
     requires { ⌜ (from ≤ end) × (end ≤ length (now text)) × (length (now text) < 2 ^ 32) ⌝ }
-    ensures { λ r. ⌜ Stepped (now (text .entry)) (now (scratch .entry)) st (act (held (now (text .entry)) (now (scratch .entry)) st) (kindAs (between (now (text .entry)) from end) Class.Music) (st .in_header)) (now (scratch .exit)) r ⌝ }
+    ensures { λ r. ⌜ Stepped (now (text .entry)) (now (scratch .entry)) st (act (stateIn (now (text .entry)) (now (scratch .entry)) st) (kindAs (between (now (text .entry)) from end) Class.Music) (st .in_header)) (now (scratch .exit)) r ⌝ }
 {
     if st.in_header {
         return Step::On(scan_states::next_line(st));

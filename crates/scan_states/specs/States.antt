@@ -11,8 +11,8 @@ use Rattle.scan_states.specs.declared.Step.{Step}
 use Rattle.scan_states.specs.declared.Step.the-variants.{On, Refused}
 
 -- the definition's state, with these voices
-abbrev pub heldIn : List (List ℕ) → State → ScanState
-heldIn vs st =
+abbrev pub stateWith : List (List ℕ) → State → ScanState
+stateWith vs st =
     record {
       env = record { inHeader = st .in_header; voices = vs; headerKey = keyAs (st .key) };
       unit = st .unit;
@@ -25,17 +25,17 @@ heldIn vs st =
     }
 
 -- with those in scratch
-abbrev pub held : List ℕ → List ℕ → State → ScanState
-held text s st = heldIn (voicesIn text s (st .voices)) st
+abbrev pub stateIn : List ℕ → List ℕ → State → ScanState
+stateIn text s st = stateWith (voicesIn text s (st .voices)) st
 
 -- how far the scan has come, with every item so far
-abbrev pub reached : List ℕ → List ℕ → Step → Out
-reached text s (On st) = on (held text s st) (itemsIn text s (st .items))
-reached text s (Refused n l) = refuse n l
+abbrev pub outIn : List ℕ → List ℕ → Step → Out
+outIn text s (On st) = on (stateIn text s st) (itemsIn text s (st .items))
+outIn text s (Refused n l) = refuse n l
 
 -- one line more; one item and one line more
-abbrev pub nextOf : State → State
-nextOf st = record {
+abbrev pub nextState : State → State
+nextState st = record {
   in_header = st .in_header;
   key = st .key;
   unit = st .unit;
@@ -50,8 +50,8 @@ nextOf st = record {
   items = st .items;
 }
 
-abbrev pub addedTo : State → State
-addedTo st = record {
+abbrev pub addedState : State → State
+addedState st = record {
   in_header = st .in_header;
   key = st .key;
   unit = st .unit;
@@ -80,5 +80,5 @@ Follows st (Refused n l) = Unit {0}
 
 -- ONE LINE: o is what the definition makes of it; the items so far stand before its own
 pub record Stepped (text s₀ : List ℕ) (st : State) (o : Out) (s : List ℕ) (r : Step) : Type 0 where
-  pub is : reached text s r ≡ first (itemsIn text s₀ (st .items)) o
+  pub is : outIn text s r ≡ first (itemsIn text s₀ (st .items)) o
   pub follows : Follows st r

@@ -8,39 +8,6 @@ use Rattle.lyrics.proofs.Sheets.{row-appended, none-appended}
 use Rattle.lyrics.proofs.append_row.Statement.{statement}
 use Rattle.lyrics.proofs.append_row.Tie as tie
 
-mul-head : tie.Need-mul-head
-mul-head c = search needs
-
-add-head : tie.Need-add-head
-add-head c = search needs
-
-get-u32-requires : tie.Need-get-u32-requires
-get-u32-requires c κs = search needs
-
-mul-put-row : tie.Need-mul-put-row
-mul-put-row c = search needs
-
-add-put-row : tie.Need-add-put-row
-add-put-row c = search needs
-
-put-row-requires : tie.Need-put-row-requires
-put-row-requires c κs = search needs
-
-add-put-u32 : tie.Need-add-put-u32
-add-put-u32 c = search needs
-
-cast-put-u32 : tie.Need-cast-put-u32
-cast-put-u32 c = search needs
-
-put-u32-requires : tie.Need-put-u32-requires
-put-u32-requires c κs = search needs
-
-add-result : tie.Need-add-result
-add-result c = search needs
-
-same-length : tie.Need-same-length
-same-length c = search needs
-
 returns : tie.Need-returns
 returns c =
     let a = c .before .before .before .before .before .before .before .before .before .before .before .before .before .before .before .before .before .before .args in
@@ -59,16 +26,16 @@ pub append-row-spec : {M : Type 1} → statement M
 append-row-spec =
     tie.close
     (tie.spec
-    mul-head
-    add-head
-    get-u32-requires
-    mul-put-row
-    add-put-row
-    put-row-requires
-    add-put-u32
-    cast-put-u32
-    put-u32-requires
-    add-result
-    same-length
+    (λ c. search needs)
+    (λ c. search needs)
+    (λ c κs. search needs)
+    (λ c. search needs)
+    (λ c. search needs)
+    (λ c κs. search needs)
+    (λ c. search needs)
+    (λ c. search needs)
+    (λ c κs. search needs)
+    (λ c. search needs)
+    (λ c. search needs)
     returns
     returns-2)

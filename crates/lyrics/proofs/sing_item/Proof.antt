@@ -10,16 +10,10 @@ get-item-requires c κs =
     let p = c .before .before .before .pre in
     omega (arith, p .before-heads, p .kept .apart, p .kept .inside)
 
-same-length : tie.Need-same-length
-same-length c = search needs
-
 returns : tie.Need-returns
 returns c =
     let a = c .before .before .before .before .before .before .args in
     other-kind (a .text .now) (a .scratch .now) (a .part) (a .i) (a .sheet) _ (c .before .before .get-item .ensures) (c .before .before .before .before .before .before .pre .kept) (c .if1 .taken)
-
-same-length-2 : tie.Need-same-length-2
-same-length-2 c = search needs
 
 returns-2 : tie.Need-returns-2
 returns-2 c =
@@ -31,9 +25,6 @@ sing-line-requires c κs =
     let a = c .before .before .before .before .before .before .before .before .before .before .args in
     line-fits (a .text .now) (a .scratch .now) (a .part) (a .i) (a .sheet) (c .before .before .before .before .before .before .get-item .result) (c .before .before .before .before .before .before .get-item .ensures) (c .before .before .before .before .if1 .left) (c .before .before .if2 .left) (c .before .line-of .result) (c .before .line-of .ensures) (c .before .before .before .before .before .before .before .before .before .before .pre)
 
-same-length-3 : tie.Need-same-length-3
-same-length-3 c = search needs
-
 returns-3 : tie.Need-returns-3
 returns-3 c =
     let a = c .before .before .before .before .before .before .before .before .before .before .before .before .before .args in
@@ -44,11 +35,11 @@ sing-item-spec =
     tie.close
     (tie.spec
     get-item-requires
-    same-length
+    (λ c. search needs)
     returns
-    same-length-2
+    (λ c. search needs)
     returns-2
     (λ c κs. search needs)
     sing-line-requires
-    same-length-3
+    (λ c. search needs)
     returns-3)
