@@ -18,7 +18,7 @@ use Rattle.laws.proofs.Rows.{rows-get, length-rows}
 use Rattle.reader.specs.Lyrics.{Syllable, put, held}
 use Rattle.lyrics.specs.declared.Sheet.{Sheet}
 use Rattle.lyrics.specs.declared.Row.{Row}
-use Rattle.lyrics.specs.Sheet.{rowOf, nextOf, rowAt, syllableOf, happens, sungFrom, headOf, headsIn, syllablesIn}
+use Rattle.lyrics.specs.Sheet.{lyricHeadWidth, lyricRowWidth, verseAt, codeAt, startAt, endAt, nextAt, holdCode, rowOf, nextOf, rowAt, syllableOf, applyRow, sungFrom, headOf, headsIn, syllablesIn}
 use Rattle.lyric_walk.specs.Walks.{chain, HeadIs, LinkIs}
 use Rattle.lyric_walk.proofs.Verses.{held-verse}
 
@@ -62,15 +62,15 @@ module _ (text s : List ℕ) (log : ℕ) where
       go (no l) = chain-out n k (omega arith) ∙ sym chain-none ∙ ap (λ (x : ℕ). chain text s log x) (sym (e ∙ rw (le-ltb k (n + 1) (omega arith))))
 
   -- the newest row, and those below it
-  newest : (m : ℕ) → chain text s log (suc m) ≡ happens text (rowOf (rowAt s log m)) (sungFrom text s log m (nextOf (rowAt s log m)))
+  newest : (m : ℕ) → chain text s log (suc m) ≡ applyRow text (rowOf (rowAt s log m)) (sungFrom text s log m (nextOf (rowAt s log m)))
   unfolding sungFrom
   newest m = rw (eq-eqb (suc m) (suc m) refl, sungFrom)
 
   pub chain-row : (m k j : ℕ) → k ≡ m + 1 → j ≡ cond (ltb (nextOf (rowAt s log m)) (m + 1)) (nextOf (rowAt s log m)) 0
-      → chain text s log k ≡ happens text (rowOf (rowAt s log m)) (chain text s log j)
+      → chain text s log k ≡ applyRow text (rowOf (rowAt s log m)) (chain text s log j)
   chain-row m k j e f =
       let one : k ≡ suc m = omega arith in
-      ap (λ (x : ℕ). chain text s log x) one ∙ newest m ∙ ap (happens text (rowOf (rowAt s log m))) (chain-any m (nextOf (rowAt s log m)) j f)
+      ap (λ (x : ℕ). chain text s log x) one ∙ newest m ∙ ap (applyRow text (rowOf (rowAt s log m))) (chain-any m (nextOf (rowAt s log m)) j f)
 
 -- a place that is capped
 pub capped : (k x r : ℕ) → r ≡ cond (ltb x k) x 0 → 0 < k → r < k
@@ -87,29 +87,29 @@ capped k x r e h = go (decLt x k)
         omega arith
 
 -- ROW k, from 1, by its bytes
-row-is : (s : List ℕ) (p at end : ℕ) → at ≡ u32At s (p + 4) → end ≡ u32At s (p + 8) → rowOf (part s p 16) ≡ record { verse = getD s p 0; code = getD s (p + 1) 0; at = at; end = end }
+row-is : (s : List ℕ) (p at end : ℕ) → at ≡ u32At s (p + startAt) → end ≡ u32At s (p + endAt) → rowOf (part s p lyricRowWidth) ≡ record { verse = getD s p 0; code = getD s (p + codeAt) 0; at = at; end = end }
 unfolding rowOf
 row-is s p at end a e =
-    let z : p + 0 ≡ p = omega arith in
-    let v : getD (part s p 16) 0 0 ≡ getD s p 0 = getD-part s p 16 0 (omega arith) ∙ ap (λ (x : ℕ). getD s x 0) z in
-    let x : u32At (part s p 16) 4 ≡ at = littleAt-part 4 s p 16 4 (omega arith) ∙ sym a in
-    let y : u32At (part s p 16) 8 ≡ end = littleAt-part 4 s p 16 8 (omega arith) ∙ sym e in
-    λ i. record { verse = v i; code = getD-part s p 16 1 (omega arith) i; at = x i; end = y i }
+    let z : p + verseAt ≡ p = omega arith in
+    let v : getD (part s p lyricRowWidth) verseAt 0 ≡ getD s p 0 = getD-part s p lyricRowWidth verseAt (omega arith) ∙ ap (λ (x : ℕ). getD s x 0) z in
+    let x : u32At (part s p lyricRowWidth) startAt ≡ at = littleAt-part 4 s p lyricRowWidth startAt (omega arith) ∙ sym a in
+    let y : u32At (part s p lyricRowWidth) endAt ≡ end = littleAt-part 4 s p lyricRowWidth endAt (omega arith) ∙ sym e in
+    λ i. record { verse = v i; code = getD-part s p lyricRowWidth codeAt (omega arith) i; at = x i; end = y i }
 
-next-is : (s : List ℕ) (p : ℕ) → nextOf (part s p 16) ≡ u32At s (p + 12)
+next-is : (s : List ℕ) (p : ℕ) → nextOf (part s p lyricRowWidth) ≡ u32At s (p + nextAt)
 unfolding nextOf
-next-is s p = littleAt-part 4 s p 16 12 (omega arith)
+next-is s p = littleAt-part 4 s p lyricRowWidth nextAt (omega arith)
 
-pub link-is : (s : List ℕ) (log k : ℕ) → 1 ≤ k → (at end place next : ℕ) → at ≡ u32At s (log + 16 * (k - 1) + 4) → end ≡ u32At s (log + 16 * (k - 1) + 8)
-    → place ≡ u32At s (log + 16 * (k - 1) + 12) → next ≡ cond (ltb place k) place 0
-    → LinkIs s log k (record { verse = getD s (log + 16 * (k - 1)) 0; code = getD s (log + 16 * (k - 1) + 1) 0; at = at; end = end; next = next })
+pub link-is : (s : List ℕ) (log k : ℕ) → 1 ≤ k → (at end place next : ℕ) → at ≡ u32At s (log + lyricRowWidth * (k - 1) + startAt) → end ≡ u32At s (log + lyricRowWidth * (k - 1) + endAt)
+    → place ≡ u32At s (log + lyricRowWidth * (k - 1) + nextAt) → next ≡ cond (ltb place k) place 0
+    → LinkIs s log k (record { verse = getD s (log + lyricRowWidth * (k - 1)) 0; code = getD s (log + lyricRowWidth * (k - 1) + codeAt) 0; at = at; end = end; next = next })
 link-is s log k low at end place next a e p n =
     let one : k ≡ k - 1 + 1 = omega arith in
-    let q : place ≡ nextOf (rowAt s log (k - 1)) = p ∙ sym (next-is s (log + 16 * (k - 1))) in
+    let q : place ≡ nextOf (rowAt s log (k - 1)) = p ∙ sym (next-is s (log + lyricRowWidth * (k - 1))) in
     let c : next ≡ cond (ltb (nextOf (rowAt s log (k - 1))) (k - 1 + 1)) (nextOf (rowAt s log (k - 1))) 0 = n ∙ (λ i. cond (ltb (q i) (one i)) (q i) 0) in
     record {
       low = capped k place next n (omega arith);
-      sung = λ text. chain-row text s log (k - 1) k next one c ∙ ap (λ (r : Row). happens text r (chain text s log next)) (row-is s (log + 16 * (k - 1)) at end a e);
+      sung = λ text. chain-row text s log (k - 1) k next one c ∙ ap (λ (r : Row). applyRow text r (chain text s log next)) (row-is s (log + lyricRowWidth * (k - 1)) at end a e);
     }
 
 -- THE HEAD of a note
@@ -118,16 +118,16 @@ getD-map-in f [] i d h = absurd (not-suc-le-zero h)
 getD-map-in f (x ∷ xs) zero d h = refl
 getD-map-in f (x ∷ xs) (suc i) d h = getD-map-in f xs i d (le-of-suc-le-suc h)
 
-pub head-is : (s : List ℕ) (h : Sheet) (note place k : ℕ) → note < h .sounded → place ≡ u32At s (h .heads + 4 * note) → k ≡ cond (ltb place (h .count + 1)) place 0 → HeadIs s h note k
+pub head-is : (s : List ℕ) (h : Sheet) (note place k : ℕ) → note < h .sounded → place ≡ u32At s (h .heads + lyricHeadWidth * note) → k ≡ cond (ltb place (h .count + 1)) place 0 → HeadIs s h note k
 unfolding syllablesIn headsIn headOf
 head-is s h note place k l e c =
-    let n : length (rows headOf 4 s (h .heads) (h .sounded)) ≡ h .sounded = length-rows headOf 4 s (h .heads) (h .sounded) in
-    let at : getD (rows headOf 4 s (h .heads) (h .sounded)) note 0 ≡ place = rows-get headOf 4 s (h .heads) (h .sounded) note 0 l ∙ sym (littleAt-own 4 s (h .heads + 4 * note)) ∙ sym e in
+    let n : length (rows headOf lyricHeadWidth s (h .heads) (h .sounded)) ≡ h .sounded = length-rows headOf lyricHeadWidth s (h .heads) (h .sounded) in
+    let at : getD (rows headOf lyricHeadWidth s (h .heads) (h .sounded)) note 0 ≡ place = rows-get headOf lyricHeadWidth s (h .heads) (h .sounded) note 0 l ∙ sym (littleAt-own 4 s (h .heads + lyricHeadWidth * note)) ∙ sym e in
     let low : k < h .count + 1 = capped (h .count + 1) place k c (omega arith) in
     record {
       low = omega arith;
       sung = λ text.
-          getD-map-in (sungFrom text s (h .log) (h .count)) (rows headOf 4 s (h .heads) (h .sounded)) note [] (rw n l)
+          getD-map-in (sungFrom text s (h .log) (h .count)) (rows headOf lyricHeadWidth s (h .heads) (h .sounded)) note [] (rw n l)
           ∙ ap (sungFrom text s (h .log) (h .count)) at
           ∙ chain-any text s (h .log) (h .count) place k c;
     }
@@ -145,10 +145,10 @@ held-all : (v : ℕ) (ys : List Syllable) → All (λ (y : Syllable). y .verse <
 held-all v [] a = tt
 held-all v (y ∷ ys) a = (rw (held-verse v y) (a .0), held-all v ys (a .1))
 
-row-all : (text : List ℕ) (r : Row) (ys : List Syllable) → r .verse < 256 → All (λ (y : Syllable). y .verse < 256) ys → All (λ (y : Syllable). y .verse < 256) (happens text r ys)
-unfolding happens syllableOf
+row-all : (text : List ℕ) (r : Row) (ys : List Syllable) → r .verse < 256 → All (λ (y : Syllable). y .verse < 256) ys → All (λ (y : Syllable). y .verse < 256) (applyRow text r ys)
+unfolding applyRow syllableOf
 row-all text r ys h a =
-    by-test (eqb (r .code) 4) (λ e. rw (e, happens) (held-all (r .verse) ys a)) (λ e. rw (e, happens) (put-all (λ (y : Syllable). y .verse < 256) (syllableOf text r) ys h a))
+    by-test (eqb (r .code) holdCode) (λ e. rw (e, applyRow) (held-all (r .verse) ys a)) (λ e. rw (e, applyRow) (put-all (λ (y : Syllable). y .verse < 256) (syllableOf text r) ys h a))
 
 pub verses-small : (text s : List ℕ) (log n k : ℕ) → ((i : ℕ) → getD s i 0 < 256) → All (λ (y : Syllable). y .verse < 256) (sungFrom text s log n k)
 unfolding sungFrom rowOf
@@ -156,5 +156,5 @@ verses-small text s log zero k b = tt
 verses-small text s log (suc n) k b =
     by-test (eqb k (suc n))
     (λ e. rw (e, sungFrom)
-    (row-all text (rowOf (rowAt s log n)) (sungFrom text s log n (nextOf (rowAt s log n))) (rw (getD-part s (log + 16 * n) 16 0 (omega arith)) (b (log + 16 * n + 0))) (verses-small text s log n (nextOf (rowAt s log n)) b)))
+    (row-all text (rowOf (rowAt s log n)) (sungFrom text s log n (nextOf (rowAt s log n))) (rw (getD-part s (log + lyricRowWidth * n) lyricRowWidth verseAt (omega arith)) (b (log + lyricRowWidth * n + verseAt))) (verses-small text s log n (nextOf (rowAt s log n)) b)))
     (λ e. rw (e, sungFrom) (verses-small text s log n k b))

@@ -9,28 +9,28 @@ use lib.ListN.{getD}
 use borrow.Author.Tests.{eq-eqb, eqb-true}
 use Rattle.laws.proofs.Bools.{and-right}
 use Rattle.reader.specs.Lyrics.{Syllable, held}
-use Rattle.lyrics.specs.Sheet.{syllableOf}
+use Rattle.lyrics.specs.Sheet.{holdCode, syllableOf}
 use Rattle.lyric_walk.specs.declared.Link.{Link}
 use Rattle.lyric_walk.specs.declared.Found.{Found}
 use Rattle.lyric_walk.specs.declared.Next.{Next}
 use Rattle.lyric_walk.specs.declared.Next.the-variants as N
-use Rattle.lyric_walk.specs.Walks.{chain, rowOfLink, LinkIs, least, LeastIs, better, ofVerse, fromVerse, syllableIs, FoundIs, NextIs}
+use Rattle.lyric_walk.specs.Walks.{noVerse, chain, rowOfLink, LinkIs, least, LeastIs, better, ofVerse, fromVerse, syllableIs, FoundIs, NextIs}
 use Rattle.lyric_walk.proofs.Chains.{chain-none, verses-small}
 use Rattle.lyric_walk.proofs.Verses.{rising-chain, least-row, least-none, least-low, heldBy, of-row, of-found, next-none, next-some, next-must}
 
 -- THE LEAST VERSE: the invariant
 pub record Looking (s : List ℕ) (log k from best place : ℕ) : Type 0 where
   pub low : place ≤ k
-  pub high : best ≤ 256
+  pub high : best ≤ noVerse
   pub ahead : (text : List ℕ) → min best (least from (chain text s log place)) ≡ least from (chain text s log k)
 
-pub looking-start : (s : List ℕ) (log k from : ℕ) → Looking s log k from 256 k
+pub looking-start : (s : List ℕ) (log k from : ℕ) → Looking s log k from noVerse k
 looking-start s log k from = record { low = omega arith; high = omega arith; ahead = λ text. omega (arith, least-low from (chain text s log k)) }
 
-better-low : (from best verse code : ℕ) → best ≤ 256 → better from best verse code ≤ 256
-better-low from best verse code h = go (eqb code 4) (leb from verse)
+better-low : (from best verse code : ℕ) → best ≤ noVerse → better from best verse code ≤ noVerse
+better-low from best verse code h = go (eqb code holdCode) (leb from verse)
   where
-    go : (a b : Bool) → cond a best (cond b (min verse best) best) ≤ 256
+    go : (a b : Bool) → cond a best (cond b (min verse best) best) ≤ noVerse
     go true b = h
     go false true = omega arith
     go false false = h
@@ -61,8 +61,8 @@ pub record Seeking (s : List ℕ) (log k v : ℕ) (x : Bool) (place : ℕ) : Typ
 pub seeking-start : (s : List ℕ) (log k v : ℕ) → Seeking s log k v false k
 seeking-start s log k v = record { low = omega arith; ahead = λ text. refl }
 
-pub seeking-next : (s : List ℕ) (log k v : ℕ) (x : Bool) (place : ℕ) → Seeking s log k v x place → (r : Link) → LinkIs s log place r → (not (eqb (r .code) 4) && eqb (r .verse) v) ≡ false
-    → (b : Bool) → b ≡ (x || (eqb (r .code) 4 && eqb (r .verse) v)) → Seeking s log k v b (r .next)
+pub seeking-next : (s : List ℕ) (log k v : ℕ) (x : Bool) (place : ℕ) → Seeking s log k v x place → (r : Link) → LinkIs s log place r → (not (eqb (r .code) holdCode) && eqb (r .verse) v) ≡ false
+    → (b : Bool) → b ≡ (x || (eqb (r .code) holdCode && eqb (r .verse) v)) → Seeking s log k v b (r .next)
 seeking-next s log k v x place w r i n b e =
     record {
       low = omega (arith, w .low, i .low);
@@ -81,10 +81,10 @@ unfolding syllableOf syllableIs held
 found-is text r v true e = rw (eq-eqb (r .verse) v e)
 found-is text r v false e = refl
 
-pub seeking-found : (s : List ℕ) (log k v : ℕ) (x : Bool) (place : ℕ) → Seeking s log k v x place → (r : Link) → LinkIs s log place r → (not (eqb (r .code) 4) && eqb (r .verse) v) ≡ true
+pub seeking-found : (s : List ℕ) (log k v : ℕ) (x : Bool) (place : ℕ) → Seeking s log k v x place → (r : Link) → LinkIs s log place r → (not (eqb (r .code) holdCode) && eqb (r .verse) v) ≡ true
     → FoundIs s log k v (N.Sung (found r x))
 seeking-found s log k v x place w r i y =
-    let e : r .verse ≡ v = eqb-true (r .verse) v (and-right (not (eqb (r .code) 4)) (eqb (r .verse) v) y) in
+    let e : r .verse ≡ v = eqb-true (r .verse) v (and-right (not (eqb (r .code) holdCode)) (eqb (r .verse) v) y) in
     record {
       found = λ text. (
         e,
@@ -109,13 +109,13 @@ module _ (s : List ℕ) (log k from m : ℕ) (bytes : (i : ℕ) → getD s i 0 <
   l : (text : List ℕ) → m ≡ least from (chain text s log k)
   l = is .least-is
 
-  pub no-more : m ≡ 256 → NextIs s log k from N.NoMore
+  pub no-more : m ≡ noVerse → NextIs s log k from N.NoMore
   no-more e = record { goes = λ text. next-none from 0 (chain text s log k) (rising-chain text s log k k) (verses-small text s log k k bytes) (sym (l text) ∙ e) }
 
-  below : (m ≡ 256 → ⊥) → m < 256
+  below : (m ≡ noVerse → ⊥) → m < noVerse
   below d = omega (arith, l [], least-low from (chain [] s log k))
 
-  pub one-more : (m ≡ 256 → ⊥) → (r : Next) → FoundIs s log k m r → NextIs s log k from r
+  pub one-more : (m ≡ noVerse → ⊥) → (r : Next) → FoundIs s log k m r → NextIs s log k from r
   one-more d (N.Sung f) i =
       record {
         goes = λ text.

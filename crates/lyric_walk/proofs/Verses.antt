@@ -11,8 +11,8 @@ use Rattle.laws.specs.Lists.{All}
 use Rattle.laws.proofs.Bools.{by-test}
 use Rattle.reader.specs.Lyrics.{Syllable, put, held}
 use Rattle.lyrics.specs.declared.Row.{Row}
-use Rattle.lyrics.specs.Sheet.{syllableOf, happens, sungFrom, rowOf, rowAt, nextOf}
-use Rattle.lyric_walk.specs.Walks.{least, better, ofVerse, fromVerse}
+use Rattle.lyrics.specs.Sheet.{holdCode, syllableOf, applyRow, sungFrom, rowOf, rowAt, nextOf}
+use Rattle.lyric_walk.specs.Walks.{noVerse, least, better, ofVerse, fromVerse}
 
 -- RISING VERSES
 abbrev pub Rising : ℕ → List Syllable → Type 0
@@ -38,10 +38,10 @@ rising-held : (low v : ℕ) (ys : List Syllable) → Rising low ys → Rising lo
 rising-held low v [] r = tt
 rising-held low v (y ∷ ys) r = rw (held-verse v y) (r .0, rising-held (suc (y .verse)) v ys (r .1))
 
-pub rising-row : (text : List ℕ) (r : Row) (ys : List Syllable) → Rising 0 ys → Rising 0 (happens text r ys)
-unfolding happens
+pub rising-row : (text : List ℕ) (r : Row) (ys : List Syllable) → Rising 0 ys → Rising 0 (applyRow text r ys)
+unfolding applyRow
 rising-row text r ys h =
-    by-test (eqb (r .code) 4) (λ e. rw (e, happens) (rising-held 0 (r .verse) ys h)) (λ e. rw (e, happens) (rising-put 0 (syllableOf text r) ys (omega arith) h))
+    by-test (eqb (r .code) holdCode) (λ e. rw (e, applyRow) (rising-held 0 (r .verse) ys h)) (λ e. rw (e, applyRow) (rising-put 0 (syllableOf text r) ys (omega arith) h))
 
 pub rising-chain : (text s : List ℕ) (log n k : ℕ) → Rising 0 (sungFrom text s log n k)
 unfolding sungFrom
@@ -97,22 +97,22 @@ least-put from x (y ∷ ys) =
     (λ f. rw (e, f, put) (least-is from x (y ∷ ys))))
 
 -- a row: what was the least so far
-pub least-row : (text : List ℕ) (r : Row) (from best : ℕ) (ys : List Syllable) → min best (least from (happens text r ys)) ≡ min (better from best (r .verse) (r .code)) (least from ys)
-unfolding happens syllableOf
+pub least-row : (text : List ℕ) (r : Row) (from best : ℕ) (ys : List Syllable) → min best (least from (applyRow text r ys)) ≡ min (better from best (r .verse) (r .code)) (least from ys)
+unfolding applyRow syllableOf
 least-row text r from best ys =
-    by-test (eqb (r .code) 4) (λ e. rw (e, happens) (ap (min best) (least-held from (r .verse) ys)))
-    (λ e. rw (e, happens) (ap (min best) (least-put from (syllableOf text r) ys) ∙ by-test (leb from (r .verse)) (λ f. rw f (omega arith)) (λ f. rw f refl)))
+    by-test (eqb (r .code) holdCode) (λ e. rw (e, applyRow) (ap (min best) (least-held from (r .verse) ys)))
+    (λ e. rw (e, applyRow) (ap (min best) (least-put from (syllableOf text r) ys) ∙ by-test (leb from (r .verse)) (λ f. rw f (omega arith)) (λ f. rw f refl)))
 
 -- nothing is left of an empty chain
-pub least-none : (from best : ℕ) → best ≤ 256 → min best (least from []) ≡ best
+pub least-none : (from best : ℕ) → best ≤ noVerse → min best (least from []) ≡ best
 unfolding least
 least-none from best h = omega arith
 
-least-nil : (from : ℕ) → least from [] ≡ 256
+least-nil : (from : ℕ) → least from [] ≡ noVerse
 unfolding least
 least-nil from = refl
 
-pub least-low : (from : ℕ) (ys : List Syllable) → least from ys ≤ 256
+pub least-low : (from : ℕ) (ys : List Syllable) → least from ys ≤ noVerse
 least-low from [] = omega (arith, least-nil from)
 least-low from (y ∷ ys) = by-test (leb from (y .verse)) (λ e. omega (arith, least-yes from y ys e, least-low from ys)) (λ e. omega (arith, least-no from y ys e, least-low from ys))
 
@@ -195,16 +195,16 @@ held-by v true ys = held-again v ys
 held-by v false ys = refl
 
 -- A ROW that is not the syllable sought: holds go on
-pub of-row : (text : List ℕ) (r : Row) (v : ℕ) (x : Bool) (ys : List Syllable) → (not (eqb (r .code) 4) && eqb (r .verse) v) ≡ false
-    → heldBy v x (ofVerse v (happens text r ys)) ≡ heldBy v (x || (eqb (r .code) 4 && eqb (r .verse) v)) (ofVerse v ys)
-unfolding happens syllableOf
+pub of-row : (text : List ℕ) (r : Row) (v : ℕ) (x : Bool) (ys : List Syllable) → (not (eqb (r .code) holdCode) && eqb (r .verse) v) ≡ false
+    → heldBy v x (ofVerse v (applyRow text r ys)) ≡ heldBy v (x || (eqb (r .code) holdCode && eqb (r .verse) v)) (ofVerse v ys)
+unfolding applyRow syllableOf
 of-row text r v x ys n =
-    by-test (eqb (r .code) 4)
-    (λ e. rw (e, happens) (ap (heldBy v x) (of-held v (r .verse) ys)
+    by-test (eqb (r .code) holdCode)
+    (λ e. rw (e, applyRow) (ap (heldBy v x) (of-held v (r .verse) ys)
     ∙ by-test (eqb (r .verse) v)
     (λ f. rw f (ap (λ (u : ℕ). heldBy v x (map (held u) (ofVerse v ys))) (eqb-true (r .verse) v f) ∙ held-by v x (ofVerse v ys) ∙ or-true v x (ofVerse v ys)))
     (λ f. rw f (ap (heldBy v x) (held-other v (r .verse) ys (eqb-false (r .verse) v f)) ∙ or-false v x (ofVerse v ys)))))
-    (λ e. rw (e, happens) (ap (heldBy v x) (of-put-other v (syllableOf text r) ys (eqb-false (r .verse) v (rw e at n))) ∙ or-false v x (ofVerse v ys)))
+    (λ e. rw (e, applyRow) (ap (heldBy v x) (of-put-other v (syllableOf text r) ys (eqb-false (r .verse) v (rw e at n))) ∙ or-false v x (ofVerse v ys)))
   where
     or-true : (w : ℕ) (b : Bool) (zs : List Syllable) → heldBy w true zs ≡ heldBy w (b || true) zs
     or-true w true zs = refl
@@ -215,12 +215,12 @@ of-row text r v x ys n =
     or-false w false zs = refl
 
 -- the syllable sought
-pub of-found : (text : List ℕ) (r : Row) (v : ℕ) (x : Bool) (ys : List Syllable) → (not (eqb (r .code) 4) && eqb (r .verse) v) ≡ true → Rising 0 ys
-    → heldBy v x (ofVerse v (happens text r ys)) ≡ heldBy v x (syllableOf text r ∷ [])
-unfolding happens syllableOf
+pub of-found : (text : List ℕ) (r : Row) (v : ℕ) (x : Bool) (ys : List Syllable) → (not (eqb (r .code) holdCode) && eqb (r .verse) v) ≡ true → Rising 0 ys
+    → heldBy v x (ofVerse v (applyRow text r ys)) ≡ heldBy v x (syllableOf text r ∷ [])
+unfolding applyRow syllableOf
 of-found text r v x ys y rising =
-    by-test (eqb (r .code) 4) (λ e. absurd (false≢true (rw e at y)))
-    (λ e. rw (e, happens) (ap (heldBy v x) (of-put-same v 0 (syllableOf text r) ys (eqb-true (r .verse) v (rw e at y)) rising)))
+    by-test (eqb (r .code) holdCode) (λ e. absurd (false≢true (rw e at y)))
+    (λ e. rw (e, applyRow) (ap (heldBy v x) (of-put-same v 0 (syllableOf text r) ys (eqb-true (r .verse) v (rw e at y)) rising)))
 
 -- THE SYLLABLES FROM A VERSE ON
 from-yes : (v : ℕ) (y : Syllable) (ys : List Syllable) → v ≤ y .verse → fromVerse v (y ∷ ys) ≡ y ∷ fromVerse v ys
@@ -240,7 +240,7 @@ walk-start text s log n k = from-all 0 0 (sungFrom text s log n k) (omega arith)
 abbrev pub Small : List Syllable → Type 0
 Small ys = All (λ (y : Syllable). y .verse < 256) ys
 
-least-above : (from low : ℕ) (ys : List Syllable) → low ≤ 256 → Rising low ys → Small ys → low ≤ least from ys
+least-above : (from low : ℕ) (ys : List Syllable) → low ≤ noVerse → Rising low ys → Small ys → low ≤ least from ys
 least-above from low [] h r a = omega (arith, least-nil from)
 least-above from low (y ∷ ys) h r a =
     let rest = least-above from (suc (y .verse)) ys (omega (arith, a .0)) (r .1) (a .1) in
@@ -250,24 +250,24 @@ least-above from low (y ∷ ys) h r a =
 least-first : (from low : ℕ) (y : Syllable) (ys : List Syllable) → Rising low (y ∷ ys) → Small (y ∷ ys) → leb from (y .verse) ≡ true → least from (y ∷ ys) ≡ y .verse
 least-first from low y ys r a e = omega (arith, least-yes from y ys e, least-above from (suc (y .verse)) ys (omega (arith, a .0)) (r .1) (a .1))
 
-least-from : (from : ℕ) (ys : List Syllable) → least from ys < 256 → from ≤ least from ys
+least-from : (from : ℕ) (ys : List Syllable) → least from ys < noVerse → from ≤ least from ys
 least-from from [] h = absurd (omega (arith, least-nil from))
 least-from from (y ∷ ys) h =
-    by-test (leb from (y .verse)) (λ e. go e (decLt (least from ys) 256) (λ l. least-from from ys l))
+    by-test (leb from (y .verse)) (λ e. go e (decLt (least from ys) noVerse) (λ l. least-from from ys l))
     (λ e. omega (arith, least-no from y ys e, least-from from ys (omega (arith, least-no from y ys e))))
   where
-    go : leb from (y .verse) ≡ true → Dec (least from ys < 256) → (least from ys < 256 → from ≤ least from ys) → from ≤ least from (y ∷ ys)
+    go : leb from (y .verse) ≡ true → Dec (least from ys < noVerse) → (least from ys < noVerse → from ≤ least from ys) → from ≤ least from (y ∷ ys)
     go e (yes l) ih = omega (arith, least-yes from y ys e, leb-true from (y .verse) e, ih l)
     go e (no l) ih = omega (arith, h, least-yes from y ys e, leb-true from (y .verse) e)
 
 -- THE NEXT SYLLABLE
-pub next-none : (from low : ℕ) (ys : List Syllable) → Rising low ys → Small ys → least from ys ≡ 256 → fromVerse from ys ≡ []
+pub next-none : (from low : ℕ) (ys : List Syllable) → Rising low ys → Small ys → least from ys ≡ noVerse → fromVerse from ys ≡ []
 next-none from low [] r a e = refl
 next-none from low (y ∷ ys) r a e =
     by-test (leb from (y .verse)) (λ f. absurd (omega (arith, e, a .0, least-first from low y ys r a f)))
     (λ f. from-no from y ys (leb-false from (y .verse) f) ∙ next-none from (suc (y .verse)) ys (r .1) (a .1) (sym (least-no from y ys f) ∙ e))
 
-pub next-some : (from low m : ℕ) (ys : List Syllable) → Rising low ys → Small ys → least from ys ≡ m → m < 256 → (z : Syllable) → ofVerse m ys ≡ z ∷ []
+pub next-some : (from low m : ℕ) (ys : List Syllable) → Rising low ys → Small ys → least from ys ≡ m → m < noVerse → (z : Syllable) → ofVerse m ys ≡ z ∷ []
     → fromVerse from ys ≡ z ∷ fromVerse (m + 1) ys
 next-some from low m [] r a e h z o = absurd (omega (arith, e, least-nil from))
 next-some from low m (y ∷ ys) r a e h z o =
@@ -286,7 +286,7 @@ next-some from low m (y ∷ ys) r a e h z o =
     ∙ next-some from (suc (y .verse)) m ys (r .1) (a .1) on h z (sym (of-no m y ys (λ g. absurd (omega (arith, g)))) ∙ o)
     ∙ ap (λ (l : List Syllable). z ∷ l) (sym (from-no (m + 1) y ys (omega arith))))
 
-pub next-must : (from low m : ℕ) (ys : List Syllable) → Rising low ys → Small ys → least from ys ≡ m → m < 256 → ofVerse m ys ≡ [] → ⊥
+pub next-must : (from low m : ℕ) (ys : List Syllable) → Rising low ys → Small ys → least from ys ≡ m → m < noVerse → ofVerse m ys ≡ [] → ⊥
 next-must from low m [] r a e h o = absurd (omega (arith, e, least-nil from))
 next-must from low m (y ∷ ys) r a e h o =
     by-test (leb from (y .verse)) (λ f. nil≢cons (sym o ∙ of-yes m y ys (sym (least-first from low y ys r a f) ∙ e)))

@@ -13,7 +13,7 @@ use Rattle.laws.proofs.Parts.{length-between, part-suc}
 use Rattle.standard.specs.Lyrics.{syllableText}
 use Rattle.reader.specs.Lyrics.{Syllable, put}
 use Rattle.lyrics.specs.declared.Sheet.{Sheet}
-use Rattle.lyrics.specs.Sheet.{syllableOf, happens, syllablesIn}
+use Rattle.lyrics.specs.Sheet.{holdCode, syllableOf, applyRow, syllablesIn}
 use Rattle.lyric_walk.specs.declared.Found.{Found}
 use Rattle.lyric_walk.specs.declared.Next.the-variants as N
 use Rattle.lyric_walk.specs.declared.Sole.the-variants as S
@@ -50,17 +50,17 @@ pub sole-none : (text s : List ℕ) (log k : ℕ) → k ≡ 0 → SoleIs text s 
 sole-none text s log k e = record { says = ap (chain text s log) e ∙ chain-none text s log }
 
 module _ (text s : List ℕ) (log k : ℕ) (r : Link) (is : LinkIs s log k r) (last : r .next ≡ 0) where
-  alone : chain text s log k ≡ happens text (rowOfLink r) []
-  alone = is .sung text ∙ ap (happens text (rowOfLink r)) (ap (chain text s log) last ∙ chain-none text s log)
+  alone : chain text s log k ≡ applyRow text (rowOfLink r) []
+  alone = is .sung text ∙ ap (applyRow text (rowOfLink r)) (ap (chain text s log) last ∙ chain-none text s log)
 
-  pub sole-hold : r .code ≡ 4 → SoleIs text s log k S.Nothing
-  unfolding happens
-  sole-hold e = record { says = alone ∙ rw (eq-eqb (r .code) 4 e, happens) }
+  pub sole-hold : r .code ≡ holdCode → SoleIs text s log k S.Nothing
+  unfolding applyRow
+  sole-hold e = record { says = alone ∙ rw (eq-eqb (r .code) holdCode e, applyRow) }
 
-  pub sole-one : (r .code ≡ 4 → ⊥) → (f : Found) → InText (length text) (found r false) f → SoleIs text s log k (S.One f)
-  unfolding happens put syllableOf syllableIs
+  pub sole-one : (r .code ≡ holdCode → ⊥) → (f : Found) → InText (length text) (found r false) f → SoleIs text s log k (S.One f)
+  unfolding applyRow put syllableOf syllableIs
   sole-one n f i =
-      let one : happens text (rowOfLink r) [] ≡ syllableIs text (found r false) ∷ [] = rw (ne-eqb (r .code) 4 n, happens) in
+      let one : applyRow text (rowOfLink r) [] ≡ syllableIs text (found r false) ∷ [] = rw (ne-eqb (r .code) holdCode n, applyRow) in
       record { says = (alone ∙ one ∙ ap (λ (y : Syllable). y ∷ []) (sym (same-syllable text (found r false) f i)), i .cut .order, i .cut .high) }
 
 -- WALKING

@@ -14,7 +14,7 @@ use Rattle.reader.specs.Lyrics.{Syllable}
 use Rattle.lyric_words.specs.Words.{asSyllabic}
 use Rattle.lyrics.specs.declared.Sheet.{Sheet}
 use Rattle.lyrics.specs.declared.Row.{Row}
-use Rattle.lyrics.specs.Sheet.{happens, sungFrom, syllablesIn}
+use Rattle.lyrics.specs.Sheet.{lyricHeadWidth, lyricRowWidth, holdCode, applyRow, sungFrom, syllablesIn}
 use Rattle.lyric_walk.specs.declared.Found.{Found}
 use Rattle.lyric_walk.specs.declared.Next.{Next}
 use Rattle.lyric_walk.specs.declared.Next.the-variants as N
@@ -24,8 +24,8 @@ use Rattle.lyric_walk.specs.declared.Link.{Link}
 
 -- the tables are within scratch
 pub record Tables (s : List ℕ) (h : Sheet) : Type 0 where
-  pub heads : h .heads + 4 * h .sounded ≤ length s
-  pub log : h .log + 16 * h .count ≤ length s
+  pub heads : h .heads + lyricHeadWidth * h .sounded ≤ length s
+  pub log : h .log + lyricRowWidth * h .count ≤ length s
 
 -- what the chain from row k on says
 abbrev pub chain : List ℕ → List ℕ → ℕ → ℕ → List Syllable
@@ -42,11 +42,15 @@ rowOfLink r = record { verse = r .verse; code = r .code; at = r .at; end = r .en
 -- r is row k, and the chain goes on below it
 pub record LinkIs (s : List ℕ) (log k : ℕ) (r : Link) : Type 0 where
   pub low : r .next < k
-  pub sung : (text : List ℕ) → chain text s log k ≡ happens text (rowOfLink r) (chain text s log (r .next))
+  pub sung : (text : List ℕ) → chain text s log k ≡ applyRow text (rowOfLink r) (chain text s log (r .next))
 
--- the least verse from `from` on; 256 for none
+-- a number past every verse
+abbrev pub noVerse : ℕ
+noVerse = 256
+
+-- the least verse from `from` on; noVerse for none
 unfoldable pub least : ℕ → List Syllable → ℕ
-least from [] = 256
+least from [] = noVerse
 least from (y ∷ ys) = cond (leb from (y .verse)) (min (y .verse) (least from ys)) (least from ys)
 
 -- m is the least verse from `from` on in the chain from row k on
@@ -55,7 +59,7 @@ pub record LeastIs (s : List ℕ) (log k from m : ℕ) : Type 0 where
 
 -- the least so far, after a row
 abbrev pub better : ℕ → ℕ → ℕ → ℕ → ℕ
-better from best verse code = cond (eqb code 4) best (cond (leb from verse) (min verse best) best)
+better from best verse code = cond (eqb code holdCode) best (cond (leb from verse) (min verse best) best)
 
 -- the syllables of one verse; those from a verse on
 abbrev pub ofVerse : ℕ → List Syllable → List Syllable

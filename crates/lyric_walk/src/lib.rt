@@ -4,7 +4,11 @@ ghost use mathlib.Core.Path.{_≡_};
 ghost use mathlib.Core.Bool.{cond, not, _&&_, _||_};
 ghost use lib.Dec.{eqb, ltb};
 ghost use lib.ListN.{length};
+ghost use Rattle.lyrics.specs.Sheet.{lyricRowWidth, holdCode};
 ghost use Rattle.lyric_walk.specs.Walks.{Tables, HeadIs, LinkIs, LeastIs, better, FoundIs, NextIs, withPlace, InText, NextIn, SoleIs, sungByte};
+
+// A number past every verse, for none.
+const NO_VERSE: usize = 256;
 
 // A syllable: its verse, its syllabic's number, whether a later note holds it, and its place in the text.
 pub struct Found {
@@ -48,23 +52,23 @@ pub fn head(scratch: &[u8], sheet: lyrics::Sheet, note: usize) -> usize
     requires { ⌜ (Tables (now scratch) sheet) × (note < sheet .sounded) × (sheet .count + 1 < 18446744073709551616) ⌝ }
     ensures { λ r. ⌜ HeadIs (now (scratch .entry)) sheet note r ⌝ }
 {
-    let place = store::get_u32(scratch, sheet.heads + 4 * note);
+    let place = store::get_u32(scratch, sheet.heads + lyrics::HEAD * note);
     below(sheet.count + 1, place as usize)
 }
 
 // Row k of the log, from 1.
 fn get_link(scratch: &[u8], log: usize, k: usize) -> Link
-    requires { ⌜ (1 ≤ k) × (log + 16 * k ≤ length (now scratch)) ⌝ }
+    requires { ⌜ (1 ≤ k) × (log + lyricRowWidth * k ≤ length (now scratch)) ⌝ }
     ensures { λ r. ⌜ LinkIs (now (scratch .entry)) log k r ⌝ }
 {
-    let from = log + 16 * (k - 1);
-    let at = store::get_u32(scratch, from + 4);
-    let end = store::get_u32(scratch, from + 8);
-    let place = store::get_u32(scratch, from + 12);
+    let from = log + lyrics::ROW * (k - 1);
+    let at = store::get_u32(scratch, from + lyrics::AT);
+    let end = store::get_u32(scratch, from + lyrics::END);
+    let place = store::get_u32(scratch, from + lyrics::NEXT);
     let next = below(k, place as usize);
     Link {
         verse: scratch[from],
-        code: scratch[from + 1],
+        code: scratch[from + lyrics::CODE],
         at: at as usize,
         end: end as usize,
         next,
@@ -87,12 +91,12 @@ fn less_of(from: usize, best: usize, verse: usize, code: u8) -> usize
     best
 }
 
-// The least verse from `from` on that is sung in the chain from row k on; 256 for none.
+// The least verse from `from` on that is sung in the chain from row k on; NO_VERSE for none.
 fn next_verse(scratch: &[u8], log: usize, k: usize, from: usize) -> usize
-    requires { ⌜ log + 16 * k ≤ length (now scratch) ⌝ }
+    requires { ⌜ log + lyricRowWidth * k ≤ length (now scratch) ⌝ }
     ensures { λ r. ⌜ LeastIs (now (scratch .entry)) log k from r ⌝ }
 {
-    let mut best: usize = 256;
+    let mut best = NO_VERSE;
     let mut place = k;
     while 0 < place {
         let row = get_link(scratch, log, place);
@@ -104,7 +108,7 @@ fn next_verse(scratch: &[u8], log: usize, k: usize, from: usize) -> usize
 
 // The row is a syllable of the verse.
 fn sings(verse: u8, code: u8, wanted: usize) -> bool
-    ensures { λ r. ⌜ r ≡ (not (eqb code 4) && eqb verse wanted) ⌝ }
+    ensures { λ r. ⌜ r ≡ (not (eqb code holdCode) && eqb verse wanted) ⌝ }
 {
     if code == lyrics::HOLD {
         return false;
@@ -114,7 +118,7 @@ fn sings(verse: u8, code: u8, wanted: usize) -> bool
 
 // It is held, by this row or a later one.
 fn is_held(held: bool, verse: u8, code: u8, wanted: usize) -> bool
-    ensures { λ r. ⌜ r ≡ (held || (eqb code 4 && eqb verse wanted)) ⌝ }
+    ensures { λ r. ⌜ r ≡ (held || (eqb code holdCode && eqb verse wanted)) ⌝ }
 {
     if held {
         return true;
@@ -127,7 +131,7 @@ fn is_held(held: bool, verse: u8, code: u8, wanted: usize) -> bool
 
 // The syllable of a verse in the chain from row k on.
 fn find(scratch: &[u8], log: usize, k: usize, wanted: usize) -> Next
-    requires { ⌜ log + 16 * k ≤ length (now scratch) ⌝ }
+    requires { ⌜ log + lyricRowWidth * k ≤ length (now scratch) ⌝ }
     ensures { λ r. ⌜ FoundIs (now (scratch .entry)) log k wanted r ⌝ }
 {
     let mut extend = false;
@@ -152,11 +156,11 @@ fn find(scratch: &[u8], log: usize, k: usize, wanted: usize) -> Next
 
 // The first syllable from verse `from` on in the chain from row k on.
 fn first_from(scratch: &[u8], log: usize, k: usize, from: usize) -> Next
-    requires { ⌜ log + 16 * k ≤ length (now scratch) ⌝ }
+    requires { ⌜ log + lyricRowWidth * k ≤ length (now scratch) ⌝ }
     ensures { λ r. ⌜ NextIs (now (scratch .entry)) log k from r ⌝ }
 {
     let verse = next_verse(scratch, log, k, from);
-    if verse == 256 {
+    if verse == NO_VERSE {
         return Next::NoMore;
     }
     find(scratch, log, k, verse)
@@ -193,7 +197,7 @@ fn in_text(len: usize, f: Found) -> Found
 
 // The first syllable from verse `from` on in the chain from row k on. All of a note's: k is its head; from 0 on, then from each one's verse and 1 on.
 pub fn next_syllable(text: &[u8], scratch: &[u8], log: usize, k: usize, from: usize) -> Next
-    requires { ⌜ log + 16 * k ≤ length (now scratch) ⌝ }
+    requires { ⌜ log + lyricRowWidth * k ≤ length (now scratch) ⌝ }
     ensures { λ r. ⌜ NextIn (now (text .entry)) (now (scratch .entry)) log k from r ⌝ }
 {
     let Next::Sung(f) = first_from(scratch, log, k, from) else {
@@ -205,7 +209,7 @@ pub fn next_syllable(text: &[u8], scratch: &[u8], log: usize, k: usize, from: us
 
 // What is sung to a note whose chain begins at row k, at once where it has one row or none.
 pub fn sole_syllable(text: &[u8], scratch: &[u8], log: usize, k: usize) -> Sole
-    requires { ⌜ log + 16 * k ≤ length (now scratch) ⌝ }
+    requires { ⌜ log + lyricRowWidth * k ≤ length (now scratch) ⌝ }
     ensures { λ r. ⌜ SoleIs (now (text .entry)) (now (scratch .entry)) log k r ⌝ }
 {
     if k == 0 {

@@ -9,23 +9,23 @@ use lib.Dec.{eqb}
 use lib.ListN.{length, getD, take, drop, replicate, getD-replicate}
 use borrow.Author.Tests.{eq-eqb, ne-eqb}
 use Rattle.laws.specs.Lists.{All, filter}
-use Rattle.laws.specs.Bytes.{part, between, splice, zeros, rows, u32At}
+use Rattle.laws.specs.Bytes.{part, between, splice, zeros, rows}
 use Rattle.laws.proofs.Bools.{and-no-left, and-no-right, and-both}
 use Rattle.laws.proofs.Lists.{map-append, filter-append, filter-yes, filter-no, sum-append, All-append}
-use Rattle.laws.proofs.Parts.{getD-part, length-between, part-front}
+use Rattle.laws.proofs.Parts.{length-between, part-front}
 use Rattle.laws.proofs.Splices.{length-splice, length-zeros, take-splice, drop-splice-past, byte-same}
-use Rattle.laws.proofs.Numbers.{littleAt-part, littleAt-own, u32-sum}
+use Rattle.laws.proofs.Numbers.{littleAt-own, u32-sum}
 use Rattle.laws.proofs.Rows.{rows-more, rows-none, rows-front, length-rows}
 use Rattle.reader.specs.State as reader
 use Rattle.reader.specs.Scan.{Item, voiceDeclared, reset, keyInHeader, keyChange, meterChange, lyricLine, musicLine}
 use Rattle.reader.specs.Lyrics.{Syllable, sing, sungBy, lyricWords}
 use Rattle.scan_table.specs.declared.Row as items
-use Rattle.scan_table.specs.Rows.{decItem, itemsFrom, itemBytes, itemAs, itemIn, RowIs}
+use Rattle.scan_table.specs.Rows.{itemsFrom, itemRowWidth, rowFrom, lyricLineKind, decItem, itemAt, itemAs, itemIn, RowIs}
 use Rattle.lyrics.specs.declared.Sheet.{Sheet}
 use Rattle.lyrics.specs.declared.Line.{Line}
-use Rattle.lyrics.specs.Sheet.{withCount, sungFrom, headOf, headsIn, syllablesIn, Kept, Outside}
+use Rattle.lyrics.specs.Sheet.{lyricHeadWidth, lyricRowWidth, withCount, sungFrom, headOf, headsIn, syllablesIn, Kept, Outside}
 use Rattle.lyrics.specs.Lines.{rowsFor, LineFits, LineSung}
-use Rattle.lyrics.specs.Items.{isLine, lineIn, itemAt, lineOf, linesIn, rowsOf, LineFrom, ItemFits, ItemSung, Fits, AllSung}
+use Rattle.lyrics.specs.Items.{isLine, lineIn, lineOf, linesIn, rowsOf, LineFrom, ItemFits, ItemSung, Fits, AllSung}
 use Rattle.lyrics.proofs.Sheets.{outside-none, outside-next}
 
 -- AN ITEM
@@ -39,15 +39,15 @@ wordsOfItem (meterChange t) = []
 wordsOfItem (lyricLine p t) = t
 wordsOfItem (musicLine u t l) = []
 
-words-five : (text : List ℕ) (r : items.Row) (k : ℕ) → k ≡ 5 → wordsOfItem (itemAs k text r) ≡ between text (r .at) (r .end)
+lyric-words : (text : List ℕ) (r : items.Row) (k : ℕ) → k ≡ lyricLineKind → wordsOfItem (itemAs k text r) ≡ between text (r .at) (r .end)
 unfolding itemAs wordsOfItem
-words-five text r k e = ap (λ (j : ℕ). wordsOfItem (itemAs j text r)) e
+lyric-words text r k e = ap (λ (j : ℕ). wordsOfItem (itemAs j text r)) e
 
 -- the place that was read of a lyric item has its words
-pub item-words : (text : List ℕ) (q r : items.Row) → RowIs text q r → r .kind ≡ 5 → between text (r .at) (r .end) ≡ between text (q .at) (q .end)
+pub item-words : (text : List ℕ) (q r : items.Row) → RowIs text q r → r .kind ≡ lyricLineKind → between text (r .at) (r .end) ≡ between text (q .at) (q .end)
 unfolding itemIn
 item-words text q r i e =
-    sym (words-five text r (r .kind) e) ∙ ap (λ (x : ℕ × Item). wordsOfItem (x .1)) (i .item) ∙ words-five text q (q .kind) (sym (i .kind) ∙ e)
+    sym (lyric-words text r (r .kind) e) ∙ ap (λ (x : ℕ × Item). wordsOfItem (x .1)) (i .item) ∙ lyric-words text q (q .kind) (sym (i .kind) ∙ e)
 
 item-part : (text : List ℕ) (q r : items.Row) → RowIs text q r → r .part ≡ q .part
 unfolding itemIn
@@ -74,22 +74,22 @@ skipped text s p i h kept e =
       sung = ap (λ (ls : List reader.Sung). sungBy ls (syllablesIn text s h)) (sym (no-line text p (itemAt s i) e));
       more = omega arith;
       room = omega arith;
-      outside = outside-none s (h .heads) (h .log + 16 * h .count);
+      outside = outside-none s (h .heads) (h .log + lyricRowWidth * h .count);
     }
 
 module _ (text s : List ℕ) (p i : ℕ) (h : Sheet) (r : items.Row) (is : RowIs text (itemAt s i) r) where
-  pub other-kind : Kept s h → (r .kind ≡ 5 → ⊥) → ItemSung text s s p i h (h .count)
+  pub other-kind : Kept s h → (r .kind ≡ lyricLineKind → ⊥) → ItemSung text s s p i h (h .count)
   unfolding isLine
-  other-kind kept n = skipped text s p i h kept (and-no-left _ _ (ne-eqb (itemAt s i .kind) 5 (λ e. n (is .kind ∙ e))))
+  other-kind kept n = skipped text s p i h kept (and-no-left _ _ (ne-eqb (itemAt s i .kind) lyricLineKind (λ e. n (is .kind ∙ e))))
 
   pub other-part : Kept s h → (r .part ≡ p → ⊥) → ItemSung text s s p i h (h .count)
   unfolding isLine
-  other-part kept n = skipped text s p i h kept (and-no-right (eqb (itemAt s i .kind) 5) _ (ne-eqb (itemAt s i .part) p (λ e. n (item-part text (itemAt s i) r is ∙ e))))
+  other-part kept n = skipped text s p i h kept (and-no-right (eqb (itemAt s i .kind) lyricLineKind) _ (ne-eqb (itemAt s i .part) p (λ e. n (item-part text (itemAt s i) r is ∙ e))))
 
-  module _ (k : r .kind ≡ 5) (o : r .part ≡ p) (l : Line) (f : LineFrom (itemAt s i) (r .at) (r .end) l) where
+  module _ (k : r .kind ≡ lyricLineKind) (o : r .part ≡ p) (l : Line) (f : LineFrom r l) where
     yes-line : isLine p (itemAt s i) ≡ true
     unfolding isLine
-    yes-line = and-both _ _ (eq-eqb (itemAt s i .kind) 5 (sym (is .kind) ∙ k)) (eq-eqb (itemAt s i .part) p (sym (item-part text (itemAt s i) r is) ∙ o))
+    yes-line = and-both _ _ (eq-eqb (itemAt s i .kind) lyricLineKind (sym (is .kind) ∙ k)) (eq-eqb (itemAt s i .part) p (sym (item-part text (itemAt s i) r is) ∙ o))
 
     -- the line's text
     same-text : between text (l .at) (l .end) ≡ between text (itemAt s i .at) (itemAt s i .end)
@@ -121,7 +121,7 @@ module _ (text s : List ℕ) (p i : ℕ) (h : Sheet) (r : items.Row) (is : RowIs
           kept = x .kept;
           sung =
               x .sung
-              ∙ (λ j. sing (f .start j) (f .verse j) 0 (lyricWords (same-text j)) (syllablesIn text s h))
+              ∙ (λ j. sing ((f .start ∙ is .unit) j) ((f .verse ∙ is .b) j) 0 (lyricWords (same-text j)) (syllablesIn text s h))
               ∙ ap (λ (ls : List reader.Sung). sungBy ls (syllablesIn text s h)) (sym (one-line text p (itemAt s i) yes-line));
           more = x .more;
           room = omega (arith, x .room, needs-rows);
@@ -132,9 +132,9 @@ module _ (text s : List ℕ) (p i : ℕ) (h : Sheet) (r : items.Row) (is : RowIs
 pub lines-more : (text s : List ℕ) (p i : ℕ) → linesIn text s p (i + 1) ≡ linesIn text s p i ++ lineOf text p (itemAt s i)
 unfolding linesIn lineOf
 lines-more text s p i =
-    ap (λ (rs : List items.Row). map (lineIn text) (filter (isLine p) rs)) (rows-more decItem itemBytes s itemsFrom i)
-    ∙ ap (map (lineIn text)) (filter-append (isLine p) (rows decItem itemBytes s itemsFrom i) (itemAt s i ∷ []))
-    ∙ map-append (lineIn text) (filter (isLine p) (rows decItem itemBytes s itemsFrom i)) (filter (isLine p) (itemAt s i ∷ []))
+    ap (λ (rs : List items.Row). map (lineIn text) (filter (isLine p) rs)) (rows-more decItem itemRowWidth s itemsFrom i)
+    ∙ ap (map (lineIn text)) (filter-append (isLine p) (rows decItem itemRowWidth s itemsFrom i) (itemAt s i ∷ []))
+    ∙ map-append (lineIn text) (filter (isLine p) (rows decItem itemRowWidth s itemsFrom i)) (filter (isLine p) (itemAt s i ∷ []))
 
 rows-append : (xs ys : List reader.Sung) → rowsOf (xs ++ ys) ≡ rowsOf xs + rowsOf ys
 unfolding rowsOf
@@ -159,12 +159,12 @@ pub record Applying (text s₀ : List ℕ) (n p : ℕ) (h : Sheet) (notes : List
   pub kept : Kept s (withCount h count)
   pub sung : syllablesIn text s (withCount h count) ≡ sungBy (linesIn text s₀ p i) notes
   pub room : count ≤ rowsOf (linesIn text s₀ p i)
-  pub outside : Outside s₀ s (h .heads) (h .log + 16 * count)
+  pub outside : Outside s₀ s (h .heads) (h .log + lyricRowWidth * count)
   pub low : i ≤ n
 
 module _ (text s₀ : List ℕ) (n p : ℕ) (h : Sheet) (notes : List (List Syllable)) (fits : Fits text s₀ n p h) (s : List ℕ) (count i : ℕ) (v : Applying text s₀ n p h notes s count i) (l : i < n) where
   same-item : itemAt s i ≡ itemAt s₀ i
-  same-item = ap decItem (part-front s s₀ (h .heads) (itemsFrom + itemBytes * i) itemBytes (v .outside .low) (omega (arith, fits .before-heads)))
+  same-item = ap decItem (part-front s s₀ (h .heads) (rowFrom i) itemRowWidth (v .outside .low) (omega (arith, fits .before-heads)))
 
   same-line : lineOf text p (itemAt s i) ≡ lineOf text p (itemAt s₀ i)
   same-line = ap (lineOf text p) same-item
@@ -195,7 +195,7 @@ module _ (text s₀ : List ℕ) (n p : ℕ) (h : Sheet) (notes : List (List Syll
             ∙ sym (sung-append (linesIn text s₀ p i) (lineOf text p (itemAt s₀ i)) notes)
             ∙ ap (λ (ls : List reader.Sung). sungBy ls notes) (sym (lines-more text s₀ p i));
         room = omega (arith, x .room, v .room, more-rows text s₀ p i, ap rowsOf same-line);
-        outside = outside-next s₀ s t (h .heads) (h .log + 16 * count) (h .log + 16 * c) (v .outside) (omega (arith, x .more)) (x .outside);
+        outside = outside-next s₀ s t (h .heads) (h .log + lyricRowWidth * count) (h .log + lyricRowWidth * c) (v .outside) (omega (arith, x .more)) (x .outside);
         low = omega arith;
       }
 
@@ -211,7 +211,7 @@ applying-end text s₀ n p h notes s count i v l =
 
 no-lines : (text s : List ℕ) (p : ℕ) → linesIn text s p 0 ≡ []
 unfolding linesIn
-no-lines text s p = ap (λ (rs : List items.Row). map (lineIn text) (filter (isLine p) rs)) (rows-none decItem itemBytes s itemsFrom)
+no-lines text s p = ap (λ (rs : List items.Row). map (lineIn text) (filter (isLine p) rs)) (rows-none decItem itemRowWidth s itemsFrom)
 
 pub applying-start : (text s : List ℕ) (n p : ℕ) (h : Sheet) → Kept s (withCount h 0) → Applying text s n p h (syllablesIn text s (withCount h 0)) s 0 0
 unfolding sungBy
@@ -220,32 +220,32 @@ applying-start text s n p h kept =
       kept = kept;
       sung = ap (λ (ls : List reader.Sung). sungBy ls (syllablesIn text s (withCount h 0))) (sym (no-lines text s p));
       room = omega arith;
-      outside = outside-none s (h .heads) (h .log + 16 * 0);
+      outside = outside-none s (h .heads) (h .log + lyricRowWidth * 0);
       low = omega arith;
     }
 
 -- THE BEGINNING: no note has a row
-module _ (s t : List ℕ) (at n : ℕ) (inside : at + 4 * n ≤ length s) (e : t ≡ splice s at (zeros (at + 4 * n - at))) where
-  zero-byte : (k : ℕ) → k < 4 * n → getD t (at + k) 0 ≡ 0
+module _ (s t : List ℕ) (at n : ℕ) (inside : at + lyricHeadWidth * n ≤ length s) (e : t ≡ splice s at (zeros (at + lyricHeadWidth * n - at))) where
+  zero-byte : (k : ℕ) → k < lyricHeadWidth * n → getD t (at + k) 0 ≡ 0
   unfolding zeros
   zero-byte k h =
-      let z : length (zeros (at + 4 * n - at)) ≡ at + 4 * n - at = length-zeros (at + 4 * n - at) in
-      ap (λ (x : List ℕ). getD x (at + k) 0) e ∙ byte-same s at (zeros (at + 4 * n - at)) k (omega (arith, z)) (omega (arith, z)) ∙ getD-replicate (at + 4 * n - at) k 0 0 (omega arith)
+      let z : length (zeros (at + lyricHeadWidth * n - at)) ≡ at + lyricHeadWidth * n - at = length-zeros (at + lyricHeadWidth * n - at) in
+      ap (λ (x : List ℕ). getD x (at + k) 0) e ∙ byte-same s at (zeros (at + lyricHeadWidth * n - at)) k (omega (arith, z)) (omega (arith, z)) ∙ getD-replicate (at + lyricHeadWidth * n - at) k 0 0 (omega arith)
 
-  zero-head : (i : ℕ) → i < n → headOf (part t (at + 4 * i) 4) ≡ 0
+  zero-head : (i : ℕ) → i < n → headOf (part t (at + lyricHeadWidth * i) lyricHeadWidth) ≡ 0
   unfolding headOf
   zero-head i h =
-      let a : at + 4 * i + 1 ≡ at + (4 * i + 1) = omega arith in
-      let b : at + 4 * i + 2 ≡ at + (4 * i + 2) = omega arith in
-      let c : at + 4 * i + 3 ≡ at + (4 * i + 3) = omega arith in
-      sym (littleAt-own 4 t (at + 4 * i)) ∙ u32-sum t (at + 4 * i)
-      ∙ rw (a, b, c, zero-byte (4 * i) (omega arith), zero-byte (4 * i + 1) (omega arith), zero-byte (4 * i + 2) (omega arith), zero-byte (4 * i + 3) (omega arith))
+      let a : at + lyricHeadWidth * i + 1 ≡ at + (lyricHeadWidth * i + 1) = omega arith in
+      let b : at + lyricHeadWidth * i + 2 ≡ at + (lyricHeadWidth * i + 2) = omega arith in
+      let c : at + lyricHeadWidth * i + 3 ≡ at + (lyricHeadWidth * i + 3) = omega arith in
+      sym (littleAt-own 4 t (at + lyricHeadWidth * i)) ∙ u32-sum t (at + lyricHeadWidth * i)
+      ∙ rw (a, b, c, zero-byte (lyricHeadWidth * i) (omega arith), zero-byte (lyricHeadWidth * i + 1) (omega arith), zero-byte (lyricHeadWidth * i + 2) (omega arith), zero-byte (lyricHeadWidth * i + 3) (omega arith))
 
-  zero-heads : (m : ℕ) → m ≤ n → All (λ k. k ≤ 0) (rows headOf 4 t at m)
-  zero-heads zero h = rw (rows-none headOf 4 t at) tt
+  zero-heads : (m : ℕ) → m ≤ n → All (λ k. k ≤ 0) (rows headOf lyricHeadWidth t at m)
+  zero-heads zero h = rw (rows-none headOf lyricHeadWidth t at) tt
   zero-heads (suc m) h =
       let k : suc m ≡ m + 1 = omega arith in
-      rw (k, rows-more headOf 4 t at m) (All-append (λ k. k ≤ 0) (rows headOf 4 t at m) (headOf (part t (at + 4 * m) 4) ∷ []) (zero-heads m (omega arith)) (omega (arith, zero-head m (omega arith)), tt))
+      rw (k, rows-more headOf lyricHeadWidth t at m) (All-append (λ k. k ≤ 0) (rows headOf lyricHeadWidth t at m) (headOf (part t (at + lyricHeadWidth * m) lyricHeadWidth) ∷ []) (zero-heads m (omega arith)) (omega (arith, zero-head m (omega arith)), tt))
 
 map-none : (text s : List ℕ) (log : ℕ) (ks : List ℕ) → map (sungFrom text s log 0) ks ≡ replicate (length ks) []
 unfolding sungFrom
@@ -255,21 +255,21 @@ map-none text s log (k ∷ ks) = ap {B = List (List Syllable)} (λ r. [] ∷ r) 
 none-sung : (text s : List ℕ) (h : Sheet) → syllablesIn text s (withCount h 0) ≡ replicate (h .sounded) []
 unfolding syllablesIn headsIn
 none-sung text s h =
-    map-none text s (h .log) (rows headOf 4 s (h .heads) (h .sounded)) ∙ ap (λ (k : ℕ). replicate k []) (length-rows headOf 4 s (h .heads) (h .sounded))
+    map-none text s (h .log) (rows headOf lyricHeadWidth s (h .heads) (h .sounded)) ∙ ap (λ (k : ℕ). replicate k []) (length-rows headOf lyricHeadWidth s (h .heads) (h .sounded))
 
 -- the lines are those that stand before the tables
-same-lines : (text s t : List ℕ) (n p lo : ℕ) → take lo t ≡ take lo s → itemsFrom + itemBytes * n ≤ lo → linesIn text t p n ≡ linesIn text s p n
+same-lines : (text s t : List ℕ) (n p lo : ℕ) → take lo t ≡ take lo s → itemsFrom + itemRowWidth * n ≤ lo → linesIn text t p n ≡ linesIn text s p n
 unfolding linesIn
-same-lines text s t n p lo e h = ap (λ (rs : List items.Row). map (lineIn text) (filter (isLine p) rs)) (rows-front decItem itemBytes s t lo itemsFrom n e h)
+same-lines text s t n p lo e h = ap (λ (rs : List items.Row). map (lineIn text) (filter (isLine p) rs)) (rows-front decItem itemRowWidth s t lo itemsFrom n e h)
 
-module _ (text s : List ℕ) (n p : ℕ) (h : Sheet) (fits : Fits text s n p h) (t : List ℕ) (e : t ≡ splice s (h .heads) (zeros (h .heads + 4 * h .sounded - h .heads))) where
-  cleared : Outside s t (h .heads) (h .log + 16 * 0)
+module _ (text s : List ℕ) (n p : ℕ) (h : Sheet) (fits : Fits text s n p h) (t : List ℕ) (e : t ≡ splice s (h .heads) (zeros (h .heads + lyricHeadWidth * h .sounded - h .heads))) where
+  cleared : Outside s t (h .heads) (h .log + lyricRowWidth * 0)
   cleared =
-      let z = length-zeros (h .heads + 4 * h .sounded - h .heads) in
+      let z = length-zeros (h .heads + lyricHeadWidth * h .sounded - h .heads) in
       record {
-        same-length = ap length e ∙ length-splice s (h .heads) (zeros (h .heads + 4 * h .sounded - h .heads));
-        low = ap (take (h .heads)) e ∙ take-splice (h .heads) s (h .heads) (zeros (h .heads + 4 * h .sounded - h .heads)) (omega arith);
-        high = ap (drop (h .log + 16 * 0)) e ∙ drop-splice-past (h .log + 16 * 0) s (h .heads) (zeros (h .heads + 4 * h .sounded - h .heads)) (omega (arith, z, fits .apart));
+        same-length = ap length e ∙ length-splice s (h .heads) (zeros (h .heads + lyricHeadWidth * h .sounded - h .heads));
+        low = ap (take (h .heads)) e ∙ take-splice (h .heads) s (h .heads) (zeros (h .heads + lyricHeadWidth * h .sounded - h .heads)) (omega arith);
+        high = ap (drop (h .log + lyricRowWidth * 0)) e ∙ drop-splice-past (h .log + lyricRowWidth * 0) s (h .heads) (zeros (h .heads + lyricHeadWidth * h .sounded - h .heads)) (omega (arith, z, fits .apart));
       }
 
   lines-now : linesIn text t p n ≡ linesIn text s p n
@@ -278,7 +278,7 @@ module _ (text s : List ℕ) (n p : ℕ) (h : Sheet) (fits : Fits text s n p h) 
   pub cleared-kept : Kept t (withCount h 0)
   unfolding headsIn
   cleared-kept =
-      let room : h .heads + 4 * h .sounded ≤ length s = omega (arith, fits .apart, fits .inside) in
+      let room : h .heads + lyricHeadWidth * h .sounded ≤ length s = omega (arith, fits .apart, fits .inside) in
       record { apart = fits .apart; inside = omega (arith, fits .inside, cleared .same-length); firsts = zero-heads s t (h .heads) (h .sounded) room e (h .sounded) (omega arith) }
 
   pub cleared-fits : Fits text t n p h
@@ -297,18 +297,5 @@ module _ (text s : List ℕ) (n p : ℕ) (h : Sheet) (fits : Fits text s n p h) 
         kept = x .kept;
         sung = x .sung ∙ (λ j. sungBy (lines-now j) (none-sung text t h j));
         room = omega (arith, x .room, ap rowsOf lines-now);
-        outside = outside-next s t u (h .heads) (h .log + 16 * 0) (h .log + 16 * c) cleared (omega arith) (x .outside);
+        outside = outside-next s t u (h .heads) (h .log + lyricRowWidth * 0) (h .log + lyricRowWidth * c) cleared (omega arith) (x .outside);
       }
-
--- THE LINE OF AN ITEM, as its bytes have it
-pub line-from : (s : List ℕ) (i at end start verse : ℕ) → verse ≡ getD s (itemsFrom + itemBytes * i + 3) 0 → start ≡ u32At s (itemsFrom + itemBytes * i + 12) → start < 2 ^ 32
-    → LineFrom (itemAt s i) at end (record { start = start; verse = verse; at = at; end = end })
-unfolding decItem
-line-from s i at end start verse v e near =
-    record {
-      start = e ∙ sym (littleAt-part 4 s (itemsFrom + itemBytes * i) itemBytes 12 (omega arith));
-      verse = v ∙ sym (getD-part s (itemsFrom + itemBytes * i) itemBytes 3 (omega arith));
-      low = refl;
-      high = refl;
-      near = near;
-    }

@@ -19,10 +19,10 @@ use Rattle.laws.proofs.Rows.{length-rows, rows-below, rows-put, rows-get}
 use Rattle.reader.specs.Lyrics.{Syllable}
 use Rattle.lyrics.specs.declared.Sheet.{Sheet}
 use Rattle.lyrics.specs.declared.Row.{Row}
-use Rattle.lyrics.specs.Sheet.{withCount, rowBytes, rowOf, nextOf, rowAt, happens, sungFrom, headOf, headsIn, syllablesIn, Kept, Room, Outside, Marked}
+use Rattle.lyrics.specs.Sheet.{lyricHeadWidth, lyricRowWidth, withCount, rowBytes, rowOf, nextOf, rowAt, applyRow, sungFrom, headOf, headsIn, syllablesIn, Kept, Room, Outside, RowAppended}
 
 -- A ROW
-pub length-row : (r : Row) (next : ℕ) → length (rowBytes r next) ≡ 16
+pub length-row : (r : Row) (next : ℕ) → length (rowBytes r next) ≡ lyricRowWidth
 unfolding rowBytes little
 length-row r next = refl
 
@@ -45,7 +45,7 @@ module _ (text : List ℕ) (log : ℕ) where
       let e = h n (omega arith) in
       let below : (j : ℕ) → sungFrom text t log n j ≡ sungFrom text s log n j = λ j. chain-same s t n j (λ m l. h m (omega arith)) in
       by-test (eqb k (suc n))
-      (λ y. rw (y, sungFrom) (ap₂ (λ (b : List ℕ) (ys : List Syllable). happens text (rowOf b) ys) e (below (nextOf (rowAt t log n)) ∙ ap (λ (b : List ℕ). sungFrom text s log n (nextOf b)) e)))
+      (λ y. rw (y, sungFrom) (ap₂ (λ (b : List ℕ) (ys : List Syllable). applyRow text (rowOf b) ys) e (below (nextOf (rowAt t log n)) ∙ ap (λ (b : List ℕ). sungFrom text s log n (nextOf b)) e)))
       (λ y. rw (y, sungFrom) (below k))
 
   -- a row more does not change the chains that do not begin with it
@@ -56,7 +56,7 @@ module _ (text : List ℕ) (log : ℕ) where
       rw (add-one n) (rw (ne-eqb k (suc n) d, sungFrom))
 
   -- the chain that begins with it
-  pub chain-new : (s : List ℕ) (n : ℕ) → sungFrom text s log (n + 1) (n + 1) ≡ happens text (rowOf (rowAt s log n)) (sungFrom text s log n (nextOf (rowAt s log n)))
+  pub chain-new : (s : List ℕ) (n : ℕ) → sungFrom text s log (n + 1) (n + 1) ≡ applyRow text (rowOf (rowAt s log n)) (sungFrom text s log n (nextOf (rowAt s log n)))
   unfolding sungFrom
   chain-new s n = rw (add-one n) (rw (eq-eqb (suc n) (suc n) refl, sungFrom))
 
@@ -101,74 +101,74 @@ outside-next s t u lo m n a h b =
 
 -- A ROW MORE
 module _ (s t u : List ℕ) (h : Sheet) (note : ℕ) (r : Row) (next : ℕ) (room : Room s h) (l : note < h .sounded)
-    (ne : next ≡ u32At s (h .heads + 4 * note)) (te : t ≡ splice s (h .log + 16 * h .count) (rowBytes r next))
-    (ue : u ≡ splice t (h .heads + 4 * note) (le32 (h .count + 1))) (low : r .at < 2 ^ 32) (high : r .end < 2 ^ 32) (few : next < 2 ^ 32) where
+    (ne : next ≡ u32At s (h .heads + lyricHeadWidth * note)) (te : t ≡ splice s (h .log + lyricRowWidth * h .count) (rowBytes r next))
+    (ue : u ≡ splice t (h .heads + lyricHeadWidth * note) (le32 (h .count + 1))) (low : r .at < 2 ^ 32) (high : r .end < 2 ^ 32) (few : next < 2 ^ 32) where
   kept : Kept s h
   kept = room .kept
 
-  inside : h .log + 16 * h .count + 16 ≤ length s
+  inside : h .log + lyricRowWidth * h .count + lyricRowWidth ≤ length s
   inside = room .inside
 
   small : h .count + 1 < 2 ^ 32
   small = room .few
 
-  head-in : h .heads + 4 * note + 4 ≤ h .log
+  head-in : h .heads + lyricHeadWidth * note + lyricHeadWidth ≤ h .log
   head-in = omega (arith, kept .apart)
 
   length-t : length t ≡ length s
-  length-t = ap length te ∙ length-splice s (h .log + 16 * h .count) (rowBytes r next)
+  length-t = ap length te ∙ length-splice s (h .log + lyricRowWidth * h .count) (rowBytes r next)
 
   length-u : length u ≡ length s
-  length-u = ap length ue ∙ length-splice t (h .heads + 4 * note) (le32 (h .count + 1)) ∙ length-t
+  length-u = ap length ue ∙ length-splice t (h .heads + lyricHeadWidth * note) (le32 (h .count + 1)) ∙ length-t
 
   -- rows are behind the heads
   behind : (m : ℕ) → rowAt u (h .log) m ≡ rowAt t (h .log) m
   behind m =
-      let k : length (le32 (h .count + 1)) ≡ 4 = length-little 4 (h .count + 1) in
-      ap (λ (x : List ℕ). rowAt x (h .log) m) ue ∙ part-above t (h .heads + 4 * note) (le32 (h .count + 1)) (h .log + 16 * m) 16 (omega (arith, head-in, k))
+      let k : length (le32 (h .count + 1)) ≡ lyricHeadWidth = length-little 4 (h .count + 1) in
+      ap (λ (x : List ℕ). rowAt x (h .log) m) ue ∙ part-above t (h .heads + lyricHeadWidth * note) (le32 (h .count + 1)) (h .log + lyricRowWidth * m) lyricRowWidth (omega (arith, head-in, k))
 
   old : (m : ℕ) → m < h .count → rowAt u (h .log) m ≡ rowAt s (h .log) m
-  old m x = behind m ∙ ap (λ (x : List ℕ). rowAt x (h .log) m) te ∙ part-below s (h .log + 16 * h .count) (rowBytes r next) (h .log + 16 * m) 16 (omega arith)
+  old m x = behind m ∙ ap (λ (x : List ℕ). rowAt x (h .log) m) te ∙ part-below s (h .log + lyricRowWidth * h .count) (rowBytes r next) (h .log + lyricRowWidth * m) lyricRowWidth (omega arith)
 
   fresh : rowAt u (h .log) (h .count) ≡ rowBytes r next
   fresh =
       let k = length-row r next in
       behind (h .count) ∙ ap (λ (x : List ℕ). rowAt x (h .log) (h .count)) te
-      ∙ ap (part (splice s (h .log + 16 * h .count) (rowBytes r next)) (h .log + 16 * h .count)) (sym k)
-      ∙ part-same s (h .log + 16 * h .count) (rowBytes r next) (omega (arith, k))
+      ∙ ap (part (splice s (h .log + lyricRowWidth * h .count) (rowBytes r next)) (h .log + lyricRowWidth * h .count)) (sym k)
+      ∙ part-same s (h .log + lyricRowWidth * h .count) (rowBytes r next) (omega (arith, k))
 
   heads-now : headsIn u (h .heads) (h .sounded) ≡ set (headsIn s (h .heads) (h .sounded)) note (h .count + 1)
   unfolding headsIn headOf
   heads-now =
-      ap (λ (x : List ℕ). rows headOf 4 x (h .heads) (h .sounded)) ue
-      ∙ rows-put headOf 4 t (h .heads) (h .sounded) note (le32 (h .count + 1)) l (length-little 4 (h .count + 1)) (omega (arith, kept .apart, length-t))
-      ∙ ap (λ (x : List ℕ). set (rows headOf 4 x (h .heads) (h .sounded)) note (headOf (le32 (h .count + 1)))) te
-      ∙ ap (λ (x : List ℕ). set x note (headOf (le32 (h .count + 1)))) (rows-below headOf 4 s (h .heads) (h .sounded) (h .log + 16 * h .count) (rowBytes r next) (omega (arith, kept .apart)))
-      ∙ ap (set (rows headOf 4 s (h .heads) (h .sounded)) note) (littleAt-little 4 (h .count + 1) small)
+      ap (λ (x : List ℕ). rows headOf lyricHeadWidth x (h .heads) (h .sounded)) ue
+      ∙ rows-put headOf lyricHeadWidth t (h .heads) (h .sounded) note (le32 (h .count + 1)) l (length-little 4 (h .count + 1)) (omega (arith, kept .apart, length-t))
+      ∙ ap (λ (x : List ℕ). set (rows headOf lyricHeadWidth x (h .heads) (h .sounded)) note (headOf (le32 (h .count + 1)))) te
+      ∙ ap (λ (x : List ℕ). set x note (headOf (le32 (h .count + 1)))) (rows-below headOf lyricHeadWidth s (h .heads) (h .sounded) (h .log + lyricRowWidth * h .count) (rowBytes r next) (omega (arith, kept .apart)))
+      ∙ ap (set (rows headOf lyricHeadWidth s (h .heads) (h .sounded)) note) (littleAt-little 4 (h .count + 1) small)
 
   head-then : getD (headsIn s (h .heads) (h .sounded)) note 0 ≡ next
   unfolding headsIn headOf
-  head-then = rows-get headOf 4 s (h .heads) (h .sounded) note 0 l ∙ sym (littleAt-own 4 s (h .heads + 4 * note)) ∙ sym ne
+  head-then = rows-get headOf lyricHeadWidth s (h .heads) (h .sounded) note 0 l ∙ sym (littleAt-own 4 s (h .heads + lyricHeadWidth * note)) ∙ sym ne
 
   many : length (headsIn s (h .heads) (h .sounded)) ≡ h .sounded
   unfolding headsIn
-  many = length-rows headOf 4 s (h .heads) (h .sounded)
+  many = length-rows headOf lyricHeadWidth s (h .heads) (h .sounded)
 
-  row-sung : (text : List ℕ) → syllablesIn text u (withCount h (h .count + 1)) ≡ alterAt note (happens text r) (syllablesIn text s h)
+  row-sung : (text : List ℕ) → syllablesIn text u (withCount h (h .count + 1)) ≡ alterAt note (applyRow text r) (syllablesIn text s h)
   unfolding syllablesIn
   row-sung text =
       let f = sungFrom text s (h .log) (h .count) in
       let g = sungFrom text u (h .log) (h .count + 1) in
       let same : (k : ℕ) → k ≤ h .count → g k ≡ f k = λ k x. chain-other text (h .log) u (h .count) k x ∙ chain-same text (h .log) s u (h .count) k old in
-      let new : g (h .count + 1) ≡ happens text r (f (getD (headsIn s (h .heads) (h .sounded)) note 0)) =
+      let new : g (h .count + 1) ≡ applyRow text r (f (getD (headsIn s (h .heads) (h .sounded)) note 0)) =
       chain-new text (h .log) u (h .count)
-      ∙ ap (λ (b : List ℕ). happens text (rowOf b) (sungFrom text u (h .log) (h .count) (nextOf b))) fresh
-      ∙ ap₂ (λ (x : Row) (k : ℕ). happens text x (sungFrom text u (h .log) (h .count) k)) (row-back r next low high) (next-back r next few ∙ sym head-then)
-      ∙ ap (happens text r) (chain-same text (h .log) s u (h .count) (getD (headsIn s (h .heads) (h .sounded)) note 0) old) in
-      ap (map g) heads-now ∙ map-new f g (happens text r) (h .count) (h .count + 1) same (headsIn s (h .heads) (h .sounded)) note (rw many l) (kept .firsts) new
+      ∙ ap (λ (b : List ℕ). applyRow text (rowOf b) (sungFrom text u (h .log) (h .count) (nextOf b))) fresh
+      ∙ ap₂ (λ (x : Row) (k : ℕ). applyRow text x (sungFrom text u (h .log) (h .count) k)) (row-back r next low high) (next-back r next few ∙ sym head-then)
+      ∙ ap (applyRow text r) (chain-same text (h .log) s u (h .count) (getD (headsIn s (h .heads) (h .sounded)) note 0) old) in
+      ap (map g) heads-now ∙ map-new f g (applyRow text r) (h .count) (h .count + 1) same (headsIn s (h .heads) (h .sounded)) note (rw many l) (kept .firsts) new
 
-  pub marked : Marked s u h note r (h .count + 1)
-  marked =
+  pub row-appended : RowAppended s u h note r (h .count + 1)
+  row-appended =
       let k = length-row r next in
       let j = length-little 4 (h .count + 1) in
       record {
@@ -183,28 +183,28 @@ module _ (s t u : List ℕ) (h : Sheet) (note : ℕ) (r : Row) (next : ℕ) (roo
         outside = record {
           same-length = length-u;
           low =
-              ap (take (h .heads)) ue ∙ take-splice (h .heads) t (h .heads + 4 * note) (le32 (h .count + 1)) (omega arith)
-              ∙ ap (take (h .heads)) te ∙ take-splice (h .heads) s (h .log + 16 * h .count) (rowBytes r next) (omega (arith, kept .apart));
+              ap (take (h .heads)) ue ∙ take-splice (h .heads) t (h .heads + lyricHeadWidth * note) (le32 (h .count + 1)) (omega arith)
+              ∙ ap (take (h .heads)) te ∙ take-splice (h .heads) s (h .log + lyricRowWidth * h .count) (rowBytes r next) (omega (arith, kept .apart));
           high =
-              ap (drop (h .log + 16 * (h .count + 1))) ue
-              ∙ drop-splice-past (h .log + 16 * (h .count + 1)) t (h .heads + 4 * note) (le32 (h .count + 1)) (omega (arith, head-in, j))
-              ∙ ap (drop (h .log + 16 * (h .count + 1))) te
-              ∙ drop-splice-past (h .log + 16 * (h .count + 1)) s (h .log + 16 * h .count) (rowBytes r next) (omega (arith, k));
+              ap (drop (h .log + lyricRowWidth * (h .count + 1))) ue
+              ∙ drop-splice-past (h .log + lyricRowWidth * (h .count + 1)) t (h .heads + lyricHeadWidth * note) (le32 (h .count + 1)) (omega (arith, head-in, j))
+              ∙ ap (drop (h .log + lyricRowWidth * (h .count + 1))) te
+              ∙ drop-splice-past (h .log + lyricRowWidth * (h .count + 1)) s (h .log + lyricRowWidth * h .count) (rowBytes r next) (omega (arith, k));
         };
       }
 
 -- a list for each note
 pub how-many : (text s : List ℕ) (h : Sheet) → length (syllablesIn text s h) ≡ h .sounded
 unfolding syllablesIn headsIn
-how-many text s h = map-length (sungFrom text s (h .log) (h .count)) (rows headOf 4 s (h .heads) (h .sounded)) ∙ length-rows headOf 4 s (h .heads) (h .sounded)
+how-many text s h = map-length (sungFrom text s (h .log) (h .count)) (rows headOf lyricHeadWidth s (h .heads) (h .sounded)) ∙ length-rows headOf lyricHeadWidth s (h .heads) (h .sounded)
 
 -- past the last note nothing is added
-pub unmarked : (s : List ℕ) (h : Sheet) (note : ℕ) (r : Row) → Kept s h → h .sounded ≤ note → Marked s s h note r (h .count)
-unmarked s h note r kept l =
+pub none-appended : (s : List ℕ) (h : Sheet) (note : ℕ) (r : Row) → Kept s h → h .sounded ≤ note → RowAppended s s h note r (h .count)
+none-appended s h note r kept l =
     record {
       kept = record { apart = kept .apart; inside = kept .inside; firsts = kept .firsts };
-      sung = λ text. sym (alter-past note (happens text r) (syllablesIn text s h) (rw (how-many text s h) l));
+      sung = λ text. sym (alter-past note (applyRow text r) (syllablesIn text s h) (rw (how-many text s h) l));
       more = omega arith;
       one = omega arith;
-      outside = outside-none s (h .heads) (h .log + 16 * h .count);
+      outside = outside-none s (h .heads) (h .log + lyricRowWidth * h .count);
     }

@@ -25,7 +25,7 @@ use Rattle.lyrics.specs.declared.Sheet.{Sheet}
 use Rattle.lyrics.specs.declared.Row.{Row}
 use Rattle.lyrics.specs.declared.Line.{Line}
 use Rattle.lyrics.specs.declared.Sung.{Sung}
-use Rattle.lyrics.specs.Sheet.{withCount, syllableOf, happens, syllablesIn, Kept, Room, Outside, Marked}
+use Rattle.lyrics.specs.Sheet.{lyricRowWidth, holdCode, withCount, syllableOf, applyRow, syllablesIn, Kept, Room, Outside, RowAppended}
 use Rattle.lyrics.specs.Lines.{rowsFor, WordSung, LineFits, LineSung}
 use Rattle.lyrics.proofs.Sheets.{outside-none, outside-next}
 
@@ -36,12 +36,12 @@ abbrev pub row : ℕ → ℕ → ℕ → ℕ → Row
 row verse code at end = record { verse = verse; code = code; at = at; end = end }
 
 -- a row that is no hold
-happens-put : (text : List ℕ) (r : Row) → eqb (r .code) 4 ≡ false → happens text r ≡ put (syllableOf text r)
-unfolding happens
+happens-put : (text : List ℕ) (r : Row) → eqb (r .code) holdCode ≡ false → applyRow text r ≡ put (syllableOf text r)
+unfolding applyRow
 happens-put text r e = λ i ys. at ys i
   where
-    at : (ys : List Syllable) → happens text r ys ≡ put (syllableOf text r) ys
-    at ys = rw (e, happens)
+    at : (ys : List Syllable) → applyRow text r ys ≡ put (syllableOf text r) ys
+    at ys = rw (e, applyRow)
 
 -- A WORD
 module _ (s : List ℕ) (h : Sheet) (l : Line) (taken : ℕ) where
@@ -50,7 +50,7 @@ module _ (s : List ℕ) (h : Sheet) (l : Line) (taken : ℕ) where
       → ((text : List ℕ) (ws : List Word) (notes : List (List Syllable)) → sing (l .start) (l .verse) n ws notes ≡ sing (l .start) (l .verse) taken (said text w ++ ws) notes)
       → WordSung s s h l taken w (sung n (h .count))
   nothing w n kept low e =
-      record { kept = kept; sung = λ text ws. e text ws (syllablesIn text s h); takes = low; more = omega arith; one = omega arith; outside = outside-none s (h .heads) (h .log + 16 * h .count) }
+      record { kept = kept; sung = λ text ws. e text ws (syllablesIn text s h); takes = low; more = omega arith; one = omega arith; outside = outside-none s (h .heads) (h .log + lyricRowWidth * h .count) }
 
   pub sung-bar : Kept s h → WordSung s s h l taken T.Bar (sung taken (h .count))
   unfolding said
@@ -66,8 +66,8 @@ module _ (s : List ℕ) (h : Sheet) (l : Line) (taken : ℕ) where
       nothing T.Hold 1 kept (omega arith) (λ text ws notes. ap (λ (k : ℕ). sing (l .start) (l .verse) k (hold ∷ ws) notes) (sym e))
 
   -- that writes a row
-  written : (t : List ℕ) (w : Token) (note n : ℕ) (r : Row) → Marked s t h note r n
-      → ((text : List ℕ) (ws : List Word) (notes : List (List Syllable)) → sing (l .start) (l .verse) (taken + 1) ws (alterAt note (happens text r) notes) ≡ sing (l .start) (l .verse) taken (said text w ++ ws) notes)
+  written : (t : List ℕ) (w : Token) (note n : ℕ) (r : Row) → RowAppended s t h note r n
+      → ((text : List ℕ) (ws : List Word) (notes : List (List Syllable)) → sing (l .start) (l .verse) (taken + 1) ws (alterAt note (applyRow text r) notes) ≡ sing (l .start) (l .verse) taken (said text w ++ ws) notes)
       → WordSung s t h l taken w (sung (taken + 1) n)
   written t w note n r m e =
       record {
@@ -79,13 +79,13 @@ module _ (s : List ℕ) (h : Sheet) (l : Line) (taken : ℕ) where
         outside = m .outside;
       }
 
-  pub sung-syllable : (t : List ℕ) (n at end code : ℕ) → code < 4 → Marked s t h (l .start + taken) (row (l .verse) code at end) n
+  pub sung-syllable : (t : List ℕ) (n at end code : ℕ) → code < 4 → RowAppended s t h (l .start + taken) (row (l .verse) code at end) n
       → WordSung s t h l taken (T.Syllable at end code) (sung (taken + 1) n)
   unfolding said sing syllableOf
   sung-syllable t n at end code c m =
-      let d : code ≡ 4 → ⊥ = λ e. absurd (omega (arith, e)) in
+      let d : code ≡ holdCode → ⊥ = λ e. absurd (omega (arith, e)) in
       written t (T.Syllable at end code) (l .start + taken) n (row (l .verse) code at end) m
-      (λ text ws notes. rw (add-one taken, happens-put text (row (l .verse) code at end) (ne-eqb code 4 d)))
+      (λ text ws notes. rw (add-one taken, happens-put text (row (l .verse) code at end) (ne-eqb code holdCode d)))
 
 -- a hold, by the notes taken
 hold-law : (start v taken : ℕ) (ws : List Word) (notes : List (List Syllable)) → (taken ≡ 0 → ⊥)
@@ -97,11 +97,11 @@ hold-law start v (suc j) ws notes some =
     let f : suc j + 1 ≡ suc (suc j) = omega arith in
     rw (e, f)
 
-pub sung-hold : (s t : List ℕ) (h : Sheet) (l : Line) (taken n : ℕ) → (taken ≡ 0 → ⊥) → Marked s t h (l .start + taken - 1) (row (l .verse) 4 0 0) n
+pub sung-hold : (s t : List ℕ) (h : Sheet) (l : Line) (taken n : ℕ) → (taken ≡ 0 → ⊥) → RowAppended s t h (l .start + taken - 1) (row (l .verse) holdCode 0 0) n
     → WordSung s t h l taken T.Hold (sung (taken + 1) n)
-unfolding said happens
+unfolding said applyRow
 sung-hold s t h l taken n some m =
-    written s h l taken t T.Hold (l .start + taken - 1) n (row (l .verse) 4 0 0) m (λ text ws notes. hold-law (l .start) (l .verse) taken ws notes some)
+    written s h l taken t T.Hold (l .start + taken - 1) n (row (l .verse) holdCode 0 0) m (λ text ws notes. hold-law (l .start) (l .verse) taken ws notes some)
 
 -- A LINE: the invariant of its loop
 pub record Singing (text s₀ : List ℕ) (h : Sheet) (l : Line) (s : List ℕ) (c : Cursor) (taken count : ℕ) : Type 0 where
@@ -112,7 +112,7 @@ pub record Singing (text s₀ : List ℕ) (h : Sheet) (l : Line) (s : List ℕ) 
   pub low : taken ≤ c .at
   pub more : h .count ≤ count
   pub room : count + rowsFor (l .end - c .at) ≤ h .count + rowsFor (l .end - l .at)
-  pub outside : Outside s₀ s (h .heads) (h .log + 16 * count)
+  pub outside : Outside s₀ s (h .heads) (h .log + lyricRowWidth * count)
 
 pub singing-start : (text s : List ℕ) (h : Sheet) (l : Line) (c : Cursor) → LineFits text s h l → First text (l .at) (l .end) c → Singing text s h l s c 0 (h .count)
 singing-start text s h l c f i =
@@ -123,7 +123,7 @@ singing-start text s h l c f i =
       low = omega arith;
       more = omega arith;
       room = omega (arith, i .low);
-      outside = outside-none s (h .heads) (h .log + 16 * h .count);
+      outside = outside-none s (h .heads) (h .log + lyricRowWidth * h .count);
     }
 
 module _ (text s₀ : List ℕ) (h : Sheet) (l : Line) (s : List ℕ) (c : Cursor) (taken count : ℕ) (v : Singing text s₀ h l s c taken count) where
@@ -148,7 +148,7 @@ module _ (text s₀ : List ℕ) (h : Sheet) (l : Line) (s : List ℕ) (c : Curso
         low = omega (arith, w .takes, v .low, k .on);
         more = omega (arith, w .more, v .more);
         room = omega (arith, w .one, v .room, k .far);
-        outside = outside-next s₀ s t (h .heads) (h .log + 16 * count) (h .log + 16 * q .count) (v .outside) (omega (arith, w .more)) (w .outside);
+        outside = outside-next s₀ s t (h .heads) (h .log + lyricRowWidth * count) (h .log + lyricRowWidth * q .count) (v .outside) (omega (arith, w .more)) (w .outside);
       }
 
   over : l .end ≤ c .at → ahead text (l .end) c ≡ []

@@ -11,7 +11,7 @@ use Rattle.lyric_words.specs.Words.{said}
 use Rattle.lyrics.specs.declared.Sheet.{Sheet}
 use Rattle.lyrics.specs.declared.Line.{Line}
 use Rattle.lyrics.specs.declared.Sung.{Sung}
-use Rattle.lyrics.specs.Sheet.{withCount, Kept, Outside, syllablesIn}
+use Rattle.lyrics.specs.Sheet.{lyricRowWidth, withCount, Kept, Outside, syllablesIn}
 
 -- a token was sung to the note after those that the line has taken
 pub record WordSung (s t : List ℕ) (h : Sheet) (l : Line) (taken : ℕ) (w : Token) (r : Sung) : Type 0 where
@@ -20,7 +20,7 @@ pub record WordSung (s t : List ℕ) (h : Sheet) (l : Line) (taken : ℕ) (w : T
   pub takes : r .taken ≤ taken + 1
   pub more : h .count ≤ r .count
   pub one : r .count ≤ h .count + 1
-  pub outside : Outside s t (h .heads) (h .log + 16 * r .count)
+  pub outside : Outside s t (h .heads) (h .log + lyricRowWidth * r .count)
 
 -- how many rows n bytes of lyric text can need: each syllable takes two bytes, but the last
 abbrev pub rowsFor : ℕ → ℕ
@@ -33,7 +33,7 @@ pub record LineFits (text s : List ℕ) (h : Sheet) (l : Line) : Type 0 where
   pub high : l .end ≤ length text
   pub short : length text < 2 ^ 32
   pub near : l .start < 2 ^ 32
-  pub inside : h .log + 16 * (h .count + rowsFor (l .end - l .at)) ≤ length s
+  pub inside : h .log + lyricRowWidth * (h .count + rowsFor (l .end - l .at)) ≤ length s
   pub few : h .count + rowsFor (l .end - l .at) < 2 ^ 32
 
 -- a line was sung; n rows are now written
@@ -42,4 +42,4 @@ pub record LineSung (text s t : List ℕ) (h : Sheet) (l : Line) (n : ℕ) : Typ
   pub sung : syllablesIn text t (withCount h n) ≡ sing (l .start) (l .verse) 0 (lyricWords (between text (l .at) (l .end))) (syllablesIn text s h)
   pub more : h .count ≤ n
   pub room : n ≤ h .count + rowsFor (l .end - l .at)
-  pub outside : Outside s t (h .heads) (h .log + 16 * n)
+  pub outside : Outside s t (h .heads) (h .log + lyricRowWidth * n)

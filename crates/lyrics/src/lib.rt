@@ -1,5 +1,5 @@
-// The syllables of a part in scratch. What is sung to a note is a chain of rows, the newest first: a syllable, or a hold of the one before it. Rows
-// are only ever added, so no chain is changed by what is added to another.
+// The syllables of a part in scratch: for each note that sounds a chain of rows, the newest first, each a syllable or a hold of the one before it.
+// Rows are only ever added, so no chain is changed by what is added to another.
 ghost use Prim.Native.Nat.{_+_, _*_, _^_, _≤_, _<_};
 ghost use mathlib.Core.Path.{_≡_};
 ghost use mathlib.Core.List.{[]};
@@ -7,15 +7,29 @@ ghost use lib.ListN.{length, replicate};
 ghost use Rattle.laws.specs.Bytes.{splice};
 ghost use Rattle.lyric_words.specs.Words.{Small};
 ghost use Rattle.lyric_words.specs.declared.Token.the-variants as Token;
-ghost use Rattle.lyrics.specs.Sheet.{rowBytes, withCount, syllablesIn, Kept, Room, Marked};
+ghost use Rattle.lyrics.specs.Sheet.{lyricRowWidth, rowBytes, withCount, syllablesIn, Kept, Room, RowAppended};
 ghost use Rattle.lyrics.specs.Lines.{WordSung, LineFits, LineSung};
-ghost use Rattle.lyrics.specs.Items.{itemAt, LineFrom, ItemFits, ItemSung, Fits, AllSung};
+ghost use Rattle.lyrics.specs.Items.{LineFrom, ItemFits, ItemSung, Fits, AllSung};
 
 // The number of a hold, in a row, where a syllable has its syllabic's.
 pub const HOLD: u8 = 4;
 
-// Where the syllables of a part stand: a head for each of its notes that sound (4 bytes: the place, from 1, of its newest row, 0 for none), and the log
-// of rows (16 bytes each), of which `count` are written.
+// The bytes of a head, and those of a row.
+pub const HEAD: usize = 4;
+
+pub const ROW: usize = 16;
+
+// Where the fields of a row stand, behind its verse: the number of a syllabic or HOLD, the place in the text, the row before it in its chain.
+pub const CODE: usize = 1;
+
+pub const AT: usize = 4;
+
+pub const END: usize = 8;
+
+pub const NEXT: usize = 12;
+
+// Where the chains of a part stand: a head for each of its notes that sound (the place, from 1, of the note's newest row; 0 for none), and the log
+// of rows, of which `count` are written.
 pub struct Sheet {
     pub heads: usize,
     pub sounded: usize,
@@ -47,24 +61,24 @@ pub struct Sung {
 
 // Writes a row, before which stands the row `next`.
 fn put_row(scratch: &mut [u8], at: usize, row: Row, next: u32)
-    requires { ⌜ at + 16 ≤ length (now scratch) ⌝ }
+    requires { ⌜ at + lyricRowWidth ≤ length (now scratch) ⌝ }
     ensures { λ _. ⌜ now (scratch .exit) ≡ splice (now (scratch .entry)) at (rowBytes row next) ⌝ }
 {
     store::put_4(scratch, at, row.verse, row.code, 0, 0);
-    store::put_u32(scratch, at + 4, row.at);
-    store::put_u32(scratch, at + 8, row.end);
-    store::put_u32(scratch, at + 12, next);
+    store::put_u32(scratch, at + AT, row.at);
+    store::put_u32(scratch, at + END, row.end);
+    store::put_u32(scratch, at + NEXT, next);
 }
 
-// Adds a row to what is sung to a note; past the last note nothing. Answers how many rows are written.
+// Adds a row to the chain of a note; past the last note nothing. Answers how many rows are written.
 fn append_row(scratch: &mut [u8], sheet: Sheet, note: usize, row: Row) -> usize
     requires { ⌜ (Room (now scratch) sheet) × (row .at < 2 ^ 32) × (row .end < 2 ^ 32) ⌝ }
-    ensures { λ r. ⌜ Marked (now (scratch .entry)) (now (scratch .exit)) sheet note row r ⌝ }
+    ensures { λ r. ⌜ RowAppended (now (scratch .entry)) (now (scratch .exit)) sheet note row r ⌝ }
 {
     if note < sheet.sounded {
-        let head = sheet.heads + 4 * note;
+        let head = sheet.heads + HEAD * note;
         let next = store::get_u32(scratch, head);
-        put_row(scratch, sheet.log + 16 * sheet.count, row, next);
+        put_row(scratch, sheet.log + ROW * sheet.count, row, next);
         store::put_u32(scratch, head, (sheet.count + 1) as u32);
         return sheet.count + 1;
     }
@@ -179,19 +193,15 @@ fn sing_line(text: &[u8], scratch: &mut [u8], sheet: Sheet, line: Line) -> usize
     count
 }
 
-// The line of item i, whose place was read.
-fn get_line(scratch: &[u8], i: usize, at: usize, end: usize) -> Line
-    requires { ⌜ 256 + 16 * i + 16 ≤ length (now scratch) ⌝ }
-    ensures { λ r. ⌜ LineFrom (itemAt (now (scratch .entry)) i) at end r ⌝ }
+// The lyric line of an item: its verse and its first note stand in its row since the part was read.
+fn line_of(item: scan_table::Row) -> Line
+    ensures { λ r. ⌜ LineFrom item r ⌝ }
 {
-    let from = scan_table::ITEMS + scan_table::ITEM * i;
-    let verse = store::get_u8(scratch, from + 3);
-    let start = store::get_u32(scratch, from + 12);
     Line {
-        start: start as usize,
-        verse,
-        at,
-        end,
+        start: item.unit as usize,
+        verse: item.b,
+        at: item.at,
+        end: item.end,
     }
 }
 
@@ -201,13 +211,13 @@ fn sing_item(text: &[u8], scratch: &mut [u8], i: usize, part: u8, sheet: Sheet) 
     ensures { λ r. ⌜ ItemSung (now (text .entry)) (now (scratch .entry)) (now (scratch .exit)) part i sheet r ⌝ }
 {
     let item = scan_table::get_item(text, scratch, i);
-    if item.kind != 5 {
+    if item.kind != scan_table::LYRIC_LINE {
         return sheet.count;
     }
     if item.part != part {
         return sheet.count;
     }
-    let line = get_line(scratch, i, item.at, item.end);
+    let line = line_of(item);
     sing_line(text, scratch, sheet, line)
 }
 
@@ -236,6 +246,6 @@ pub fn apply_abc_lyrics(text: &[u8], scratch: &mut [u8], n: usize, part: u8, she
     requires { ⌜ Fits (now text) (now scratch) n part sheet ⌝ }
     ensures { λ r. ⌜ AllSung (now (text .entry)) (now (scratch .entry)) (now (scratch .exit)) n part sheet (replicate (sheet .sounded) []) r ⌝ }
 {
-    store::clear_between(scratch, sheet.heads, sheet.heads + 4 * sheet.sounded);
+    store::clear_between(scratch, sheet.heads, sheet.heads + HEAD * sheet.sounded);
     sing_items(text, scratch, n, part, sheet)
 }

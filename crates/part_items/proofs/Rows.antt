@@ -9,8 +9,7 @@ use Rattle.laws.proofs.Parts.{length-part}
 use Rattle.laws.proofs.Splices.{length-splice, byte-below, byte-same, part-around}
 use Rattle.laws.proofs.Numbers.{length-little, littleAt-same, littleAt-below, littleAt-above}
 use Rattle.scan_table.specs.declared.Row.{Row}
-use Rattle.scan_table.specs.Rows.{itemBytes, decItem}
-use Rattle.lyrics.specs.Items.{itemAt}
+use Rattle.scan_table.specs.Rows.{rowFrom, itemAt, itemRowWidth, decItem}
 use Rattle.part_layout.specs.Log.{LogState}
 use Rattle.part_rows.specs.Table.{Only}
 use Rattle.part_rows.proofs.Tables.{table-behind, only-splice, only-then}
@@ -18,7 +17,7 @@ use Rattle.part_registers.specs.declared.Tables.{Tables}
 use Rattle.part_registers.specs.declared.Registers.{Registers}
 use Rattle.part_invariant.specs.Invariant.{Room, Represents}
 use Rattle.part_invariant.proofs.Stores.{scoped-behind}
-use Rattle.part_items.specs.Items.{rowFrom, lined}
+use Rattle.part_items.specs.Items.{lined}
 
 -- a row with a verse and a first note
 abbrev pub withLine : Row → ℕ → ℕ → Row
@@ -41,17 +40,17 @@ bytes-lined b verse start n h =
     let p8 = place 8 (omega arith) (omega arith) in
     λ i. record { kind = k0 i; part = k1 i; a = k2 i; b = v i; at = p4 i; end = p8 i; unit = u i }
 
-pub row-lined : (s : List ℕ) (i verse start : ℕ) → rowFrom i + itemBytes ≤ length s → start < 2 ^ 32 → itemAt (lined s i verse start) i ≡ withLine (itemAt s i) verse start
+pub row-lined : (s : List ℕ) (i verse start : ℕ) → rowFrom i + itemRowWidth ≤ length s → start < 2 ^ 32 → itemAt (lined s i verse start) i ≡ withLine (itemAt s i) verse start
 row-lined s i verse start h l =
-    ap decItem (part-around (splice s (rowFrom i + 3) (verse ∷ [])) (rowFrom i) itemBytes 12 (le32 start) ∙ ap (λ (b : List ℕ). splice b 12 (le32 start)) (part-around s (rowFrom i) itemBytes 3 (verse ∷ [])))
-    ∙ bytes-lined (part s (rowFrom i) itemBytes) verse start (length-part s (rowFrom i) itemBytes h) l
+    ap decItem (part-around (splice s (rowFrom i + 3) (verse ∷ [])) (rowFrom i) itemRowWidth 12 (le32 start) ∙ ap (λ (b : List ℕ). splice b 12 (le32 start)) (part-around s (rowFrom i) itemRowWidth 3 (verse ∷ [])))
+    ∙ bytes-lined (part s (rowFrom i) itemRowWidth) verse start (length-part s (rowFrom i) itemRowWidth h) l
 
 -- no other byte changed
-pub only-lined : (s : List ℕ) (i verse start : ℕ) → Only (rowFrom i) (rowFrom i + itemBytes) s (lined s i verse start)
+pub only-lined : (s : List ℕ) (i verse start : ℕ) → Only (rowFrom i) (rowFrom i + itemRowWidth) s (lined s i verse start)
 only-lined s i verse start =
     let m = splice s (rowFrom i + 3) (verse ∷ []) in
-    only-then (only-splice (rowFrom i) (rowFrom i + itemBytes) s m (rowFrom i + 3) (verse ∷ []) refl (omega arith) (omega arith))
-    (only-splice (rowFrom i) (rowFrom i + itemBytes) m (lined s i verse start) (rowFrom i + 12) (le32 start) refl (omega arith) (omega (arith, length-little 4 start)))
+    only-then (only-splice (rowFrom i) (rowFrom i + itemRowWidth) s m (rowFrom i + 3) (verse ∷ []) refl (omega arith) (omega arith))
+    (only-splice (rowFrom i) (rowFrom i + itemRowWidth) m (lined s i verse start) (rowFrom i + 12) (le32 start) refl (omega arith) (omega (arith, length-little 4 start)))
 
 -- A WRITE BEFORE THE TABLES leaves a part held
 module _ {t : Tables} {s : List ℕ} {r : Registers} (room : Room t (r .counts) (length s) 0 0 0 0) (s′ : List ℕ) (k : ℕ) (bs : List ℕ) (e : s′ ≡ splice s k bs) (q : k + length bs ≤ t .heads) where

@@ -26,9 +26,10 @@ use Rattle.part_layout.specs.Ends.{onLyric, onItem}
 use Rattle.part_layout.proofs.Lines.{between-items}
 use Rattle.part_layout.proofs.Back.{reverse-back}
 use Rattle.scan_table.specs.declared.Row.{Row}
-use Rattle.scan_table.specs.Rows.{itemsFrom, itemBytes, decItem, itemAs, itemIn, itemsIn, RowIs}
+use Rattle.scan_table.proofs.Rows.{music-kind}
+use Rattle.scan_table.specs.Rows.{rowFrom, itemAt, voiceDeclaredKind, resetKind, keyInHeaderKind, keyChangeKind, meterChangeKind, lyricLineKind, itemsFrom, itemRowWidth, decItem, itemAs, itemIn, itemsIn, RowIs}
 use Rattle.scan_table.proofs.Rows.{items-none, items-get, length-items}
-use Rattle.lyrics.specs.Items.{isLine, lineIn, itemAt, lineOf, linesIn}
+use Rattle.lyrics.specs.Items.{isLine, lineIn, lineOf, linesIn}
 use Rattle.lyrics.proofs.Applying.{item-words, lines-more}
 use Rattle.part_rows.specs.Table.{Only}
 use Rattle.part_rows.proofs.Tables.{only-none, only-then, only-wider}
@@ -38,7 +39,7 @@ use Rattle.part_invariant.specs.Invariant.{Represents}
 use Rattle.part_invariant.proofs.Appending.{room-same}
 use Rattle.part_invariant.specs.Lines.{RoomForBytes, RepresentedBetween, GrowsBy, SimulatesItem}
 use Rattle.capacity.specs.Music.{musicIn, musicOf}
-use Rattle.part_items.specs.Items.{begun, versed, rowFrom, lined, ownAt, Ready, Taken, after, Built}
+use Rattle.part_items.specs.Items.{begun, versed, lined, ownAt, Ready, Taken, after, Built}
 use Rattle.part_items.proofs.Music.{music-append, mine-append, rest-first, rest-then, rest-as, rest-room, grows-none}
 use Rattle.part_items.proofs.Each.{begun-held, addedBy, item-lines}
 use Rattle.part_items.proofs.Rows.{withLine, row-lined, only-lined, held-behind}
@@ -66,19 +67,8 @@ one-line : (text : List ℕ) (p : ℕ) (q : Row) → isLine p q ≡ true → lin
 unfolding lineOf
 one-line text p q e = ap (map (lineIn text)) (filter-yes (isLine p) q [] e)
 
--- A KIND past the lyric lines' is a music line
-played-kind : (k : ℕ) (text : List ℕ) (q : Row) → (k ≡ 0 → ⊥) → (k ≡ 1 → ⊥) → (k ≡ 2 → ⊥) → (k ≡ 3 → ⊥) → (k ≡ 4 → ⊥) → (k ≡ 5 → ⊥) → itemAs k text q ≡ musicLine (q .unit) (q .a, q .b) (between text (q .at) (q .end))
-unfolding itemAs
-played-kind zero text q a b c d e f = absurd (a refl)
-played-kind (suc zero) text q a b c d e f = absurd (b refl)
-played-kind (suc (suc zero)) text q a b c d e f = absurd (c refl)
-played-kind (suc (suc (suc zero))) text q a b c d e f = absurd (d refl)
-played-kind (suc (suc (suc (suc zero)))) text q a b c d e f = absurd (e refl)
-played-kind (suc (suc (suc (suc (suc zero))))) text q a b c d e f = absurd (f refl)
-played-kind (suc (suc (suc (suc (suc (suc k)))))) text q a b c d e f = refl
-
 -- a lyric line with its verse and first note is the same item
-same-sung : (k : ℕ) (text : List ℕ) (q : Row) (verse start : ℕ) → k ≡ 5 → itemAs k text (withLine q verse start) ≡ itemAs k text q
+same-sung : (k : ℕ) (text : List ℕ) (q : Row) (verse start : ℕ) → k ≡ lyricLineKind → itemAs k text (withLine q verse start) ≡ itemAs k text q
 unfolding itemAs
 same-sung k text q verse start e = ap (λ (j : ℕ). itemAs j text (withLine q verse start)) e ∙ sym (ap (λ (j : ℕ). itemAs j text q) e)
 
@@ -117,7 +107,7 @@ module _ (text : List ℕ) (t : Tables) (header : Key) (p i : ℕ) (s : List ℕ
       let o : ownAt text p s i ≡ [] = own-no p (itemIn text (itemAt s i)) (other-owner n) in
       record {
         middle = s;
-        own-row = only-none (rowFrom i) (rowFrom i + itemBytes) s;
+        own-row = only-none (rowFrom i) (rowFrom i + itemRowWidth) s;
         tables = only-none (t .heads) (t .end) s;
         same-item = refl;
         grows = grows-none (r .counts) (musicOf (ownAt text p s i));
@@ -149,14 +139,14 @@ module _ (text : List ℕ) (t : Tables) (header : Key) (i : ℕ) (s : List ℕ) 
       (held-behind room m (rowFrom i + 3) (r .verses .verse ∷ []) refl (omega (arith, ready .before)) l h)
 
   -- none but a lyric line
-  pub taken-plain : (x : Item) → itemAs (row .kind) text row ≡ x → (row .kind ≡ 5 → ⊥) → ((l : LogState) → addedBy l x ≡ []) → {s′ : List ℕ} {r′ : Registers} {bs : List ℕ} → musicIn x ≡ bs → SimulatesItem t s r s′ r′ bs (λ l. onItem header l x)
+  pub taken-plain : (x : Item) → itemAs (row .kind) text row ≡ x → (row .kind ≡ lyricLineKind → ⊥) → ((l : LogState) → addedBy l x ≡ []) → {s′ : List ℕ} {r′ : Registers} {bs : List ℕ} → musicIn x ≡ bs → SimulatesItem t s r s′ r′ bs (λ l. onItem header l x)
       → Taken text t header (row .part) i s r s′ r′
   unfolding isLine
   taken-plain x e n a {s′} {r′} {bs} m k =
       let o = own-is x e in
       record {
         middle = s;
-        own-row = only-none (rowFrom i) (rowFrom i + itemBytes) s;
+        own-row = only-none (rowFrom i) (rowFrom i + itemRowWidth) s;
         tables = k .only;
         same-item = refl;
         grows = subst (λ (b : List ℕ). GrowsBy (r .counts) (r′ .counts) b) (sym (own-music x e ∙ m)) (k .grows);
@@ -164,32 +154,32 @@ module _ (text : List ℕ) (t : Tables) (header : Key) (i : ℕ) (s : List ℕ) 
         lines =
             λ l h. ap (λ (xs : List Item). reverse (foldl (onItem header) l xs .verses .lines)) o ∙ ap reverse (item-lines header l x ∙ ap (λ (ls : List Sung). ls ++ l .verses .lines) (a l))
             ∙ sym (append-nil (reverse (l .verses .lines)))
-            ∙ ap (λ (ls : List Sung). reverse (l .verses .lines) ++ ls) (sym (no-line text (row .part) (itemAt s i) (and-no-left _ _ (ne-eqb (itemAt s i .kind) 5 (λ f. n (is .kind ∙ f))))));
+            ∙ ap (λ (ls : List Sung). reverse (l .verses .lines) ++ ls) (sym (no-line text (row .part) (itemAt s i) (and-no-left _ _ (ne-eqb (itemAt s i .kind) lyricLineKind (λ f. n (is .kind ∙ f))))));
       }
 
   -- each kind of them
-  pub taken-born : {r′ : Registers} → row .kind ≡ 0 → SimulatesItem t s r s r′ [] (λ l. onItem header l (voiceDeclared (eqb (row .a) 1))) → Taken text t header (row .part) i s r s r′
+  pub taken-born : {r′ : Registers} → row .kind ≡ voiceDeclaredKind → SimulatesItem t s r s r′ [] (λ l. onItem header l (voiceDeclared (eqb (row .a) 1))) → Taken text t header (row .part) i s r s r′
   unfolding itemAs addedBy musicIn
   taken-born e k = taken-plain (voiceDeclared (eqb (row .a) 1)) (ap (λ (j : ℕ). itemAs j text row) e) (λ f. omega (arith, e, f)) (λ l. refl) refl k
 
-  pub taken-reset : {r′ : Registers} → row .kind ≡ 1 → SimulatesItem t s r s r′ [] (λ l. onItem header l reset) → Taken text t header (row .part) i s r s r′
+  pub taken-reset : {r′ : Registers} → row .kind ≡ resetKind → SimulatesItem t s r s r′ [] (λ l. onItem header l reset) → Taken text t header (row .part) i s r s r′
   unfolding itemAs addedBy musicIn
   taken-reset e k = taken-plain reset (ap (λ (j : ℕ). itemAs j text row) e) (λ f. omega (arith, e, f)) (λ l. refl) refl k
 
-  pub taken-headed : {r′ : Registers} → row .kind ≡ 2 → SimulatesItem t s r s r′ [] (λ l. onItem header l keyInHeader) → Taken text t header (row .part) i s r s r′
+  pub taken-headed : {r′ : Registers} → row .kind ≡ keyInHeaderKind → SimulatesItem t s r s r′ [] (λ l. onItem header l keyInHeader) → Taken text t header (row .part) i s r s r′
   unfolding itemAs addedBy musicIn
   taken-headed e k = taken-plain keyInHeader (ap (λ (j : ℕ). itemAs j text row) e) (λ f. omega (arith, e, f)) (λ l. refl) refl k
 
-  pub taken-keyed : {s′ : List ℕ} {r′ : Registers} → row .kind ≡ 3 → SimulatesItem t s r s′ r′ [] (λ l. onItem header l (keyChange (record { fifths = row .a; minor = eqb (row .b) 1 }))) → Taken text t header (row .part) i s r s′ r′
+  pub taken-keyed : {s′ : List ℕ} {r′ : Registers} → row .kind ≡ keyChangeKind → SimulatesItem t s r s′ r′ [] (λ l. onItem header l (keyChange (record { fifths = row .a; minor = eqb (row .b) 1 }))) → Taken text t header (row .part) i s r s′ r′
   unfolding itemAs addedBy musicIn
   taken-keyed e k = taken-plain (keyChange (record { fifths = row .a; minor = eqb (row .b) 1 })) (ap (λ (j : ℕ). itemAs j text row) e) (λ f. omega (arith, e, f)) (λ l. refl) refl k
 
-  pub taken-metered : {s′ : List ℕ} {r′ : Registers} → row .kind ≡ 4 → SimulatesItem t s r s′ r′ [] (λ l. onItem header l (meterChange (row .a, row .b))) → Taken text t header (row .part) i s r s′ r′
+  pub taken-metered : {s′ : List ℕ} {r′ : Registers} → row .kind ≡ meterChangeKind → SimulatesItem t s r s′ r′ [] (λ l. onItem header l (meterChange (row .a, row .b))) → Taken text t header (row .part) i s r s′ r′
   unfolding itemAs addedBy musicIn
   taken-metered e k = taken-plain (meterChange (row .a, row .b)) (ap (λ (j : ℕ). itemAs j text row) e) (λ f. omega (arith, e, f)) (λ l. refl) refl k
 
   -- a lyric line
-  pub taken-sung : row .kind ≡ 5 → Ready text t (row .part) i s r → (s′ : List ℕ) (r′ : Registers) → r′ ≡ versed r (eqb (row .a) 1) → r .verses .start < 2 ^ 32 → s′ ≡ lined s i (r .verses .verse) (r .verses .start)
+  pub taken-sung : row .kind ≡ lyricLineKind → Ready text t (row .part) i s r → (s′ : List ℕ) (r′ : Registers) → r′ ≡ versed r (eqb (row .a) 1) → r .verses .start < 2 ^ 32 → s′ ≡ lined s i (r .verses .verse) (r .verses .start)
       → Taken text t header (row .part) i s r s′ r′
   unfolding itemIn isLine lineIn addedBy itemAs musicIn
   taken-sung e ready s′ r′ er small es =
@@ -199,13 +189,13 @@ module _ (text : List ℕ) (t : Tables) (header : Key) (i : ℕ) (s : List ℕ) 
       let o = own-is x a in
       let q = itemAt s i in
       let m = lined s i (r .verses .verse) (r .verses .start) in
-      let inside : rowFrom i + itemBytes ≤ length s = omega (arith, ready .before, ready .room .for-heads, ready .room .for-notes, ready .room .for-pitches, ready .room .for-scopes, ready .room .ends) in
+      let inside : rowFrom i + itemRowWidth ≤ length s = omega (arith, ready .before, ready .room .for-heads, ready .room .for-notes, ready .room .for-pitches, ready .room .for-scopes, ready .room .ends) in
       let now : itemAt m i ≡ withLine q (r .verses .verse) (r .verses .start) = row-lined s i (r .verses .verse) (r .verses .start) inside small in
-      let five : q .kind ≡ 5 = sym (is .kind) ∙ e in
+      let five : q .kind ≡ lyricLineKind = sym (is .kind) ∙ e in
       let its : q .part ≡ row .part = sym (ap (λ (y : ℕ × Item). y .0) (is .item)) in
       let line : lineOf text (row .part) (itemAt m i) ≡ lineIn text (withLine q (r .verses .verse) (r .verses .start)) ∷ [] =
       ap (lineOf text (row .part)) now
-      ∙ one-line text (row .part) (withLine q (r .verses .verse) (r .verses .start)) (and-both _ _ (eq-eqb (q .kind) 5 five) (eq-eqb (q .part) (row .part) its)) in
+      ∙ one-line text (row .part) (withLine q (r .verses .verse) (r .verses .start)) (and-both _ _ (eq-eqb (q .kind) lyricLineKind five) (eq-eqb (q .part) (row .part) its)) in
       record {
         middle = m;
         own-row = only-lined s i (r .verses .verse) (r .verses .start);
@@ -224,9 +214,9 @@ module _ (text : List ℕ) (t : Tables) (header : Key) (i : ℕ) (s : List ℕ) 
       }
 
   -- a music line
-  module _ (n0 : row .kind ≡ 0 → ⊥) (n1 : row .kind ≡ 1 → ⊥) (n2 : row .kind ≡ 2 → ⊥) (n3 : row .kind ≡ 3 → ⊥) (n4 : row .kind ≡ 4 → ⊥) (n5 : row .kind ≡ 5 → ⊥) where
+  module _ (n0 : row .kind ≡ voiceDeclaredKind → ⊥) (n1 : row .kind ≡ resetKind → ⊥) (n2 : row .kind ≡ keyInHeaderKind → ⊥) (n3 : row .kind ≡ keyChangeKind → ⊥) (n4 : row .kind ≡ meterChangeKind → ⊥) (n5 : row .kind ≡ lyricLineKind → ⊥) where
     is-played : itemAs (row .kind) text row ≡ musicLine (row .unit) (row .a, row .b) (between text (row .at) (row .end))
-    is-played = played-kind (row .kind) text row n0 n1 n2 n3 n4 n5
+    is-played = music-kind (row .kind) text row n0 n1 n2 n3 n4 n5
 
     pub played-room : Ready text t (row .part) i s r → (line : List ℕ) → line ≡ between text (row .at) (row .end) → RoomForBytes t (r .counts) (length s) line × RepresentedBetween t s r
     unfolding musicIn
@@ -257,13 +247,13 @@ items-as : (text s s₀ : List ℕ) (n : ℕ) → ((j : ℕ) → j < n → itemI
 unfolding itemsIn rows
 items-as text s s₀ zero h = refl
 items-as text s s₀ (suc n) h =
-    map-append (itemIn text) (rows decItem itemBytes s itemsFrom n) (itemAt s n ∷ [])
+    map-append (itemIn text) (rows decItem itemRowWidth s itemsFrom n) (itemAt s n ∷ [])
     ∙ (λ i. items-as text s s₀ n (λ j l. h j (omega arith)) i ++ (h n (omega arith) i ∷ []))
-    ∙ sym (map-append (itemIn text) (rows decItem itemBytes s₀ itemsFrom n) (itemAt s₀ n ∷ []))
+    ∙ sym (map-append (itemIn text) (rows decItem itemRowWidth s₀ itemsFrom n) (itemAt s₀ n ∷ []))
 
 items-more : (text s : List ℕ) (i : ℕ) → itemsIn text s (i + 1) ≡ itemsIn text s i ++ (itemIn text (itemAt s i) ∷ [])
 unfolding itemsIn
-items-more text s i = ap (map (itemIn text)) (rows-more decItem itemBytes s itemsFrom i) ∙ map-append (itemIn text) (rows decItem itemBytes s itemsFrom i) (itemAt s i ∷ [])
+items-more text s i = ap (map (itemIn text)) (rows-more decItem itemRowWidth s itemsFrom i) ∙ map-append (itemIn text) (rows decItem itemRowWidth s itemsFrom i) (itemAt s i ∷ [])
 
 -- the part after one item more
 after-more : (header : Key) (text s : List ℕ) (p i : ℕ) → after header text s p (i + 1) ≡ foldl (onItem header) (after header text s p i) (ownAt text p s i)
@@ -273,15 +263,15 @@ after-more header text s p i =
     ∙ foldl-append (onItem header) newLog (itemsOf p (itemsIn text s i)) (ownAt text p s i)
 
 -- what stands before a place that is not written
-pub items-front : (text s s′ : List ℕ) (n m : ℕ) → take m s′ ≡ take m s → itemsFrom + itemBytes * n ≤ m → itemsIn text s′ n ≡ itemsIn text s n
+pub items-front : (text s s′ : List ℕ) (n m : ℕ) → take m s′ ≡ take m s → itemsFrom + itemRowWidth * n ≤ m → itemsIn text s′ n ≡ itemsIn text s n
 unfolding itemsIn
-items-front text s s′ n m e h = ap (map (itemIn text)) (rows-front decItem itemBytes s s′ m itemsFrom n e h)
+items-front text s s′ n m e h = ap (map (itemIn text)) (rows-front decItem itemRowWidth s s′ m itemsFrom n e h)
 
-pub lines-front : (text s s′ : List ℕ) (p i m : ℕ) → take m s′ ≡ take m s → itemsFrom + itemBytes * i ≤ m → linesIn text s′ p i ≡ linesIn text s p i
+pub lines-front : (text s s′ : List ℕ) (p i m : ℕ) → take m s′ ≡ take m s → itemsFrom + itemRowWidth * i ≤ m → linesIn text s′ p i ≡ linesIn text s p i
 unfolding linesIn
-lines-front text s s′ p i m e h = ap (λ (rs : List Row). map (lineIn text) (filter (isLine p) rs)) (rows-front decItem itemBytes s s′ m itemsFrom i e h)
+lines-front text s s′ p i m e h = ap (λ (rs : List Row). map (lineIn text) (filter (isLine p) rs)) (rows-front decItem itemRowWidth s s′ m itemsFrom i e h)
 
-module _ (text : List ℕ) (t : Tables) (header : Key) (p n : ℕ) (s₀ : List ℕ) (before : itemsFrom + itemBytes * n ≤ t .heads) where
+module _ (text : List ℕ) (t : Tables) (header : Key) (p n : ℕ) (s₀ : List ℕ) (before : itemsFrom + itemRowWidth * n ≤ t .heads) where
   pub going-start : RoomForBytes t (begun .counts) (length s₀) (musicOf (itemsOf p (itemsIn text s₀ n))) → (r : Registers) → r ≡ begun → Going text t header p n s₀ s₀ r 0
   unfolding linesIn newLog
   going-start room r e =
@@ -292,7 +282,7 @@ module _ (text : List ℕ) (t : Tables) (header : Key) (p n : ℕ) (s₀ : List 
         ahead = λ j l h. refl;
         behind = λ j l. absurd (not-suc-le-zero l);
         lines =
-            ap (λ (rs : List Row). map (lineIn text) (filter (isLine p) rs)) (rows-none decItem itemBytes s₀ itemsFrom)
+            ap (λ (rs : List Row). map (lineIn text) (filter (isLine p) rs)) (rows-none decItem itemRowWidth s₀ itemsFrom)
             ∙ sym (ap (λ (xs : List (ℕ × Item)). reverse (foldl (onItem header) newLog (itemsOf p xs) .verses .lines)) none);
         represents = rw (none, e) (begun-held t s₀ (omega (arith, room .for-scopes, room .ends)));
         room = rw e room;
@@ -324,13 +314,13 @@ module _ (text : List ℕ) (t : Tables) (header : Key) (p n : ℕ) (s₀ : List 
     module _ (s′ : List ℕ) (r′ : Registers) (k : Taken text t header p i s r s′ r′) where
       -- a row before the tables
       row-now : (j : ℕ) → j < n → itemAt s′ j ≡ itemAt (k .middle) j
-      row-now j h = ap decItem (part-front s′ (k .middle) (t .heads) (rowFrom j) itemBytes (k .tables .front) (omega (arith, before, h)))
+      row-now j h = ap decItem (part-front s′ (k .middle) (t .heads) (rowFrom j) itemRowWidth (k .tables .front) (omega (arith, before, h)))
 
       row-before : (j : ℕ) → j < i → itemAt s′ j ≡ itemAt s j
-      row-before j h = row-now j (omega (arith, h, l)) ∙ ap decItem (part-front (k .middle) s (rowFrom i) (rowFrom j) itemBytes (k .own-row .front) (omega (arith, h)))
+      row-before j h = row-now j (omega (arith, h, l)) ∙ ap decItem (part-front (k .middle) s (rowFrom i) (rowFrom j) itemRowWidth (k .own-row .front) (omega (arith, h)))
 
       row-behind : (j : ℕ) → i + 1 ≤ j → j < n → itemAt s′ j ≡ itemAt s j
-      row-behind j h m = row-now j m ∙ ap decItem (part-back (k .middle) s (rowFrom i + itemBytes) (rowFrom j) itemBytes (k .own-row .back) (omega (arith, h)))
+      row-behind j h m = row-now j m ∙ ap decItem (part-back (k .middle) s (rowFrom i + itemRowWidth) (rowFrom j) itemRowWidth (k .own-row .back) (omega (arith, h)))
 
       heads-end : t .heads ≤ t .end
       heads-end = omega (arith, g .room .for-heads, g .room .for-notes, g .room .for-pitches, g .room .for-scopes)

@@ -14,8 +14,8 @@ use Rattle.part_layout.specs.Log.{LogState, newLog}
 use Rattle.part_layout.specs.Ends.{onItem}
 use Rattle.part_layout.proofs.Lines.{Between}
 use Rattle.capacity.specs.Music.{musicOf}
-use Rattle.scan_table.specs.Rows.{itemsFrom, itemBytes, itemIn, itemsIn}
-use Rattle.lyrics.specs.Items.{itemAt, lineOf, linesIn}
+use Rattle.scan_table.specs.Rows.{rowFrom, itemAt, itemsFrom, itemRowWidth, itemIn, itemsIn}
+use Rattle.lyrics.specs.Items.{lineOf, linesIn}
 use Rattle.part_rows.specs.Table.{Only}
 use Rattle.part_registers.specs.declared.Tables.{Tables}
 use Rattle.part_registers.specs.declared.Registers.{Registers}
@@ -71,10 +71,6 @@ withVerse r v =
 abbrev pub versed : Registers → Bool → Registers
 versed r placed = withVerse r (cond placed (nextVerse (r .verses .verse)) (r .verses .verse))
 
--- where item i stands
-abbrev pub rowFrom : ℕ → ℕ
-rowFrom i = itemsFrom + itemBytes * i
-
 -- its row with a verse and a first note
 abbrev pub lined : List ℕ → ℕ → ℕ → ℕ → List ℕ
 lined s i verse start = splice (splice s (rowFrom i + 3) (verse ∷ [])) (rowFrom i + 12) (le32 start)
@@ -87,12 +83,12 @@ ownAt text p s i = itemsOf p (itemIn text (itemAt s i) ∷ [])
 pub record Ready (text : List ℕ) (t : Tables) (p i : ℕ) (s : List ℕ) (r : Registers) : Type 0 where
   pub room : RoomForBytes t (r .counts) (length s) (musicOf (ownAt text p s i))
   pub waits : RepresentedBetween t s r
-  pub before : rowFrom i + itemBytes ≤ t .heads
+  pub before : rowFrom i + itemRowWidth ≤ t .heads
 
 -- IT WAS TAKEN: at most its own row changed, which is the same item still, and then the tables
 pub record Taken (text : List ℕ) (t : Tables) (header : Key) (p i : ℕ) (s : List ℕ) (r : Registers) (s′ : List ℕ) (r′ : Registers) : Type 0 where
   pub middle : List ℕ
-  pub own-row : Only (rowFrom i) (rowFrom i + itemBytes) s middle
+  pub own-row : Only (rowFrom i) (rowFrom i + itemRowWidth) s middle
   pub tables : Only (t .heads) (t .end) middle s′
   pub same-item : itemIn text (itemAt middle i) ≡ itemIn text (itemAt s i)
   pub grows : GrowsBy (r .counts) (r′ .counts) (musicOf (ownAt text p s i))

@@ -10,8 +10,7 @@ ghost use Rattle.reader.specs.Scan as scan;
 ghost use Rattle.reader.specs.Steps.{itemsOf};
 ghost use Rattle.part_layout.specs.Ends.{onItem};
 ghost use Rattle.capacity.specs.Music.{musicOf};
-ghost use Rattle.scan_table.specs.Rows.{itemsIn, RowIs};
-ghost use Rattle.lyrics.specs.Items.{itemAt};
+ghost use Rattle.scan_table.specs.Rows.{itemAt, itemsIn, RowIs};
 ghost use Rattle.part_invariant.specs.Lines.{RoomForBytes, RepresentedBetween, SimulatesItem};
 ghost use Rattle.part_items.specs.Items.{begun, keyedAs, versed, lined, Ready, Taken, Built};
 use part_accidentals::AbcPartParseState;
@@ -199,23 +198,23 @@ fn on_item(
     ensures { λ x. ⌜ Taken (now (text .entry)) t (record { fifths = fifths; minor = minor }) (row .part) i (now (store .entry)) r (now (store .exit)) x ⌝ }
 {
     let kind = row.kind;
-    if kind == 0 {
+    if kind == scan_table::VOICE_DECLARED {
         return on_voice_declared(r, row.a == 1, fifths, minor);
     }
-    if kind == 1 {
+    if kind == scan_table::RESET {
         return on_reset(r);
     }
-    if kind == 2 {
+    if kind == scan_table::KEY_IN_HEADER {
         return on_header_key(r, fifths, minor);
     }
-    if kind == 3 {
+    if kind == scan_table::KEY_CHANGE {
         return on_key(store, t, r, fifths, minor, row.a, row.b == 1);
     }
-    if kind == 4 {
+    if kind == scan_table::METER_CHANGE {
         on_meter(store, t, r, row.a, row.b);
         return r;
     }
-    if kind == 5 {
+    if kind == scan_table::LYRIC_LINE {
         return on_lyric(store, i, r, row.a == 1);
     }
     let at = row.at;

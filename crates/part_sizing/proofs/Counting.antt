@@ -21,9 +21,9 @@ use Rattle.capacity.specs.Sizes.{isBar, isRest, isSign, bars, letters, rests, s
 use Rattle.capacity.specs.Music.{musicIn, musicOf}
 use Rattle.capacity.proofs.Tokens.{bars-both, letters-both, rests-both, signs-both}
 use Rattle.scan_table.specs.declared.Row.{Row}
-use Rattle.scan_table.specs.Rows.{itemAs, itemIn, itemsIn, RowIs}
+use Rattle.scan_table.proofs.Rows.{music-kind}
+use Rattle.scan_table.specs.Rows.{itemAt, musicLineKind, itemAs, itemIn, itemsIn, RowIs}
 use Rattle.scan_table.proofs.Rows.{items-get, length-items}
-use Rattle.lyrics.specs.Items.{itemAt}
 use Rattle.part_sizing.specs.declared.Made.{Made}
 use Rattle.part_sizing.specs.declared.Block.{Block}
 use Rattle.part_sizing.specs.Counting.{madeOf, more, both, asMade, Few, Under, Adds}
@@ -157,7 +157,7 @@ module _ (line : List ℕ) (m q : Made) (i : ℕ) (left : more q (between line i
 
 -- AN ITEM
 -- of a kind that is no music line
-no-music : (k : ℕ) (text : List ℕ) (r : Row) → k < 6 → musicIn (itemAs k text r) ≡ []
+no-music : (k : ℕ) (text : List ℕ) (r : Row) → k < musicLineKind → musicIn (itemAs k text r) ≡ []
 unfolding itemAs musicIn
 no-music zero text r h = refl
 no-music (suc zero) text r h = refl
@@ -168,15 +168,9 @@ no-music (suc (suc (suc (suc (suc zero))))) text r h = refl
 no-music (suc (suc (suc (suc (suc (suc k)))))) text r h = absurd (omega arith)
 
 -- a music line
-line-music : (k : ℕ) (text : List ℕ) (r : Row) → 6 ≤ k → musicIn (itemAs k text r) ≡ between text (r .at) (r .end)
-unfolding itemAs musicIn
-line-music zero text r h = absurd (omega arith)
-line-music (suc zero) text r h = absurd (omega arith)
-line-music (suc (suc zero)) text r h = absurd (omega arith)
-line-music (suc (suc (suc zero))) text r h = absurd (omega arith)
-line-music (suc (suc (suc (suc zero)))) text r h = absurd (omega arith)
-line-music (suc (suc (suc (suc (suc zero))))) text r h = absurd (omega arith)
-line-music (suc (suc (suc (suc (suc (suc k)))))) text r h = refl
+line-music : (k : ℕ) (text : List ℕ) (r : Row) → musicLineKind ≤ k → musicIn (itemAs k text r) ≡ between text (r .at) (r .end)
+unfolding musicIn
+line-music k text r h = ap musicIn (music-kind k text r (λ e. omega (arith, e)) (λ e. omega (arith, e)) (λ e. omega (arith, e)) (λ e. omega (arith, e)) (λ e. omega (arith, e)) (λ e. omega (arith, e)))
 
 -- the music of an item, if it is the part's
 abbrev ownMusic : ℕ → ℕ × Item → List ℕ
@@ -193,7 +187,7 @@ module _ (text : List ℕ) (q r : Row) (p : ℕ) (m : Made) (is : RowIs text q r
   counted : (l : List ℕ) → ownMusic p (itemIn text r) ≡ l → more m l ≡ more m (ownMusic p (itemIn text q))
   counted l e = ap (more m) (sym e ∙ ap (ownMusic p) (is .item))
 
-  pub other-kind : r .kind < 6 → m ≡ more m (ownMusic p (itemIn text q))
+  pub other-kind : r .kind < musicLineKind → m ≡ more m (ownMusic p (itemIn text q))
   unfolding itemIn
   other-kind h =
       sym (more-none m)
@@ -206,7 +200,7 @@ module _ (text : List ℕ) (q r : Row) (p : ℕ) (m : Made) (is : RowIs text q r
   unfolding itemIn
   other-part n = sym (more-none m) ∙ counted [] (not-own p (itemIn text r) (ne-eqb (r .part) p n))
 
-  pub line-counted : 6 ≤ r .kind → r .part ≡ p → (x : Made) → x ≡ more m (take (r .end - r .at) (drop (r .at) text)) → x ≡ more m (ownMusic p (itemIn text q))
+  pub line-counted : musicLineKind ≤ r .kind → r .part ≡ p → (x : Made) → x ≡ more m (take (r .end - r .at) (drop (r .at) text)) → x ≡ more m (ownMusic p (itemIn text q))
   unfolding itemIn part
   line-counted h o x e =
       e ∙ counted (take (r .end - r .at) (drop (r .at) text)) (own p (itemIn text r) (eq-eqb (r .part) p o) ∙ line-music (r .kind) text r h)

@@ -18,7 +18,7 @@ use Rattle.reader.specs.Steps.{itemsOf}
 use Rattle.bounds.specs.Weights.{lyricBytes}
 use Rattle.capacity.specs.Sizes.{isBar, isRest, isSign, bars, letters, rests, signs, tones}
 use Rattle.scan_table.specs.declared.Row.{Row}
-use Rattle.scan_table.specs.Rows.{decItem, itemAs, itemIn, itemsIn}
+use Rattle.scan_table.specs.Rows.{itemsFrom, itemRowWidth, lyricLineKind, decItem, itemAs, itemIn, itemsIn}
 use Rattle.lyrics.specs.declared.Sheet.{Sheet}
 use Rattle.lyrics.specs.Items.{isLine, lineIn, linesIn, rowsOf, Fits}
 use Rattle.part_registers.specs.declared.Tables.{Tables}
@@ -91,24 +91,24 @@ music-covered [] = omega arith
 music-covered (c ∷ l) = omega (arith, music-covered l, byte-covered c, count-cons isBar c l, count-cons isLetter c l, count-cons isRest c l, count-cons isSign c l)
 
 -- LYRICS: the rows that the lyric lines of a part can need
-lyric-five : (k : ℕ) (text : List ℕ) (r : Row) → k ≡ 5 → lyricBytes (itemAs k text r) ≡ length (between text (r .at) (r .end))
+lyric-kind : (k : ℕ) (text : List ℕ) (r : Row) → k ≡ lyricLineKind → lyricBytes (itemAs k text r) ≡ length (between text (r .at) (r .end))
 unfolding itemAs lyricBytes
-lyric-five k text r e = ap (λ (j : ℕ). lyricBytes (itemAs j text r)) e
+lyric-kind k text r e = ap (λ (j : ℕ). lyricBytes (itemAs j text r)) e
 
 lines-rows : (text : List ℕ) (p : ℕ) (rs : List Row) → rowsOf (map (lineIn text) (filter (isLine p) rs)) ≤ sum lyricBytes (itemsOf p (map (itemIn text) rs))
 unfolding rowsOf lineIn isLine itemIn
 lines-rows text p [] = omega arith
 lines-rows text p (r ∷ rs) =
-    by-test (eqb (r .kind) 5 && eqb (r .part) p)
+    by-test (eqb (r .kind) lyricLineKind && eqb (r .part) p)
     (λ e.
-    let k = eqb-true (r .kind) 5 (and-left (eqb (r .kind) 5) (eqb (r .part) p) e) in
-    rw (e, and-right (eqb (r .kind) 5) (eqb (r .part) p) e) (omega (arith, lines-rows text p rs, lyric-five (r .kind) text r k)))
+    let k = eqb-true (r .kind) lyricLineKind (and-left (eqb (r .kind) lyricLineKind) (eqb (r .part) p) e) in
+    rw (e, and-right (eqb (r .kind) lyricLineKind) (eqb (r .part) p) e) (omega (arith, lines-rows text p rs, lyric-kind (r .kind) text r k)))
     (λ e. rw e
     (by-test (eqb (r .part) p) (λ f. rw f (omega (arith, lines-rows text p rs))) (λ f. rw f (lines-rows text p rs))))
 
 pub rows-most : (text s : List ℕ) (p n : ℕ) → rowsOf (linesIn text s p n) ≤ sum lyricBytes (itemsOf p (itemsIn text s n))
 unfolding linesIn itemsIn
-rows-most text s p n = lines-rows text p (rows decItem 16 s 256 n)
+rows-most text s p n = lines-rows text p (rows decItem itemRowWidth s itemsFrom n)
 
 -- A PART
 module _ (text s : List ℕ) (n p : ℕ) (room : PartRoom text s n p) where

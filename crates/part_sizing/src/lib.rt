@@ -8,8 +8,7 @@ ghost use Rattle.laws.specs.Bytes.{between};
 ghost use Rattle.reader.specs.Steps.{itemsOf};
 ghost use Rattle.capacity.specs.Sizes.{isBar, isRest, isSign};
 ghost use Rattle.capacity.specs.Music.{musicOf};
-ghost use Rattle.scan_table.specs.Rows.{itemIn, itemsIn};
-ghost use Rattle.lyrics.specs.Items.{itemAt};
+ghost use Rattle.scan_table.specs.Rows.{itemAt, itemIn, itemsIn};
 ghost use Rattle.part_sizing.specs.Counting.{madeOf, more, both, asMade, Few, Under, Adds, tablesAt};
 ghost use Rattle.part_sizing.specs.Room.{PartRoom, Sized};
 use part_registers::Tables;
@@ -150,7 +149,7 @@ fn with_item(text: &[u8], scratch: &[u8], i: usize, part: u8, m: Made) -> Made
     ensures { λ r. ⌜ r ≡ more m (musicOf (itemsOf part (itemIn (now (text .entry)) (itemAt (now (scratch .entry)) i) ∷ []))) ⌝ }
 {
     let item = scan_table::get_item(text, scratch, i);
-    if item.kind < 6 {
+    if item.kind < scan_table::MUSIC_LINE {
         return m;
     }
     if item.part != part {

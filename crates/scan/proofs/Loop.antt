@@ -24,7 +24,7 @@ use Rattle.scan_table.proofs.Rows.{voices-none, items-none}
 use Rattle.scan_states.specs.declared.State.{State}
 use Rattle.scan_states.specs.declared.Step as code
 use Rattle.scan_states.specs.declared.Step.the-variants.{On, Refused}
-use Rattle.scan_states.specs.States.{heldIn, held, reached, Follows, Stepped}
+use Rattle.scan_states.specs.States.{stateWith, stateIn, outIn, Follows, Stepped}
 use Rattle.scan_states.proofs.Items.{by-kind, refused-kind}
 use Rattle.scan.specs.Scanned.{Open, LinesFit, Line, scannedAs, Done, ScanIs}
 use Rattle.scan.proofs.Music.{music-told}
@@ -65,12 +65,12 @@ module _ {S I : Type 0} (f : S → TextLine → Step S I) where
 
 -- ONE LINE
 module _ (text s : List ℕ) (st : State) (row : List ℕ) where
-  step-in : st .lines < 10000 → step (held text s st) row ≡ act (held text s st) (kindOf row) (st .in_header)
+  step-in : st .lines < 10000 → step (stateIn text s st) row ≡ act (stateIn text s st) (kindOf row) (st .in_header)
   unfolding step
   step-in h = rw (lt-ltb (st .lines) 10000 h)
 
   -- refusal 4
-  pub too-many-lines : (s′ : List ℕ) → 10000 ≤ st .lines → Line text s st (step (held text s st) row) s′ (Refused 4 (suc (st .lines)))
+  pub too-many-lines : (s′ : List ℕ) → 10000 ≤ st .lines → Line text s st (step (stateIn text s st) row) s′ (Refused 4 (suc (st .lines)))
   unfolding step
   too-many-lines s′ h = record { stepped = record { is = rw (le-ltb (st .lines) 10000 h); follows = tt }; lines-fit = tt }
 
@@ -78,7 +78,7 @@ module _ (text s : List ℕ) (st : State) (row : List ℕ) where
   lines-after (On t) f h = omega (arith, f .0)
   lines-after (Refused n l) f h = tt
 
-  from-act : (s′ : List ℕ) (r : code.Step) → st .lines < 10000 → Stepped text s st (act (held text s st) (kindOf row) (st .in_header)) s′ r → Line text s st (step (held text s st) row) s′ r
+  from-act : (s′ : List ℕ) (r : code.Step) → st .lines < 10000 → Stepped text s st (act (stateIn text s st) (kindOf row) (st .in_header)) s′ r → Line text s st (step (stateIn text s st) row) s′ r
   from-act s′ r h x =
       record { stepped = subst (λ (o : Out). Stepped text s st o s′ r) (sym (step-in h)) x; lines-fit = lines-after r (x .follows) h }
 
@@ -87,12 +87,12 @@ module _ (text s : List ℕ) (st : State) (from to e : ℕ) (c : CleanEnd text f
   long = length-between text from e (omega (arith, c .high))
 
   -- refusal 5
-  pub too-long : 1048576 < e - from → Line text s st (step (held text s st) (between text from to)) s′ (Refused 5 (suc (st .lines)))
+  pub too-long : 1048576 < e - from → Line text s st (step (stateIn text s st) (between text from to)) s′ (Refused 5 (suc (st .lines)))
   too-long h = from-act text s st (between text from to) s′ _ few (refused-kind _ 5 _ (row-long text from to e c (rw long h)))
 
   -- by its class
   pub by-class : (k : Class) (r : code.Step) → e - from ≤ 1048576 → k ≡ classOf (between text from e)
-      → Stepped text s st (act (held text s st) (kindAs (between text from e) k) (st .in_header)) s′ r → Line text s st (step (held text s st) (between text from to)) s′ r
+      → Stepped text s st (act (stateIn text s st) (kindAs (between text from e) k) (st .in_header)) s′ r → Line text s st (step (stateIn text s st) (between text from to)) s′ r
   by-class k r h x y = from-act text s st (between text from to) s′ r few (by-kind _ _ _ (row-kind text from to e c k x (rw long h)) y)
 
 -- a line of these classes has its letter and its colon
@@ -126,15 +126,15 @@ pub record Head (text s₀ s : List ℕ) (st : State) (at : ℕ) : Type 0 where
   pub voices-fit : st .voices ≤ 32
   pub part-fits : st .part < 32
   pub items-fit : st .items ≤ at + st .voices
-  pub ahead : first (itemsIn text s (st .items)) (run step (held text s st) (textLines (drop at text))) ≡ scan (textLines text)
+  pub ahead : first (itemsIn text s (st .items)) (run step (stateIn text s st) (textLines (drop at text))) ≡ scan (textLines text)
 
 module _ (text s₀ : List ℕ) where
-  pub head-start : (st : State) → heldIn [] st ≡ begin → st .voices ≡ 0 → st .items ≡ 0 → Head text s₀ s₀ st 0
+  pub head-start : (st : State) → stateWith [] st ≡ begin → st .voices ≡ 0 → st .items ≡ 0 → Head text s₀ s₀ st 0
   unfolding begin scan
   head-start st e v i =
       let l : st .lines ≡ 0 = ap (λ (t : ScanState). t .lines) e in
       let p : st .part ≡ 0 = ap (λ (t : ScanState). t .part) e in
-      let h : held text s₀ st ≡ begin = ap (λ (n : ℕ). heldIn (voicesIn text s₀ n) st) v ∙ ap (λ (vs : List (List ℕ)). heldIn vs st) (voices-none text s₀) ∙ e in
+      let h : stateIn text s₀ st ≡ begin = ap (λ (n : ℕ). stateWith (voicesIn text s₀ n) st) v ∙ ap (λ (vs : List (List ℕ)). stateWith vs st) (voices-none text s₀) ∙ e in
       let a : itemsIn text s₀ (st .items) ≡ [] = ap (itemsIn text s₀) i ∙ items-none text s₀ in
       record {
         within = omega arith;
@@ -153,21 +153,21 @@ module _ (text s₀ : List ℕ) where
         record { lines-fit = h .lines-fit; voices-fit = h .voices-fit; part-fits = h .part-fits; room = omega (arith, h .items-fit, h .voices-fit, h .within, h .kept) }
 
     -- the run from a line on
-    next : (to : ℕ) (s′ : List ℕ) (r : code.Step) → LineEnd text at to → Line text s st (step (held text s st) (between text at to)) s′ r
-        → onward step (textLines (drop to text)) (reached text s′ r) ≡ scan (textLines text)
+    next : (to : ℕ) (s′ : List ℕ) (r : code.Step) → LineEnd text at to → Line text s st (step (stateIn text s st) (between text at to)) s′ r
+        → onward step (textLines (drop to text)) (outIn text s′ r) ≡ scan (textLines text)
     next to s′ r e x =
         ap (onward step (textLines (drop to text))) (x .stepped .is)
-        ∙ sym (run-on step (itemsIn text s (st .items)) (held text s st) (between text at to) (textLines (drop to text)))
-        ∙ ap (λ (rs : List TextLine). first (itemsIn text s (st .items)) (run step (held text s st) rs)) (sym (e .rest))
+        ∙ sym (run-on step (itemsIn text s (st .items)) (stateIn text s st) (between text at to) (textLines (drop to text)))
+        ∙ ap (λ (rs : List TextLine). first (itemsIn text s (st .items)) (run step (stateIn text s st) rs)) (sym (e .rest))
         ∙ h .ahead
 
-    pub head-refused : (to : ℕ) (s′ : List ℕ) (r : code.Step) (n l : ℕ) → LineEnd text at to → Line text s st (step (held text s st) (between text at to)) s′ r → r ≡ Refused n l
+    pub head-refused : (to : ℕ) (s′ : List ℕ) (r : code.Step) (n l : ℕ) → LineEnd text at to → Line text s st (step (stateIn text s st) (between text at to)) s′ r → r ≡ Refused n l
         → ScanIs text s′ (scannedAs r)
     head-refused to s′ r n l e x q =
         subst (λ (t : code.Step). ScanIs text s′ (scannedAs t)) (sym q)
-        (record { answered = sym (subst (λ (t : code.Step). onward step (textLines (drop to text)) (reached text s′ t) ≡ scan (textLines text)) q (next to s′ r e x)) })
+        (record { answered = sym (subst (λ (t : code.Step). onward step (textLines (drop to text)) (outIn text s′ t) ≡ scan (textLines text)) q (next to s′ r e x)) })
 
-    pub head-turn : (to : ℕ) (s′ : List ℕ) (r : code.Step) (t : State) → LineEnd text at to → Line text s st (step (held text s st) (between text at to)) s′ r → r ≡ On t → length s′ ≡ length s
+    pub head-turn : (to : ℕ) (s′ : List ℕ) (r : code.Step) (t : State) → LineEnd text at to → Line text s st (step (stateIn text s st) (between text at to)) s′ r → r ≡ On t → length s′ ≡ length s
         → Head text s₀ s′ t to
     head-turn to s′ r t e x q k =
         let f = subst (Follows st) q (x .stepped .follows) in
@@ -179,21 +179,21 @@ module _ (text s₀ : List ℕ) where
           voices-fit = f .1 .0;
           part-fits = f .1 .1 .0;
           items-fit = omega (arith, f .1 .1 .1, h .items-fit, e .past);
-          ahead = subst (λ (y : code.Step). onward step (textLines (drop to text)) (reached text s′ y) ≡ scan (textLines text)) q (next to s′ r e x);
+          ahead = subst (λ (y : code.Step). onward step (textLines (drop to text)) (outIn text s′ y) ≡ scan (textLines text)) q (next to s′ r e x);
         }
 
     -- every line was read
     pub head-done : length text ≤ at → ScanIs text s (scannedAs (On st))
     head-done w =
-        let run-all : scan (textLines text) ≡ on (held text s st) (itemsIn text s (st .items)) =
-        sym (h .ahead) ∙ ap (λ (rs : List TextLine). first (itemsIn text s (st .items)) (run step (held text s st) rs)) (rows-over text at w) ∙ run-end step (itemsIn text s (st .items)) (held text s st) in
+        let run-all : scan (textLines text) ≡ on (stateIn text s st) (itemsIn text s (st .items)) =
+        sym (h .ahead) ∙ ap (λ (rs : List TextLine). first (itemsIn text s (st .items)) (run step (stateIn text s st) rs)) (rows-over text at w) ∙ run-end step (itemsIn text s (st .items)) (stateIn text s st) in
         record {
           answered = record {
-            state = held text s st;
+            state = stateIn text s st;
             scanned = run-all;
             voices = refl;
             key = refl;
-            music = music-told (textLines text) (held text s st) (itemsIn text s (st .items)) run-all;
+            music = music-told (textLines text) (stateIn text s st) (itemsIn text s (st .items)) run-all;
             few-voices = h .voices-fit;
             room = omega (arith, h .items-fit, h .within);
           };

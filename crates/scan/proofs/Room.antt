@@ -1,6 +1,6 @@
 -- Room: each row of the text gives one item at most, and one more where it names a new voice, of which there are 32; and each row has a byte. So
 -- the line table ends within scratch, whatever the text.
-use Prim.Native.Nat.{ℕ, suc, _+_, _*_, _≤_}
+use Prim.Native.Nat.{ℕ, suc, _+_, _-_, _*_, _≤_}
 use mathlib.Core.Path.{_≡_, refl, sym, ap, subst, _∙_}
 use mathlib.Core.Bool.{Bool, true, false, cond}
 use mathlib.Core.Option.{Option, none, some}
@@ -17,7 +17,7 @@ use Rattle.reader.specs.Lines.{Kind, blank, refused, lyric, voice, key, meter, 
 use Rattle.reader.specs.Steps.{TextLine, Step, refuse, on, first, run}
 use Rattle.reader.specs.Scan.{Items, ScanState, Out, begin, mostVoices, mostLines, firstRefusal, withUnnamed, voicesBefore, playOn, voiceOn, unitOn, act, step, scan}
 use Rattle.reader.specs.Answer.{scratchNeeded}
-use Rattle.scan_table.specs.Rows.{tableEnd}
+use Rattle.scan_table.specs.Rows.{itemRowWidth, tableEnd}
 
 abbrev count : ScanState → ℕ
 count s = length (s .env .voices)
@@ -127,6 +127,6 @@ module _ (text : List ℕ) (t : ScanState) (a : Items) (e : scan (textLines text
   pub table-ends : tableEnd (length a) ≤ tableEnd (length text + 32)
   table-ends = omega (arith, few-items)
 
-  pub table-fits : tableEnd (length a) + (16 * length text + 7424) ≤ scratchNeeded (length text)
+  pub table-fits : tableEnd (length a) + ((32 - itemRowWidth) * length text + (8192 - tableEnd 32)) ≤ scratchNeeded (length text)
   unfolding scratchNeeded
   table-fits = omega (arith, few-items)

@@ -10,7 +10,8 @@ use Rattle.reader.specs.Text.{textLines}
 use Rattle.reader.specs.Steps.{refuse, on}
 use Rattle.reader.specs.Scan.{Item, Items, ScanState, Out, scan}
 use Rattle.reader.specs.Answer.{isMusic}
-use Rattle.scan_table.specs.Rows.{voicesIn, itemsIn}
+use Rattle.field_keys.specs.Passed.{keyAs}
+use Rattle.scan_table.specs.Rows.{tableEnd, voicesIn, itemsIn}
 use Rattle.scan_states.specs.declared.State.{State}
 use Rattle.scan_states.specs.declared.Step.{Step}
 use Rattle.scan_states.specs.declared.Step.the-variants.{On, Refused}
@@ -24,7 +25,7 @@ pub record Open (n : ℕ) (st : State) : Type 0 where
   pub lines-fit : st .lines ≤ 10000
   pub voices-fit : st .voices ≤ 32
   pub part-fits : st .part < 32
-  pub room : 256 + 16 * (st .items + 2) ≤ n
+  pub room : tableEnd (st .items + 2) ≤ n
 
 -- a line, after which there are 10,000 at most
 abbrev pub LinesFit : Step → Type 0
@@ -37,7 +38,7 @@ pub record Line (text s₀ : List ℕ) (st : State) (o : Out) (s : List ℕ) (r 
 
 -- what is handed on
 abbrev pub scannedAs : Step → code.Scanned
-scannedAs (On st) = C.Done (record { voices = st .voices; fifths = st .fifths; minor = st .minor; items = st .items; music = ltb 0 (st .places) })
+scannedAs (On st) = C.Done (record { voices = st .voices; key = st .key; items = st .items; music = ltb 0 (st .places) })
 scannedAs (Refused n l) = C.Refused n l
 
 -- some item is of a music line
@@ -50,7 +51,7 @@ pub record Done (text s : List ℕ) (h : Shared) : Type 0 where
   pub state : ScanState
   pub scanned : scan (textLines text) ≡ on state (itemsIn text s (h .items))
   pub voices : state .env .voices ≡ voicesIn text s (h .voices)
-  pub key : state .env .headerKey ≡ record { fifths = h .fifths; minor = h .minor }
+  pub key : state .env .headerKey ≡ keyAs (h .key)
   pub music : h .music ≡ hasMusic (itemsIn text s (h .items))
   pub few-voices : h .voices ≤ 32
   pub room : h .items ≤ length text + h .voices

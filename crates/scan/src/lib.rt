@@ -8,8 +8,9 @@ ghost use Rattle.reader.specs.Scan.{act, step};
 ghost use Rattle.reader.specs.Answer.{scratchNeeded};
 ghost use Rattle.text_lines.specs.declared.Class.{Class};
 ghost use Rattle.text_lines.specs.Lines.{kindAs, classOf};
-ghost use Rattle.scan_states.specs.States.{held, Ready, Stepped};
+ghost use Rattle.scan_states.specs.States.{stateIn, Ready, Stepped};
 ghost use Rattle.scan.specs.Scanned.{Open, Line, scannedAs, ScanIs};
+use field_keys::Key;
 use scan_states::State;
 use scan_states::Step;
 use scan_table::Row;
@@ -19,8 +20,7 @@ use text_lines::Class;
 // is music among them.
 pub struct Shared {
     pub voices: usize,
-    pub fifths: u8,
-    pub minor: bool,
+    pub key: Key,
     pub items: usize,
     pub music: bool,
 }
@@ -43,7 +43,7 @@ fn act_line(
     requires { ⌜ Ready (length (now scratch)) st ⌝ }
     requires { ⌜ (from ≤ end) × (end ≤ length (now text)) × (length (now text) < 2 ^ 31) ⌝ }
     requires { ⌜ class ≡ classOf (between (now text) from end) ⌝ }
-    ensures { λ r. ⌜ Stepped (now (text .entry)) (now (scratch .entry)) st (act (held (now (text .entry)) (now (scratch .entry)) st) (kindAs (between (now (text .entry)) from end) class) (st .in_header)) (now (scratch .exit)) r ⌝ }
+    ensures { λ r. ⌜ Stepped (now (text .entry)) (now (scratch .entry)) st (act (stateIn (now (text .entry)) (now (scratch .entry)) st) (kindAs (between (now (text .entry)) from end) class) (st .in_header)) (now (scratch .exit)) r ⌝ }
 {
     match class {
         Class::Blank => Step::On(scan_states::next_line(st)),
@@ -62,7 +62,7 @@ fn act_line(
 fn step_line(text: &[u8], scratch: &mut [u8], st: State, from: usize, to: usize) -> Step
     requires { ⌜ Open (length (now scratch)) st ⌝ }
     requires { ⌜ (from ≤ to) × (to ≤ length (now text)) × (length (now text) < 2 ^ 31) ⌝ }
-    ensures { λ r. ⌜ Line (now (text .entry)) (now (scratch .entry)) st (step (held (now (text .entry)) (now (scratch .entry)) st) (between (now (text .entry)) from to)) (now (scratch .exit)) r ⌝ }
+    ensures { λ r. ⌜ Line (now (text .entry)) (now (scratch .entry)) st (step (stateIn (now (text .entry)) (now (scratch .entry)) st) (between (now (text .entry)) from to)) (now (scratch .exit)) r ⌝ }
 {
     if 10000 <= st.lines {
         return scan_states::refuse(st, 4);
@@ -81,10 +81,10 @@ fn scan_answer(s: Step) -> Scanned
 {
     match s {
         Step::On(st) => {
+            let key = st.key;
             let shared = Shared {
                 voices: st.voices,
-                fifths: st.fifths,
-                minor: st.minor,
+                key,
                 items: st.items,
                 music: 0 < st.places,
             };

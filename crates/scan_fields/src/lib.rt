@@ -12,7 +12,7 @@ ghost use Rattle.field_keys.specs.Passed.{keyAs};
 ghost use Rattle.field_values.specs.Values.{meterAs, unitAs};
 ghost use Rattle.text_lines.specs.declared.Class.{Class};
 ghost use Rattle.text_lines.specs.Lines.{kindAs};
-ghost use Rattle.scan_states.specs.States.{held, Ready, Stepped};
+ghost use Rattle.scan_states.specs.States.{stateIn, Ready, Stepped};
 use field_keys::Key;
 use field_values::FieldUnit;
 use field_values::Meter;
@@ -24,7 +24,7 @@ use scan_table::Row;
 pub fn voice_line(text: &[u8], scratch: &mut [u8], st: State, from: usize, end: usize) -> Step
     requires { ⌜ Ready (length (now scratch)) st ⌝ }
     requires { ⌜ (from + 2 ≤ end) × (end ≤ length (now text)) × (length (now text) < 2 ^ 32) ⌝ }
-    ensures { λ r. ⌜ Stepped (now (text .entry)) (now (scratch .entry)) st (act (held (now (text .entry)) (now (scratch .entry)) st) (kindAs (between (now (text .entry)) from end) Class.Voice) (st .in_header)) (now (scratch .exit)) r ⌝ }
+    ensures { λ r. ⌜ Stepped (now (text .entry)) (now (scratch .entry)) st (act (stateIn (now (text .entry)) (now (scratch .entry)) st) (kindAs (between (now (text .entry)) from end) Class.Voice) (st .in_header)) (now (scratch .exit)) r ⌝ }
 {
     if text_lines::is_high(text, from, end) {
         return scan_states::refuse(st, 6);
@@ -42,15 +42,14 @@ pub fn voice_line(text: &[u8], scratch: &mut [u8], st: State, from: usize, end: 
 // A key: the first one ends the header.
 fn set_key(scratch: &mut [u8], st: State, k: Key) -> State
     requires { ⌜ Ready (length (now scratch)) st ⌝ }
-    ensures { λ r. ⌜ ((text : List ℕ) → Stepped text (now (scratch .entry)) st (act (held text (now (scratch .entry)) st) (key (keyAs k)) (st .in_header)) (now (scratch .exit)) (Step.On r)) ⌝ }
+    ensures { λ r. ⌜ ((text : List ℕ) → Stepped text (now (scratch .entry)) st (act (stateIn text (now (scratch .entry)) st) (key (keyAs k)) (st .in_header)) (now (scratch .exit)) (Step.On r)) ⌝ }
 {
     if st.in_header {
         let mut r = st;
         r.in_header = false;
-        r.fifths = k.fifths;
-        r.minor = k.minor;
-        let headed = Row {
-            kind: 2,
+        r.key = k;
+        let row = Row {
+            kind: scan_table::KEY_IN_HEADER,
             part: st.part,
             a: 0,
             b: 0,
@@ -58,10 +57,10 @@ fn set_key(scratch: &mut [u8], st: State, k: Key) -> State
             end: 0,
             unit: 0,
         };
-        return scan_states::add_item(scratch, r, headed);
+        return scan_states::add_item(scratch, r, row);
     }
     let row = Row {
-        kind: 3,
+        kind: scan_table::KEY_CHANGE,
         part: st.part,
         a: k.fifths,
         b: scan_states::flag(k.minor),
@@ -76,7 +75,7 @@ fn set_key(scratch: &mut [u8], st: State, k: Key) -> State
 pub fn key_line(text: &[u8], scratch: &mut [u8], st: State, from: usize, end: usize) -> Step
     requires { ⌜ Ready (length (now scratch)) st ⌝ }
     requires { ⌜ (from + 2 ≤ end) × (end ≤ length (now text)) × (length (now text) < 2 ^ 32) ⌝ }
-    ensures { λ r. ⌜ Stepped (now (text .entry)) (now (scratch .entry)) st (act (held (now (text .entry)) (now (scratch .entry)) st) (kindAs (between (now (text .entry)) from end) Class.Key) (st .in_header)) (now (scratch .exit)) r ⌝ }
+    ensures { λ r. ⌜ Stepped (now (text .entry)) (now (scratch .entry)) st (act (stateIn (now (text .entry)) (now (scratch .entry)) st) (kindAs (between (now (text .entry)) from end) Class.Key) (st .in_header)) (now (scratch .exit)) r ⌝ }
 {
     if text_lines::is_high(text, from, end) {
         return scan_states::refuse(st, 6);
@@ -91,7 +90,7 @@ pub fn key_line(text: &[u8], scratch: &mut [u8], st: State, from: usize, end: us
 // A meter, which goes to the part being read once the header has ended.
 fn set_meter(scratch: &mut [u8], st: State, m: Meter) -> State
     requires { ⌜ Ready (length (now scratch)) st ⌝ }
-    ensures { λ r. ⌜ ((text : List ℕ) → Stepped text (now (scratch .entry)) st (act (held text (now (scratch .entry)) st) (meter (meterAs m)) (st .in_header)) (now (scratch .exit)) (Step.On r)) ⌝ }
+    ensures { λ r. ⌜ ((text : List ℕ) → Stepped text (now (scratch .entry)) st (act (stateIn text (now (scratch .entry)) st) (meter (meterAs m)) (st .in_header)) (now (scratch .exit)) (Step.On r)) ⌝ }
 {
     let mut r = st;
     r.top = m.top;
@@ -100,7 +99,7 @@ fn set_meter(scratch: &mut [u8], st: State, m: Meter) -> State
         return scan_states::next_line(r);
     }
     let row = Row {
-        kind: 4,
+        kind: scan_table::METER_CHANGE,
         part: st.part,
         a: m.top,
         b: m.bottom,
@@ -115,7 +114,7 @@ fn set_meter(scratch: &mut [u8], st: State, m: Meter) -> State
 pub fn meter_line(text: &[u8], scratch: &mut [u8], st: State, from: usize, end: usize) -> Step
     requires { ⌜ Ready (length (now scratch)) st ⌝ }
     requires { ⌜ (from + 2 ≤ end) × (end ≤ length (now text)) × (length (now text) < 2 ^ 32) ⌝ }
-    ensures { λ r. ⌜ Stepped (now (text .entry)) (now (scratch .entry)) st (act (held (now (text .entry)) (now (scratch .entry)) st) (kindAs (between (now (text .entry)) from end) Class.Meter) (st .in_header)) (now (scratch .exit)) r ⌝ }
+    ensures { λ r. ⌜ Stepped (now (text .entry)) (now (scratch .entry)) st (act (stateIn (now (text .entry)) (now (scratch .entry)) st) (kindAs (between (now (text .entry)) from end) Class.Meter) (st .in_header)) (now (scratch .exit)) r ⌝ }
 {
     if text_lines::is_high(text, from, end) {
         return scan_states::refuse(st, 6);
@@ -127,7 +126,7 @@ pub fn meter_line(text: &[u8], scratch: &mut [u8], st: State, from: usize, end: 
 // A unit, if the L line sets one.
 fn set_unit(st: State, u: FieldUnit) -> State
     requires { ⌜ (st .lines < 10000) × (st .voices ≤ 32) × (st .part < 32) ⌝ }
-    ensures { λ r. ⌜ ((text s : List ℕ) → Stepped text s st (act (held text s st) (unit (unitAs u)) (st .in_header)) s (Step.On r)) ⌝ }
+    ensures { λ r. ⌜ ((text s : List ℕ) → Stepped text s st (act (stateIn text s st) (unit (unitAs u)) (st .in_header)) s (Step.On r)) ⌝ }
 {
     match u {
         FieldUnit::Nothing => scan_states::next_line(st),
@@ -143,7 +142,7 @@ fn set_unit(st: State, u: FieldUnit) -> State
 pub fn unit_line(text: &[u8], st: State, from: usize, end: usize) -> Step
     requires { ⌜ (st .lines < 10000) × (st .voices ≤ 32) × (st .part < 32) ⌝ }
     requires { ⌜ (from + 2 ≤ end) × (end ≤ length (now text)) ⌝ }
-    ensures { λ r. ⌜ ((s : List ℕ) → Stepped (now (text .entry)) s st (act (held (now (text .entry)) s st) (kindAs (between (now (text .entry)) from end) Class.Unit) (st .in_header)) s r) ⌝ }
+    ensures { λ r. ⌜ ((s : List ℕ) → Stepped (now (text .entry)) s st (act (stateIn (now (text .entry)) s st) (kindAs (between (now (text .entry)) from end) Class.Unit) (st .in_header)) s r) ⌝ }
 {
     if text_lines::is_high(text, from, end) {
         return scan_states::refuse(st, 6);

@@ -14,8 +14,8 @@ ghost use Rattle.token_symbols.specs.Classes.{classTable};
 ghost use Rattle.text_lines.specs.declared.Class.{Class};
 ghost use Rattle.text_lines.specs.Lines.{kindAs};
 ghost use Rattle.scan_table.specs.Rows.{itemsIn};
-ghost use Rattle.scan_states.specs.States.{held, reached, Ready, Stepped};
-ghost use Rattle.scan_music.specs.Plays.{effectAs, playedFor, playedOn, playedTo, goesOn};
+ghost use Rattle.scan_states.specs.States.{stateIn, outIn, Ready, Stepped};
+ghost use Rattle.scan_music.specs.MusicLines.{effectAs, countedFor, countedOn, stateAfter, goesOn};
 use scan_states::State;
 use scan_states::Step;
 use scan_table::Row;
@@ -30,15 +30,15 @@ pub struct Count {
     pub bottom: u8,
 }
 
-// On, or a refusal by its number.
-pub enum Played {
+// What the tokens so far come to: the count, or a refusal by its number.
+pub enum Counted {
     On(Count),
     Refused(u8),
 }
 
 // A token more: refusal 11 at the 100,001st note.
-fn after_effect(p: Count, e: Effect) -> Played
-    ensures { λ r. ⌜ ((es : List tokens.Effect) → playedOn r es ≡ playedFor p (effectAs e ∷ es)) ⌝ }
+fn after_effect(p: Count, e: Effect) -> Counted
+    ensures { λ r. ⌜ ((es : List tokens.Effect) → countedOn r es ≡ countedFor p (effectAs e ∷ es)) ⌝ }
 {
     match e {
         Effect::Counts => {
@@ -49,11 +49,11 @@ fn after_effect(p: Count, e: Effect) -> Played
                     top: p.top,
                     bottom: p.bottom,
                 };
-                return Played::On(r);
+                return Counted::On(r);
             }
-            Played::Refused(11)
+            Counted::Refused(11)
         }
-        Effect::Refuses(n) => Played::Refused(n),
+        Effect::Refuses(n) => Counted::Refused(n),
         Effect::SetsUnit(u) => {
             let r = Count {
                 notes: p.notes,
@@ -61,7 +61,7 @@ fn after_effect(p: Count, e: Effect) -> Played
                 top: p.top,
                 bottom: p.bottom,
             };
-            Played::On(r)
+            Counted::On(r)
         }
         Effect::SetsMeter { top, bottom } => {
             let r = Count {
@@ -70,7 +70,7 @@ fn after_effect(p: Count, e: Effect) -> Played
                 top,
                 bottom,
             };
-            Played::On(r)
+            Counted::On(r)
         }
         Effect::NoEffect => {
             let r = Count {
@@ -79,35 +79,35 @@ fn after_effect(p: Count, e: Effect) -> Played
                 top: p.top,
                 bottom: p.bottom,
             };
-            Played::On(r)
+            Counted::On(r)
         }
     }
 }
 
-// The same from what was played so far: after a refusal nothing is played.
-fn on_effect(q: Played, e: Effect) -> Played
-    ensures { λ r. ⌜ ((es : List tokens.Effect) → playedOn r es ≡ playedOn q (effectAs e ∷ es)) ⌝ }
+// The same from what the tokens before come to: a refusal stays.
+fn on_effect(q: Counted, e: Effect) -> Counted
+    ensures { λ r. ⌜ ((es : List tokens.Effect) → countedOn r es ≡ countedOn q (effectAs e ∷ es)) ⌝ }
 {
     match q {
-        Played::On(p) => after_effect(p, e),
-        Played::Refused(n) => Played::Refused(n),
+        Counted::On(p) => after_effect(p, e),
+        Counted::Refused(n) => Counted::Refused(n),
     }
 }
 
 // A token is still to come, and nothing is refused.
-fn goes_on(q: Played, at: usize, end: usize) -> bool
+fn goes_on(q: Counted, at: usize, end: usize) -> bool
     ensures { λ r. ⌜ r ≡ goesOn q at end ⌝ }
 {
     match q {
-        Played::On(_) => at < end,
-        Played::Refused(_) => false,
+        Counted::On(_) => at < end,
+        Counted::Refused(_) => false,
     }
 }
 
-// The tokens of a line from left to right, to the first refusal: the cursor is lent for each and moved on. Proved by hand; `play_line` above it has no cursor.
-fn walk_line(line: &[u8], start: Played, classes: &[u8; 128]) -> Played
+// The tokens of a line from left to right, to the first refusal: the cursor is lent for each and moved on. Proved by hand; `count_line` above it has no cursor.
+fn walk_line(line: &[u8], start: Counted, classes: &[u8; 128]) -> Counted
     requires { ⌜ now classes ≡ classTable ⌝ }
-    ensures { λ r. ⌜ r ≡ playedOn start (effects (now (line .entry))) ⌝ }
+    ensures { λ r. ⌜ r ≡ countedOn start (effects (now (line .entry))) ⌝ }
 {
     let mut cursor = Cursor {
         at: 0,
@@ -122,11 +122,11 @@ fn walk_line(line: &[u8], start: Played, classes: &[u8; 128]) -> Played
 }
 
 // A line from left to right, to the first refusal.
-pub fn play_line(line: &[u8], p: Count) -> Played
-    ensures { λ r. ⌜ r ≡ playedFor p (effects (now (line .entry))) ⌝ }
+pub fn count_line(line: &[u8], p: Count) -> Counted
+    ensures { λ r. ⌜ r ≡ countedFor p (effects (now (line .entry))) ⌝ }
 {
     let classes = token_symbols::letter_classes();
-    walk_line(line, Played::On(p), &classes)
+    walk_line(line, Counted::On(p), &classes)
 }
 
 // How many parts have a place for verses once `part` has a music line.
@@ -145,14 +145,14 @@ fn with_opened(opened: bool, part: u8) -> bool
 }
 
 // The item of the line from `from` up to `end`, with the L and M in force where it begins; q holds behind it.
-fn add_played(scratch: &mut [u8], st: State, from: usize, end: usize, q: Count) -> State
+fn add_music_line(scratch: &mut [u8], st: State, from: usize, end: usize, q: Count) -> State
     requires { ⌜ Ready (length (now scratch)) st ⌝ }
     requires { ⌜ (from < 2 ^ 32) × (end < 2 ^ 32) ⌝ }
-    ensures { λ r. ⌜ r ≡ playedTo st q ⌝ }
-    ensures { λ r. ⌜ ((text : List ℕ) → reached text (now (scratch .exit)) (Step.On r) ≡ on (held text (now (scratch .entry)) (playedTo st q)) (itemsIn text (now (scratch .entry)) (st .items) ++ ((st .part, musicLine (st .unit) (st .top, st .bottom) (between text from end)) ∷ []))) ⌝ }
+    ensures { λ r. ⌜ r ≡ stateAfter st q ⌝ }
+    ensures { λ r. ⌜ ((text : List ℕ) → outIn text (now (scratch .exit)) (Step.On r) ≡ on (stateIn text (now (scratch .entry)) (stateAfter st q)) (itemsIn text (now (scratch .entry)) (st .items) ++ ((st .part, musicLine (st .unit) (st .top, st .bottom) (between text from end)) ∷ []))) ⌝ }
 {
     let row = Row {
-        kind: 6,
+        kind: scan_table::MUSIC_LINE,
         part: st.part,
         a: st.top,
         b: st.bottom,
@@ -176,7 +176,7 @@ fn add_played(scratch: &mut [u8], st: State, from: usize, end: usize, q: Count) 
 pub fn music_line(text: &[u8], scratch: &mut [u8], st: State, from: usize, end: usize) -> Step
     requires { ⌜ Ready (length (now scratch)) st ⌝ }
     requires { ⌜ (from ≤ end) × (end ≤ length (now text)) × (length (now text) < 2 ^ 32) ⌝ }
-    ensures { λ r. ⌜ Stepped (now (text .entry)) (now (scratch .entry)) st (act (held (now (text .entry)) (now (scratch .entry)) st) (kindAs (between (now (text .entry)) from end) Class.Music) (st .in_header)) (now (scratch .exit)) r ⌝ }
+    ensures { λ r. ⌜ Stepped (now (text .entry)) (now (scratch .entry)) st (act (stateIn (now (text .entry)) (now (scratch .entry)) st) (kindAs (between (now (text .entry)) from end) Class.Music) (st .in_header)) (now (scratch .exit)) r ⌝ }
 {
     if st.in_header {
         return Step::On(scan_states::next_line(st));
@@ -190,9 +190,9 @@ pub fn music_line(text: &[u8], scratch: &mut [u8], st: State, from: usize, end: 
         top: st.top,
         bottom: st.bottom,
     };
-    let s = play_line(&text[from..end], p);
+    let s = count_line(&text[from..end], p);
     match s {
-        Played::On(q) => Step::On(add_played(scratch, st, from, end, q)),
-        Played::Refused(n) => scan_states::refuse(st, n),
+        Counted::On(q) => Step::On(add_music_line(scratch, st, from, end, q)),
+        Counted::Refused(n) => scan_states::refuse(st, n),
     }
 }

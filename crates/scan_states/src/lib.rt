@@ -9,16 +9,16 @@ ghost use Rattle.laws.specs.Bytes.{between};
 ghost use Rattle.reader.specs.Lines.{lyric, tune};
 ghost use Rattle.reader.specs.Scan.{begin, act};
 ghost use Rattle.reader.specs.Steps.{on};
-ghost use Rattle.scan_table.specs.Rows.{voicesIn, itemIn, itemsIn};
-ghost use Rattle.scan_states.specs.States.{heldIn, held, reached, nextOf, addedTo, Ready, Stepped};
+ghost use Rattle.scan_table.specs.Rows.{itemRowWidth, rowFrom, voicesIn, itemIn, itemsIn};
+ghost use Rattle.scan_states.specs.States.{stateWith, stateIn, outIn, nextState, addedState, Ready, Stepped};
+use field_keys::Key;
 use scan_table::Row;
 
-// L is `unit`, M `top` and `bottom`; `part` is the part being read; so many notes, lines, parts with a place for verses, voices and items;
+// `key` is the header's; L is `unit`, M `top` and `bottom`; `part` is the part being read; so many notes, lines, parts with a place for verses, voices and items;
 // `opened`: the first part has had a music line.
 pub struct State {
     pub in_header: bool,
-    pub fifths: u8,
-    pub minor: bool,
+    pub key: Key,
     pub unit: u32,
     pub top: u8,
     pub bottom: u8,
@@ -39,12 +39,14 @@ pub enum Step {
 
 // C major, 4/4, unit 1/8.
 pub fn begin_state() -> State
-    ensures { λ r. ⌜ (heldIn [] r ≡ begin) × (r .voices ≡ 0) × (r .items ≡ 0) ⌝ }
+    ensures { λ r. ⌜ (stateWith [] r ≡ begin) × (r .voices ≡ 0) × (r .items ≡ 0) ⌝ }
 {
     State {
         in_header: true,
-        fifths: 128,
-        minor: false,
+        key: Key {
+            fifths: 128,
+            minor: false,
+        },
         unit: 8,
         top: 4,
         bottom: 4,
@@ -69,7 +71,7 @@ pub fn refuse(st: State, n: u8) -> Step
 // One line more.
 pub fn next_line(st: State) -> State
     requires { ⌜ st .lines ≤ 10000 ⌝ }
-    ensures { λ r. ⌜ r ≡ nextOf st ⌝ }
+    ensures { λ r. ⌜ r ≡ nextState st ⌝ }
 {
     let lines = st.lines + 1;
     let mut r = st;
@@ -86,10 +88,10 @@ pub fn flag(b: bool) -> u8
 
 // One item more, and one line.
 pub fn add_item(scratch: &mut [u8], st: State, row: Row) -> State
-    requires { ⌜ (256 + 16 * st .items + 16 ≤ length (now scratch)) × (st .lines ≤ 10000) × (st .voices ≤ 32) ⌝ }
+    requires { ⌜ (rowFrom (st .items) + itemRowWidth ≤ length (now scratch)) × (st .lines ≤ 10000) × (st .voices ≤ 32) ⌝ }
     requires { ⌜ (row .at < 2 ^ 32) × (row .end < 2 ^ 32) ⌝ }
-    ensures { λ r. ⌜ r ≡ addedTo st ⌝ }
-    ensures { λ r. ⌜ ((text : List ℕ) → reached text (now (scratch .exit)) (Step.On r) ≡ on (held text (now (scratch .entry)) (nextOf st)) (itemsIn text (now (scratch .entry)) (st .items) ++ (itemIn text row ∷ []))) ⌝ }
+    ensures { λ r. ⌜ r ≡ addedState st ⌝ }
+    ensures { λ r. ⌜ ((text : List ℕ) → outIn text (now (scratch .exit)) (Step.On r) ≡ on (stateIn text (now (scratch .entry)) (nextState st)) (itemsIn text (now (scratch .entry)) (st .items) ++ (itemIn text row ∷ []))) ⌝ }
 {
     let n = st.items;
     scan_table::put_item(scratch, n, row);
@@ -104,13 +106,13 @@ pub fn add_item(scratch: &mut [u8], st: State, row: Row) -> State
 pub fn lyric_line(scratch: &mut [u8], st: State, from: usize, end: usize) -> State
     requires { ⌜ Ready (length (now scratch)) st ⌝ }
     requires { ⌜ (from + 2 < 2 ^ 32) × (end < 2 ^ 32) ⌝ }
-    ensures { λ r. ⌜ ((text : List ℕ) → Stepped text (now (scratch .entry)) st (act (held text (now (scratch .entry)) st) (lyric (drop 2 (between text from end))) (st .in_header)) (now (scratch .exit)) (Step.On r)) ⌝ }
+    ensures { λ r. ⌜ ((text : List ℕ) → Stepped text (now (scratch .entry)) st (act (stateIn text (now (scratch .entry)) st) (lyric (drop 2 (between text from end))) (st .in_header)) (now (scratch .exit)) (Step.On r)) ⌝ }
 {
     if st.in_header {
         return next_line(st);
     }
     let row = Row {
-        kind: 5,
+        kind: scan_table::LYRIC_LINE,
         part: st.part,
         a: flag(st.part < st.places),
         b: 0,
@@ -125,7 +127,7 @@ pub fn lyric_line(scratch: &mut [u8], st: State, from: usize, end: usize) -> Sta
 pub fn tune_line(st: State) -> Step
     requires { ⌜ st .lines ≤ 10000 ⌝ }
     requires { ⌜ st .voices ≤ 32 ⌝ }
-    ensures { λ r. ⌜ ((text s : List ℕ) → Stepped text s st (act (held text s st) tune (st .in_header)) s r) ⌝ }
+    ensures { λ r. ⌜ ((text s : List ℕ) → Stepped text s st (act (stateIn text s st) tune (st .in_header)) s r) ⌝ }
 {
     if st.in_header {
         let mut r = next_line(st);

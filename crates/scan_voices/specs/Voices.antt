@@ -10,8 +10,7 @@ use Rattle.scan_states.specs.declared.State.{State}
 abbrev pub movedTo : State → ℕ → State
 movedTo st i = record {
   in_header = st .in_header;
-  fifths = st .fifths;
-  minor = st .minor;
+  key = st .key;
   unit = st .unit;
   top = st .top;
   bottom = st .bottom;

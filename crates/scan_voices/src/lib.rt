@@ -8,7 +8,7 @@ ghost use Rattle.reader.specs.Lines.{voice};
 ghost use Rattle.reader.specs.Scan.{voiceDeclared, reset, act};
 ghost use Rattle.reader.specs.Steps.{on};
 ghost use Rattle.scan_table.specs.Rows.{voicesIn, itemsIn};
-ghost use Rattle.scan_states.specs.States.{heldIn, held, reached, Ready, Stepped};
+ghost use Rattle.scan_states.specs.States.{stateWith, stateIn, outIn, Ready, Stepped};
 ghost use Rattle.scan_voices.specs.Voices.{movedTo, Unnamed, Moved};
 use scan_states::State;
 use scan_states::Step;
@@ -34,14 +34,14 @@ fn known_voice(scratch: &mut [u8], st: State, n: usize, i: usize) -> State
     requires { ⌜ Ready (length (now scratch)) st ⌝ }
     requires { ⌜ (i < n) × (n ≤ 32) ⌝ }
     ensures { λ r. ⌜ Moved st n i (st .items + 1) r ⌝ }
-    ensures { λ r. ⌜ ((text : List ℕ) → reached text (now (scratch .exit)) (Step.On r) ≡ on (heldIn (voicesIn text (now (scratch .entry)) n) (movedTo st i)) (itemsIn text (now (scratch .entry)) (st .items) ++ ((i, reset) ∷ []))) ⌝ }
+    ensures { λ r. ⌜ ((text : List ℕ) → outIn text (now (scratch .exit)) (Step.On r) ≡ on (stateWith (voicesIn text (now (scratch .entry)) n) (movedTo st i)) (itemsIn text (now (scratch .entry)) (st .items) ++ ((i, reset) ∷ []))) ⌝ }
 {
     let part = i as u8;
     let mut r = st;
     r.voices = n;
     r.part = part;
     let row = Row {
-        kind: 1,
+        kind: scan_table::RESET,
         part,
         a: 0,
         b: 0,
@@ -57,12 +57,12 @@ fn new_voice(scratch: &mut [u8], st: State, n: usize, a: usize, b: usize) -> Sta
     requires { ⌜ Ready (length (now scratch)) st ⌝ }
     requires { ⌜ (n < 32) × (a < 2 ^ 32) × (b < 2 ^ 32) ⌝ }
     ensures { λ r. ⌜ Moved st (n + 1) n (st .items + 2) r ⌝ }
-    ensures { λ r. ⌜ ((text : List ℕ) → reached text (now (scratch .exit)) (Step.On r) ≡ on (heldIn (voicesIn text (now (scratch .entry)) n ++ (between text a b ∷ [])) (movedTo st n)) (itemsIn text (now (scratch .entry)) (st .items) ++ ((n, voiceDeclared (st .in_header)) ∷ ((n, reset) ∷ [])))) ⌝ }
+    ensures { λ r. ⌜ ((text : List ℕ) → outIn text (now (scratch .exit)) (Step.On r) ≡ on (stateWith (voicesIn text (now (scratch .entry)) n ++ (between text a b ∷ [])) (movedTo st n)) (itemsIn text (now (scratch .entry)) (st .items) ++ ((n, voiceDeclared (st .in_header)) ∷ ((n, reset) ∷ [])))) ⌝ }
 {
     scan_table::push_voice(scratch, n, a, b);
     let part = n as u8;
-    let voiceDeclared = Row {
-        kind: 0,
+    let declared = Row {
+        kind: scan_table::VOICE_DECLARED,
         part,
         a: scan_states::flag(st.in_header),
         b: 0,
@@ -71,13 +71,13 @@ fn new_voice(scratch: &mut [u8], st: State, n: usize, a: usize, b: usize) -> Sta
         unit: 0,
     };
     let m = st.items;
-    scan_table::put_item(scratch, m, voiceDeclared);
+    scan_table::put_item(scratch, m, declared);
     let mut r = st;
     r.voices = n + 1;
     r.part = part;
     r.items = m + 1;
     let row = Row {
-        kind: 1,
+        kind: scan_table::RESET,
         part,
         a: 0,
         b: 0,
@@ -99,7 +99,7 @@ pub fn named_voice(
 ) -> Step
     requires { ⌜ Ready (length (now scratch)) st ⌝ }
     requires { ⌜ (a ≤ b) × (b ≤ length (now text)) × (length (now text) < 2 ^ 32) ⌝ }
-    ensures { λ r. ⌜ Stepped (now (text .entry)) (now (scratch .entry)) st (act (held (now (text .entry)) (now (scratch .entry)) st) (voice (between (now (text .entry)) a b) mid) (st .in_header)) (now (scratch .exit)) r ⌝ }
+    ensures { λ r. ⌜ Stepped (now (text .entry)) (now (scratch .entry)) st (act (stateIn (now (text .entry)) (now (scratch .entry)) st) (voice (between (now (text .entry)) a b) mid) (st .in_header)) (now (scratch .exit)) r ⌝ }
 {
     let n = with_unnamed(scratch, st);
     let i = scan_table::find_voice(text, scratch, n, a, b);

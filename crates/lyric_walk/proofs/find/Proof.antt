@@ -20,17 +20,11 @@ loop-holds c =
 get-link-requires : tie.Need-get-link-requires Inv-loop μ-loop
 get-link-requires c κs = (omega (arith, c .loop-test .taken), omega (arith, c .before .loop .inv .low, c .before .before .before .pre))
 
-sings-requires : tie.Need-sings-requires Inv-loop μ-loop
-sings-requires c κs = search needs
-
 returns : tie.Need-returns Inv-loop μ-loop
 returns c =
     let a = c .before .before .before .before .before .before .args in
     let l = c .before .before .before .before .loop in
     seeking-found (a .scratch .now) (a .log) (a .k) (a .wanted) (l .extend) (l .place) (l .inv) _ (c .before .before .get-link .ensures) (sym (c .before .sings .ensures) ∙ c .if1 .taken)
-
-is-held-requires : tie.Need-is-held-requires Inv-loop μ-loop
-is-held-requires c κs = search needs
 
 loop-less : tie.Need-loop-less Inv-loop μ-loop
 loop-less c = omega (arith, c .before .before .before .get-link .ensures .low)
@@ -55,9 +49,9 @@ find-spec =
     μ-loop
     loop-holds
     get-link-requires
-    sings-requires
+    (λ c κs. search needs)
     returns
-    is-held-requires
+    (λ c κs. search needs)
     loop-less
     loop-again
     returns-2)

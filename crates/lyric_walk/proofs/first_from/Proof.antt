@@ -5,16 +5,10 @@ use Rattle.lyric_walk.proofs.Steps.{no-more, one-more}
 use Rattle.lyric_walk.proofs.first_from.Statement.{statement}
 use Rattle.lyric_walk.proofs.first_from.Tie as tie
 
-next-verse-requires : tie.Need-next-verse-requires
-next-verse-requires c κs = search needs
-
 returns : tie.Need-returns
 returns c =
     let a = c .before .before .before .args in
     no-more (a .scratch .now) (a .log) (a .k) (a .from) _ (λ i. omega (arith, c .before .before .shared-slice-known .given i)) (c .before .next-verse .ensures) (c .if1 .taken)
-
-find-requires : tie.Need-find-requires
-find-requires c κs = search needs
 
 returns-2 : tie.Need-returns-2
 returns-2 c =
@@ -25,7 +19,7 @@ pub first-from-spec : {M : Type 1} → statement M
 first-from-spec =
     tie.close
     (tie.spec
-    next-verse-requires
+    (λ c κs. search needs)
     returns
-    find-requires
+    (λ c κs. search needs)
     returns-2)

@@ -4,22 +4,10 @@ use Rattle.lyric_walk.proofs.Walk.{next-in, none-in}
 use Rattle.lyric_walk.proofs.next_syllable.Statement.{statement}
 use Rattle.lyric_walk.proofs.next_syllable.Tie as tie
 
-first-from-requires : tie.Need-first-from-requires
-first-from-requires c κs = search needs
-
-enum-known-f : tie.Need-enum-known-f
-enum-known-f c = search needs
-
-enum-told : tie.Need-enum-told
-enum-told c = search needs
-
 returns : tie.Need-returns
 returns c =
     let a = c .before .before .before .before .before .args in
     none-in (a .text .now) (a .scratch .now) (a .log) (a .k) (a .from) (rw (c .enum-told .given .1) at (c .before .before .first-from .ensures))
-
-in-text-requires : tie.Need-in-text-requires
-in-text-requires c κs = search needs
 
 returns-2 : tie.Need-returns-2
 returns-2 c =
@@ -30,9 +18,9 @@ pub next-syllable-spec : {M : Type 1} → statement M
 next-syllable-spec =
     tie.close
     (tie.spec
-    first-from-requires
-    enum-known-f
-    enum-told
+    (λ c κs. search needs)
+    (λ c. search needs)
+    (λ c. search needs)
     returns
-    in-text-requires
+    (λ c κs. search needs)
     returns-2)

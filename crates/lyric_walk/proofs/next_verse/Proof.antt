@@ -19,12 +19,6 @@ loop-holds c =
 get-link-requires : tie.Need-get-link-requires Inv-loop μ-loop
 get-link-requires c κs = (omega (arith, c .loop-test .taken), omega (arith, c .before .loop .inv .low, c .before .before .before .pre))
 
-cast-less-of : tie.Need-cast-less-of Inv-loop μ-loop
-cast-less-of c = search needs
-
-less-of-requires : tie.Need-less-of-requires Inv-loop μ-loop
-less-of-requires c κs = search needs
-
 loop-less : tie.Need-loop-less Inv-loop μ-loop
 loop-less c = omega (arith, c .before .before .get-link .ensures .low)
 
@@ -48,8 +42,8 @@ next-verse-spec =
     μ-loop
     loop-holds
     get-link-requires
-    cast-less-of
-    less-of-requires
+    (λ c. search needs)
+    (λ c κs. search needs)
     loop-less
     loop-again
     returns)

@@ -4,9 +4,6 @@ use Rattle.lyric_words.proofs.Tokens.{first-start}
 use Rattle.lyric_words.proofs.first_cursor.Statement.{statement}
 use Rattle.lyric_words.proofs.first_cursor.Tie as tie
 
-word-start-requires : tie.Need-word-start-requires
-word-start-requires c κs = search needs
-
 returns : tie.Need-returns
 returns c = first-start (c .before .before .args .text .now) (c .before .before .args .end) (c .before .before .args .at) _ (c .word-start .ensures)
 
@@ -14,5 +11,5 @@ pub first-cursor-spec : {M : Type 1} → statement M
 first-cursor-spec =
     tie.close
     (tie.spec
-    word-start-requires
+    (λ c κs. search needs)
     returns)

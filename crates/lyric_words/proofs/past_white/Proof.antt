@@ -18,9 +18,6 @@ abbrev μ-loop : tie.MeasureT-loop
 loop-holds : tie.Need-loop-holds Inv-loop μ-loop
 loop-holds c = (omega arith, search needs, refl)
 
-white-at-requires : tie.Need-white-at-requires Inv-loop μ-loop
-white-at-requires c κs = search needs
-
 returns : tie.Need-returns Inv-loop μ-loop
 returns c =
     let v = c .before .before .before .loop .inv in
@@ -61,7 +58,7 @@ past-white-spec =
     Inv-loop
     μ-loop
     loop-holds
-    white-at-requires
+    (λ c κs. search needs)
     returns
     add-i
     loop-less

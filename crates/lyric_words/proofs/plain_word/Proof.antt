@@ -10,22 +10,10 @@ use Rattle.lyric_words.proofs.Tokens.{plain-skip, plain-first}
 use Rattle.lyric_words.proofs.plain_word.Statement.{statement}
 use Rattle.lyric_words.proofs.plain_word.Tie as tie
 
-hyphens-end-requires : tie.Need-hyphens-end-requires
-hyphens-end-requires c κs = search needs
-
 returns : tie.Need-returns
 returns c =
     let a = c .before .before .before .args in
     plain-skip (a .text .now) (a .at) (a .word) (c .before .before .before .pre .0) (c .before .before .before .pre .1) _ (c .before .hyphens-end .ensures) (c .if1 .taken)
-
-shared-slice-read-led : tie.Need-shared-slice-read-led
-shared-slice-read-led c = search needs
-
-sub-trailed : tie.Need-sub-trailed
-sub-trailed c = search needs
-
-shared-slice-read-trailed : tie.Need-shared-slice-read-trailed
-shared-slice-read-trailed c = search needs
 
 syllable-requires : tie.Need-syllable-requires
 syllable-requires c κs =
@@ -48,10 +36,10 @@ pub plain-word-spec : {M : Type 1} → statement M
 plain-word-spec =
     tie.close
     (tie.spec
-    hyphens-end-requires
+    (λ c κs. search needs)
     returns
-    shared-slice-read-led
-    sub-trailed
-    shared-slice-read-trailed
+    (λ c. search needs)
+    (λ c. search needs)
+    (λ c. search needs)
     syllable-requires
     returns-2)

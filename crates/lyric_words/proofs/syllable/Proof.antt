@@ -7,26 +7,17 @@ use Rattle.lyric_words.proofs.Tokens.{syllable-next, syllable-last}
 use Rattle.lyric_words.proofs.syllable.Statement.{statement}
 use Rattle.lyric_words.proofs.syllable.Tie as tie
 
-piece-end-requires : tie.Need-piece-end-requires
-piece-end-requires c κs = search needs
-
 hyphens-end-requires : tie.Need-hyphens-end-requires
 hyphens-end-requires c κs =
     let a = c .before .before .args in
     let p = c .before .before .pre in
     (omega (arith, c .piece-end .ensures, endIn-le noHyphen (a .text .now) (a .from .at) (a .from .word) (omega arith)), p .1)
 
-syllabic-requires : tie.Need-syllabic-requires
-syllabic-requires c κs = search needs
-
 returns : tie.Need-returns
 returns c =
     let a = c .before .before .before .before .before .before .args in
     let p = c .before .before .before .before .before .before .pre in
     syllable-next (a .text .now) (a .from .at) (a .from .word) (a .from .led) (a .from .trailed) _ _ _ (p .0) (p .1) (p .2) (c .before .before .before .before .piece-end .ensures) (c .before .before .before .hyphens-end .ensures) (c .before .if1 .taken) (c .syllabic .ensures)
-
-syllabic-requires-2 : tie.Need-syllabic-requires-2
-syllabic-requires-2 c κs = search needs
 
 returns-2 : tie.Need-returns-2
 returns-2 c =
@@ -39,9 +30,9 @@ pub syllable-spec : {M : Type 1} → statement M
 syllable-spec =
     tie.close
     (tie.spec
-    piece-end-requires
+    (λ c κs. search needs)
     hyphens-end-requires
-    syllabic-requires
+    (λ c κs. search needs)
     returns
-    syllabic-requires-2
+    (λ c κs. search needs)
     returns-2)

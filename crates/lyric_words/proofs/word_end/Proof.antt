@@ -19,9 +19,6 @@ abbrev μ-loop : tie.MeasureT-loop
 loop-holds : tie.Need-loop-holds Inv-loop μ-loop
 loop-holds c = (search needs, refl)
 
-white-at-requires : tie.Need-white-at-requires Inv-loop μ-loop
-white-at-requires c κs = search needs
-
 returns : tie.Need-returns Inv-loop μ-loop
 returns c =
     let a = c .before .before .before .before .before .args in
@@ -62,7 +59,7 @@ word-end-spec =
     Inv-loop
     μ-loop
     loop-holds
-    white-at-requires
+    (λ c κs. search needs)
     returns
     add-i
     loop-less

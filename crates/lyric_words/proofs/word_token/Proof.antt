@@ -4,19 +4,10 @@ use Rattle.lyric_words.proofs.Tokens.{word-bar, word-skip, word-hold, w
 use Rattle.lyric_words.proofs.word_token.Statement.{statement}
 use Rattle.lyric_words.proofs.word_token.Tie as tie
 
-sub-if1 : tie.Need-sub-if1
-sub-if1 c = search needs
-
-plain-word-requires : tie.Need-plain-word-requires
-plain-word-requires c κs = search needs
-
 returns : tie.Need-returns
 returns c =
     let a = c .before .before .before .args in
     word-long (a .text .now) (a .at) (a .word) (c .before .before .before .pre .0) (c .before .before .before .pre .1) (c .before .if1 .taken) _ (c .plain-word .ensures)
-
-shared-slice-read-first : tie.Need-shared-slice-read-first
-shared-slice-read-first c = search needs
 
 returns-2 : tie.Need-returns-2
 returns-2 c =
@@ -33,9 +24,6 @@ returns-4 c =
     let a = c .before .before .before .before .before .before .args in
     word-hold (a .text .now) (a .at) (a .word) (c .before .before .before .before .before .before .pre .0) (c .before .before .before .before .before .before .pre .1) (c .before .before .before .before .if1 .left) (c .if4 .taken)
 
-plain-word-requires-2 : tie.Need-plain-word-requires-2
-plain-word-requires-2 c κs = search needs
-
 returns-5 : tie.Need-returns-5
 returns-5 c =
     let a = c .before .before .before .before .before .before .before .args in
@@ -45,12 +33,12 @@ pub word-token-spec : {M : Type 1} → statement M
 word-token-spec =
     tie.close
     (tie.spec
-    sub-if1
-    plain-word-requires
+    (λ c. search needs)
+    (λ c κs. search needs)
     returns
-    shared-slice-read-first
+    (λ c. search needs)
     returns-2
     returns-3
     returns-4
-    plain-word-requires-2
+    (λ c κs. search needs)
     returns-5)

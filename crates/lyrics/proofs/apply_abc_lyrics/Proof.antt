@@ -20,9 +20,6 @@ sing-items-requires c κs =
     let e = c .before .before .before .clear-between .ensures in
     (cleared-fits (a .text .now) (a .scratch .now) (a .n) (a .part) (a .sheet) (c .before .before .before .before .before .before .before .before .before .pre) _ e, cleared-kept (a .text .now) (a .scratch .now) (a .n) (a .part) (a .sheet) (c .before .before .before .before .before .before .before .before .before .pre) _ e)
 
-same-length : tie.Need-same-length
-same-length c = search needs
-
 returns : tie.Need-returns
 returns c =
     let a = c .before .before .before .before .before .before .before .before .before .before .before .before .args in
@@ -36,5 +33,5 @@ apply-abc-lyrics-spec =
     add-clear-between
     clear-between-requires
     sing-items-requires
-    same-length
+    (λ c. search needs)
     returns)

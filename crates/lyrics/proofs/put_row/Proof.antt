@@ -7,30 +7,6 @@ use Rattle.lyrics.specs.Sheet.{rowBytes}
 use Rattle.lyrics.proofs.put_row.Statement.{statement}
 use Rattle.lyrics.proofs.put_row.Tie as tie
 
-put-4-requires : tie.Need-put-4-requires
-put-4-requires c κs = search needs
-
-add-put-u32 : tie.Need-add-put-u32
-add-put-u32 c = search needs
-
-put-u32-requires : tie.Need-put-u32-requires
-put-u32-requires c κs = search needs
-
-add-put-u32-2 : tie.Need-add-put-u32-2
-add-put-u32-2 c = search needs
-
-put-u32-requires-2 : tie.Need-put-u32-requires-2
-put-u32-requires-2 c κs = search needs
-
-add-put-u32-3 : tie.Need-add-put-u32-3
-add-put-u32-3 c = search needs
-
-put-u32-requires-3 : tie.Need-put-u32-requires-3
-put-u32-requires-3 c κs = search needs
-
-same-length : tie.Need-same-length
-same-length c = search needs
-
 returns : tie.Need-returns
 unfolding rowBytes little
 returns c =
@@ -43,12 +19,12 @@ pub put-row-spec : {M : Type 1} → statement M
 put-row-spec =
     tie.close
     (tie.spec
-    put-4-requires
-    add-put-u32
-    put-u32-requires
-    add-put-u32-2
-    put-u32-requires-2
-    add-put-u32-3
-    put-u32-requires-3
-    same-length
+    (λ c κs. search needs)
+    (λ c. search needs)
+    (λ c κs. search needs)
+    (λ c. search needs)
+    (λ c κs. search needs)
+    (λ c. search needs)
+    (λ c κs. search needs)
+    (λ c. search needs)
     returns)

@@ -10,20 +10,8 @@ returns c =
     let a = c .before .before .args in
     sung-hold-first (a .scratch .now) (a .sheet) (a .line) (a .taken) (c .before .before .pre .0 .kept) (c .if1 .taken)
 
-add-append-row : tie.Need-add-append-row
-add-append-row c = search needs
-
-sub-append-row : tie.Need-sub-append-row
-sub-append-row c = search needs
-
 append-row-requires : tie.Need-append-row-requires
 append-row-requires c κs = (c .before .before .before .before .pre .0, omega arith, omega arith)
-
-add-t10 : tie.Need-add-t10
-add-t10 c = search needs
-
-same-length : tie.Need-same-length
-same-length c = search needs
 
 returns-2 : tie.Need-returns-2
 returns-2 c =
@@ -35,9 +23,9 @@ sing-hold-spec =
     tie.close
     (tie.spec
     returns
-    add-append-row
-    sub-append-row
+    (λ c. search needs)
+    (λ c. search needs)
     append-row-requires
-    add-t10
-    same-length
+    (λ c. search needs)
+    (λ c. search needs)
     returns-2)

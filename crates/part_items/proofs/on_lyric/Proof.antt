@@ -3,7 +3,8 @@ use Prim.Native.Nat.{ℕ, _+_}
 use mathlib.Core.Path.{ap, _∙_}
 use mathlib.Core.List.{List}
 use Rattle.laws.specs.Bytes.{splice, le32}
-use Rattle.part_items.specs.Items.{withVerse, rowFrom}
+use Rattle.part_items.specs.Items.{withVerse}
+use Rattle.scan_table.specs.Rows.{rowFrom}
 use native.Mathlib.Omega.{arith}
 use borrow.Author.Needs.{needs}
 use Rattle.part_items.proofs.on_lyric.Statement.{statement}

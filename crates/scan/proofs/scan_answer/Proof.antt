@@ -5,7 +5,7 @@ use Rattle.scan.proofs.scan_answer.Statement.{statement}
 use Rattle.scan.proofs.scan_answer.Tie as tie
 
 returns : tie.Need-returns
-returns c = rw (c .before .before .s .given .1)
+returns c = rw (c .before .before .before .s .given .1)
 
 returns-2 : tie.Need-returns-2
 returns-2 c = rw (c .before .s2 .given .1)

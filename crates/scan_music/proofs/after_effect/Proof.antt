@@ -1,7 +1,7 @@
 -- `scan_music::after_effect` meets its contract: a case for each effect.
 use mathlib.Core.Path.{refl}
-use Rattle.scan_music.specs.Plays.{effectAs}
-use Rattle.scan_music.proofs.Plays.{note-counts, note-refused, refused-here, unit-set, meter-set, passed}
+use Rattle.scan_music.specs.MusicLines.{effectAs}
+use Rattle.scan_music.proofs.MusicLines.{note-counts, note-refused, refused-here, unit-set, meter-set, passed}
 use borrow.Author.Needs.{needs}
 use Rattle.scan_music.proofs.after_effect.Statement.{statement}
 use Rattle.scan_music.proofs.after_effect.Tie as tie

@@ -1,6 +1,6 @@
 -- `scan_music::goes_on` meets its contract: a case for each answer so far.
 use borrow.Author.Needs.{needs}
-use Rattle.scan_music.specs.Plays.{goesOn}
+use Rattle.scan_music.specs.MusicLines.{goesOn}
 use Rattle.scan_music.proofs.goes_on.Statement.{statement}
 use Rattle.scan_music.proofs.goes_on.Tie as tie
 

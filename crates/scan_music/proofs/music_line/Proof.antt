@@ -3,7 +3,7 @@ use mathlib.Core.Path.{refl, sym, _∙_}
 use native.Mathlib.Omega.{arith}
 use Rattle.reader.specs.Scan.{act}
 use Rattle.scan_states.proofs.Items.{stays}
-use Rattle.scan_music.proofs.Plays.{line-high, lent-line, line-refused, line-played, countOf}
+use Rattle.scan_music.proofs.MusicLines.{line-high, lent-line, line-refused, line-counted, countOf}
 use borrow.Author.Needs.{needs}
 use Rattle.scan_music.proofs.music_line.Statement.{statement}
 use Rattle.scan_music.proofs.music_line.Tie as tie
@@ -20,15 +20,15 @@ returns-2 c =
 returns-3 : tie.Need-returns-3
 returns-3 c =
     let a = c .before .before .before .before .before .before .before .before .before .before .before .before .before .before .args in
-    line-played (a .text .now) (a .scratch .now) (a .st) (a .from) (a .end) (c .before .before .before .before .before .before .before .before .before .before .before .if1 .left) (sym (c .before .before .before .before .before .before .before .before .before .before .is-high .ensures) ∙ c .before .before .before .before .before .before .before .before .before .if2 .left) _ _ _
-    (lent-line (a .text .now) (a .from) (a .end) (countOf (a .st)) _ _ (c .before .before .before .before .before .s .given .1) (c .before .before .before .before .before .before .before .play-line .ensures)) (search needs) (search needs) (c .before .before .add-played .ensures .0) (c .before .before .add-played .ensures .1 (a .text .now))
+    line-counted (a .text .now) (a .scratch .now) (a .st) (a .from) (a .end) (c .before .before .before .before .before .before .before .before .before .before .before .if1 .left) (sym (c .before .before .before .before .before .before .before .before .before .before .is-high .ensures) ∙ c .before .before .before .before .before .before .before .before .before .if2 .left) _ _ _
+    (lent-line (a .text .now) (a .from) (a .end) (countOf (a .st)) _ _ (c .before .before .before .before .before .s .given .1) (c .before .before .before .before .before .before .before .count-line .ensures)) (c .before .before .before .before .before .before .before .before .before .before .before .before .before .before .pre .0 .voices-fit) (c .before .before .before .before .before .before .before .before .before .before .before .before .before .before .pre .0 .part-fits) (c .before .before .add-music-line .ensures .0) (c .before .before .add-music-line .ensures .1 (a .text .now))
 
 returns-4 : tie.Need-returns-4
 returns-4 c =
     let a = c .before .before .before .before .before .before .before .before .before .before .before .args in
     rw (c .refuse2 .ensures)
     (line-refused (a .text .now) (a .scratch .now) (a .st) (a .from) (a .end) (c .before .before .before .before .before .before .before .before .if1 .left) (sym (c .before .before .before .before .before .before .before .is-high .ensures) ∙ c .before .before .before .before .before .before .if2 .left) _ _
-    (lent-line (a .text .now) (a .from) (a .end) (countOf (a .st)) _ _ (c .before .before .s2 .given .1) (c .before .before .before .before .play-line .ensures)))
+    (lent-line (a .text .now) (a .from) (a .end) (countOf (a .st)) _ _ (c .before .before .s2 .given .1) (c .before .before .before .before .count-line .ensures)))
 
 pub music-line-spec : {M : Type 1} → statement M
 music-line-spec =

@@ -64,11 +64,11 @@ use Rattle.token_cursors.proofs.next_effect as next-effect
 use Rattle.token_cursors.proofs.next_effect.Symbol as next-effect-def
 use Rattle.token_cursors.proofs.next_effect.Symbol.{name as #token-cursors·next-effect}
 use Rattle.token_cursors.proofs.next_effect.Met as next-effect-thm
-use Rattle.scan_music.specs.Plays.{effectAs, playedOn, goesOn}
-use Rattle.scan_music.specs.declared.Played.{Played}
-use Rattle.scan_music.proofs.Plays.{found, past, within, turned, goes, ends}
-use Rattle.scan_music.proofs.Played as P
-use Rattle.scan_music.proofs.Played.Laws as P′
+use Rattle.scan_music.specs.MusicLines.{effectAs, countedOn, goesOn}
+use Rattle.scan_music.specs.declared.Counted.{Counted}
+use Rattle.scan_music.proofs.MusicLines.{found, past, within, turned, goes, ends}
+use Rattle.scan_music.proofs.Counted as P
+use Rattle.scan_music.proofs.Counted.Laws as P′
 use Rattle.scan_music.proofs.goes_on as goes-on
 use Rattle.scan_music.proofs.goes_on.Symbol as goes-on-def
 use Rattle.scan_music.proofs.goes_on.Symbol.{name as #scan-music·goes-on}
@@ -91,11 +91,11 @@ abbrev stayed : Stays (walk-line.ended .signature .params) (walk-line.ended .kep
 stayed = (stay-none-slice (0 ∷ []) tt (plain (λ _. u8)) yes, (stay-none (λ _. P.the-row) yes, (stay-none-ref (1 ∷ []) tt Classes yes, tt)))
 
 -- the machine value of an answer
-abbrev pv : Played → Val
+abbrev pv : Counted → Val
 pv q = EL.val P.the-type P′.the-laws q
 
-abbrev IsPlayed : Played → Type 0
-IsPlayed q = Is P.the-row q (pv q ∷ [])
+abbrev IsCounted : Counted → Type 0
+IsCounted q = Is P.the-row q (pv q ∷ [])
 
 module _ {M : Type 1} (𝓤 : URA M) (H : Heap 𝓤) (A : Atoms 𝓤) (mem : Memory → SProp 𝓤) (run : Routine → Fun 𝓤) where
   -- the contracts that the proof cites
@@ -108,9 +108,9 @@ module _ {M : Type 1} (𝓤 : URA M) (H : Heap 𝓤) (A : Atoms 𝓤) (mem : Mem
   abbrev OnEffect : Contract 𝓤
   OnEffect = tripleOf 𝓤 H A on-effect.signature (on-effect.spec 𝓤 H A mem run)
 
-module _ {M : Type 1} (𝓤 : URA M) (H : Heap 𝓤) (A : Atoms 𝓤) (W : Given 𝓤 H A) (at-mem : Memory → SProp 𝓤) (run : Routine → Fun 𝓤) (κ₀ κ₁ : Lft) (q₀ q₁ : Share) (s : RefT (List ℕ)) (start : Played) (t : RefT (List ℕ)) (line-is : Is (ShrSlice (named 0) κ₀ u8) s (sliceVal (s .ptr) (length (s .now)) ∷ [])) (start-is : IsPlayed start) (table-is : t .now ≡ classTable) where
+module _ {M : Type 1} (𝓤 : URA M) (H : Heap 𝓤) (A : Atoms 𝓤) (W : Given 𝓤 H A) (at-mem : Memory → SProp 𝓤) (run : Routine → Fun 𝓤) (κ₀ κ₁ : Lft) (q₀ q₁ : Share) (s : RefT (List ℕ)) (start : Counted) (t : RefT (List ℕ)) (line-is : Is (ShrSlice (named 0) κ₀ u8) s (sliceVal (s .ptr) (length (s .now)) ∷ [])) (start-is : IsCounted start) (table-is : t .now ≡ classTable) where
   abbrev Arg : Type 0
-  Arg = RefT (List ℕ) × (Played × (RefT (List ℕ) × Unit {0}))
+  Arg = RefT (List ℕ) × (Counted × (RefT (List ℕ) × Unit {0}))
 
   abbrev a : Arg
   a = (s, (start, (t, tt)))
@@ -151,7 +151,7 @@ module _ {M : Type 1} (𝓤 : URA M) (H : Heap 𝓤) (A : Atoms 𝓤) (W : Given
   abbrev Post : Val → SProp 𝓤
   Post = walkOf 𝓤 H A walk-line.ended stayed (walk-line.clauses 𝓤 H A at-mem run) .post (((κ₀, (κ₁, tt)), (q₀, (q₁, tt)), tt, a, vals), tt)
 
-  exits : (q : Played) → IsPlayed q → q ≡ playedOn start (effects line) → ent 𝓤 (⋆ 𝓤 H A (‵ (flft κ₀ q₀) ∷ ‵ (flft κ₁ q₁) ∷ ‵ Line ∷ ‵ Table ∷ [])) (Post (pv q))
+  exits : (q : Counted) → IsCounted q → q ≡ countedOn start (effects line) → ent 𝓤 (⋆ 𝓤 H A (‵ (flft κ₀ q₀) ∷ ‵ (flft κ₁ q₁) ∷ ‵ Line ∷ ‵ Table ∷ [])) (Post (pv q))
   exits q is e =
       qed W (‵ (flft κ₀ q₀) ∷ ‵ (flft κ₁ q₁) ∷ ‵ Line ∷ ‵ Table ∷ []) ∵
       suffices ! _ (ends-at 𝓤 H A walk-line.ended stayed (walk-line.clauses 𝓤 H A at-mem run) W (((κ₀, (κ₁, tt)), (q₀, (q₁, tt)), tt, a, vals), tt) (pv q) q (tt, (tt, (tt, tt))) (tt, (tt, (tt, tt)))) $ says ! e $
@@ -160,15 +160,15 @@ module _ {M : Type 1} (𝓤 : URA M) (H : Heap 𝓤) (A : Atoms 𝓤) (W : Given
       owned ! P.the-row (Is P.the-row) (EL.makes P.the-type P′.the-plain 𝓤 H A) q _ is $ move ! (1 ∷ 0 ∷ []) $ done !
 
   -- the call of `goes_on`
-  abbrev to-goes-on : Played → ℕ → GoesOn 𝓤 H A at-mem run .Ghost
+  abbrev to-goes-on : Counted → ℕ → GoesOn 𝓤 H A at-mem run .Ghost
   to-goes-on q n = ((tt, tt, tt, (q, (n, (len, tt))), (pv q ∷ [], (vint w64 n ∷ [], (vint w64 len ∷ [], tt)))), tt)
 
-  asks-on : (q : Played) (n : ℕ) → IsPlayed q → n < 2 ^ 64 → ent 𝓤 (emp 𝓤) (GoesOn 𝓤 H A at-mem run .pre (to-goes-on q n))
+  asks-on : (q : Counted) (n : ℕ) → IsCounted q → n < 2 ^ 64 → ent 𝓤 (emp 𝓤) (GoesOn 𝓤 H A at-mem run .pre (to-goes-on q n))
   asks-on q n is fits =
       qed W [] ∵ nothing ! $ owned ! usize (Is usize) (uint-makes 𝓤 H A W w64) len _ (refl, len-fits) $ fjoin ! $ owned ! usize (Is usize) (uint-makes 𝓤 H A W w64) n _ (refl, fits) $ fjoin ! $
       owned ! P.the-row (Is P.the-row) (EL.makes P.the-type P′.the-plain 𝓤 H A) q _ is $ fjoin ! $ nothing ! $ join ! $ frame ! $ done !
 
-  said-on : (q : Played) (n : ℕ) (r : Bool) → ent 𝓤 (ensured 𝓤 H A goes-on.ended (goes-on.clauses 𝓤 H A at-mem run) tt (q, (n, (len, tt))) tt r) (fact 𝓤 (r ≡ goesOn q n len))
+  said-on : (q : Counted) (n : ℕ) (r : Bool) → ent 𝓤 (ensured 𝓤 H A goes-on.ended (goes-on.clauses 𝓤 H A at-mem run) tt (q, (n, (len, tt))) tt r) (fact 𝓤 (r ≡ goesOn q n len))
   said-on q n r = exE 𝓤 _ (λ ws. snd∗ 𝓤 (sem 𝓤 H A (lasts goes-on.ended tt (q, (n, (len, tt))) ws)) (fact 𝓤 (r ≡ goesOn q n len)))
 
   -- the call of `next_effect`, with the cursor at (b, 0) lent for the lifetime ν under the name δ
@@ -188,22 +188,22 @@ module _ {M : Type 1} (𝓤 : URA M) (H : Heap 𝓤) (A : Atoms 𝓤) (W : Given
       nothing ! $ move ! (3 ∷ 0 ∷ []) $ fjoin ! $ move ! (2 ∷ 0 ∷ []) $ fjoin ! $ move ! (1 ∷ 0 ∷ []) $ fjoin ! $ done !
 
   -- the call of `on_effect`, at an effect e with the machine value u
-  abbrev to-on-effect : Played → Effect → Val → OnEffect 𝓤 H A at-mem run .Ghost
+  abbrev to-on-effect : Counted → Effect → Val → OnEffect 𝓤 H A at-mem run .Ghost
   to-on-effect q e u = ((tt, tt, tt, (q, (e, tt)), (pv q ∷ [], (u ∷ [], tt))), tt)
 
-  asks-step : (q : Played) (e : Effect) (u : Val) → IsPlayed q → ent 𝓤 (sem 𝓤 H A (S.the-row .own e (u ∷ []))) (OnEffect 𝓤 H A at-mem run .pre (to-on-effect q e u))
+  asks-step : (q : Counted) (e : Effect) (u : Val) → IsCounted q → ent 𝓤 (sem 𝓤 H A (S.the-row .own e (u ∷ []))) (OnEffect 𝓤 H A at-mem run .pre (to-on-effect q e u))
   asks-step q e u is =
       qed W (‵ (S.the-row .own e (u ∷ [])) ∷ []) ∵ nothing ! $ move ! (1 ∷ 0 ∷ []) $ fjoin ! $ owned ! P.the-row (Is P.the-row) (EL.makes P.the-type P′.the-plain 𝓤 H A) q _ is $ fjoin ! $ nothing ! $ join ! $ frame ! $ done !
 
-  abbrev Stepped : Played → Effect → Played → Type 0
-  Stepped q e r = (es : List tokens.Effect) → playedOn r es ≡ playedOn q (effectAs e ∷ es)
+  abbrev Stepped : Counted → Effect → Counted → Type 0
+  Stepped q e r = (es : List tokens.Effect) → countedOn r es ≡ countedOn q (effectAs e ∷ es)
 
-  said-step : (q : Played) (e : Effect) (r : Played) → ent 𝓤 (ensured 𝓤 H A on-effect.ended (on-effect.clauses 𝓤 H A at-mem run) tt (q, (e, tt)) tt r) (fact 𝓤 (Stepped q e r))
+  said-step : (q : Counted) (e : Effect) (r : Counted) → ent 𝓤 (ensured 𝓤 H A on-effect.ended (on-effect.clauses 𝓤 H A at-mem run) tt (q, (e, tt)) tt r) (fact 𝓤 (Stepped q e r))
   said-step q e r = exE 𝓤 _ (λ ws. snd∗ 𝓤 (sem 𝓤 H A (lasts on-effect.ended tt (q, (e, tt)) ws)) (fact 𝓤 (Stepped q e r)))
 
   -- the loop's variant: the answer so far and the place, with what is known of them
   abbrev State : Type 0
-  State = (q : Played) × ((n : ℕ) × (IsPlayed q × ((n ≤ len) × (playedOn q (effects (dropped n line)) ≡ playedOn start (effects line)))))
+  State = (q : Counted) × ((n : ℕ) × (IsCounted q × ((n ≤ len) × (countedOn q (effects (dropped n line)) ≡ countedOn start (effects line)))))
 
   abbrev Nearer : State → State → Type 0
   Nearer j i = len - j .1 .0 < len - i .1 .0
@@ -222,16 +222,16 @@ module _ {M : Type 1} (𝓤 : URA M) (H : Heap 𝓤) (A : Atoms 𝓤) (W : Given
   Moved i e c = (e ≡ found line (i .1 .0) .effect) × (c ≡ at (found line (i .1 .0) .next))
 
   -- the state after one token more, which is nearer to the line's end
-  abbrev onward : (i : State) → i .1 .0 < len → (e : Effect) (r : Played) → IsPlayed r → e ≡ found line (i .1 .0) .effect → Stepped (i .0) e r → State
+  abbrev onward : (i : State) → i .1 .0 < len → (e : Effect) (r : Counted) → IsCounted r → e ≡ found line (i .1 .0) .effect → Stepped (i .0) e r → State
   onward i less e r is x f = (r, (found line (i .1 .0) .next, (is, (within line (i .1 .0) less, turned line (i .1 .0) less (i .0) r e x f ∙ i .1 .1 .1 .1))))
 
   nearer : (i : State) → i .1 .0 < len → len - found line (i .1 .0) .next < len - i .1 .0
   nearer i less = omega (arith, past line (i .1 .0) less)
 
-  played-is : (r : Played) (w : Val) → Is P.the-row r (w ∷ []) → IsPlayed r
-  played-is r w is = EL.owes P.the-type P′.the-laws r (EL.owed P.the-type P′.the-laws r _ is)
+  counted-is : (r : Counted) (w : Val) → Is P.the-row r (w ∷ []) → IsCounted r
+  counted-is r w is = EL.owes P.the-type P′.the-laws r (EL.owed P.the-type P′.the-laws r _ is)
 
-  typed : (q : Played) (v : Val) → Is P.the-row q (v ∷ []) → Holds (hasTy P′.mir v) × WT v
+  typed : (q : Counted) (v : Val) → Is P.the-row q (v ∷ []) → Holds (hasTy P′.mir v) × WT v
   typed q v is = EL.lawful P.the-type P′.the-laws 𝓤 H A W tt .typed q (v ∷ []) is .0
 
   module _ (𝓣 : Tables 𝓤 H) (fm : FmC 𝓤 H (W .laws) (𝓣 .C)) (known-on : Triple 𝓤 (𝓣 .C #scan-music·goes-on) (GoesOn 𝓤 H A at-mem run)) (known-effect : Triple 𝓤 (𝓣 .C #token-cursors·next-effect) (NextEffect 𝓤 H A at-mem run)) (known-step : Triple 𝓤 (𝓣 .C #scan-music·on-effect) (OnEffect 𝓤 H A at-mem run)) where
@@ -274,7 +274,7 @@ module _ {M : Type 1} (𝓤 : URA M) (H : Heap 𝓤) (A : Atoms 𝓤) (W : Given
           ∷ ‵ (fat fullShare table-ref l₃ 0 tv) ∷ ‵ (fdies table-ref l₃) ∷ ‵ (fat fullShare P′.mir l₂ 0 (pv start)) ∷ ‵ (fdies P′.mir l₂) ∷ ‵ (fat fullShare slice l₁ 0 sv) ∷ ‵ (fdies slice l₁) ∷ ‵ (froom P′.mir l₀ 0) ∷ ‵ (fdies P′.mir l₀) ∷ []
 
       -- the loop is left: the answer so far is the answer
-      leaves : (i : State) (y : Bool) → i .0 ≡ playedOn start (effects line) → Sq W (Tested i y) (runs C Λ En code-mir.t-5 (atRet En Post))
+      leaves : (i : State) (y : Bool) → i .0 ≡ countedOn start (effects line) → Sq W (Tested i y) (runs C Λ En code-mir.t-5 (atRet En Post))
       leaves i y e =
           assigns ! (of-opd ! (load ! (from ! (stop !)) (look ! 16 refl))) (from ! (stop !)) (init ! 26 refl (typed (i .0) _ (i .1 .1 .0))) $
           returns ! (look ! 26 refl) $ forget ! 6 refl $ forget ! 8 refl $ forget ! 10 refl $ forget ! 12 refl $ forget ! 16 refl $ forget ! 18 refl $ forget ! 20 refl $ forget ! 22 refl $ forget ! 24 refl $ forget ! 26 refl $
@@ -315,7 +315,7 @@ module _ {M : Type 1} (𝓤 : URA M) (H : Heap 𝓤) (A : Atoms 𝓤) (W : Given
           -- [the cursor; κ₁ and true; κ₀; the result; the table; the line; _11; …; _5; …; dies _4; _3; …; _0; …]
           move ! (3 ∷ []) $ use1 W (raw (OnEffect 𝓤 H A at-mem run .pre (to-on-effect (i .0) e u))) (asks-step (i .0) e u (i .1 .1 .0)) $
           calls-at-last ! fm (OnEffect 𝓤 H A at-mem run) known-step (to-on-effect (i .0) e u) (and-then ! (load ! (from ! (stop !)) (look ! 18 refl)) (and-then ! (load ! (from ! (stop !)) (look ! 16 refl)) (no-more !))) (λ w.
-          use1 W (later (some (λ (r : Played). (‵ ftrue ⊛ ‵ (P.the-row .own r (w ∷ []))) ⊛ raw (ensured 𝓤 H A on-effect.ended (on-effect.clauses 𝓤 H A at-mem run) tt (i .0, (e, tt)) tt r)))) (id⊢ 𝓤 _) $ await ! tt $ pick ! (λ r.
+          use1 W (later (some (λ (r : Counted). (‵ ftrue ⊛ ‵ (P.the-row .own r (w ∷ []))) ⊛ raw (ensured 𝓤 H A on-effect.ended (on-effect.clauses 𝓤 H A at-mem run) tt (i .0, (e, tt)) tt r)))) (id⊢ 𝓤 _) $ await ! tt $ pick ! (λ r.
           split ! $ move ! (1 ∷ []) $ use1 W (raw (fact 𝓤 (Stepped (i .0) e r))) (said-step (i .0) e r) $ heard ! (Stepped (i .0) e r) (λ f. split ! $ drop ! $
           peeks ! P.the-row (Is P.the-row) (shows 𝓤 H A P.the-row) r (w ∷ []) (λ is′. drop ! $
           -- [the cursor; κ₁ and true; κ₀; the table; the line; _11; …]
@@ -323,7 +323,7 @@ module _ {M : Type 1} (𝓤 : URA M) (H : Heap 𝓤) (A : Atoms 𝓤) (W : Given
           forget ! 5 refl $ forget ! 7 refl $ forget ! 9 refl $ forget ! 11 refl $ forget ! 15 refl $ move ! (1 ∷ []) $ split ! $
           -- [κ₁; true; the cursor; κ₀; the table; the line; _11; …]
           keep ! (3 ∷ 0 ∷ 5 ∷ 4 ∷ 6 ∷ 7 ∷ 8 ∷ 9 ∷ 10 ∷ 11 ∷ 12 ∷ 13 ∷ 14 ∷ 15 ∷ 16 ∷ 17 ∷ 18 ∷ 19 ∷ 2 ∷ 20 ∷ 21 ∷ 22 ∷ 23 ∷ 24 ∷ 25 ∷ 26 ∷ 27 ∷ 28 ∷ []) $
-          again ! Nearer At i (onward i less e r (played-is r w is′) (m .0) f) (nearer i less)))))))))))))
+          again ! Nearer At i (onward i less e r (counted-is r w is′) (m .0) f) (nearer i less)))))))))))))
 
       turns : (i : State) → Sq W (At i) (runs C Λ En code-mir.turn-1 (anyQ (Turned i)))
       unfolding afterTurn

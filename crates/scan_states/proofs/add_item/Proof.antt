@@ -3,7 +3,7 @@ use mathlib.Core.Path.{_≡_, refl, ap, _∙_}
 use native.Mathlib.Numerals.{add-one}
 use Rattle.scan_states.specs.declared.State.{State}
 use Rattle.scan_states.specs.declared.Step.the-variants.{On}
-use Rattle.scan_states.specs.States.{reached, addedTo}
+use Rattle.scan_states.specs.States.{outIn, addedState}
 use Rattle.scan_states.proofs.Items.{added}
 use borrow.Author.Needs.{needs}
 use Rattle.scan_states.proofs.add_item.Statement.{statement}

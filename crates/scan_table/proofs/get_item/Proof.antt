@@ -1,5 +1,5 @@
 -- `scan_table::get_item` meets its contract: its row, field by field, the place cut to the text.
-use Prim.Native.Nat.{_+_, _*_}
+use Rattle.scan_table.specs.Rows.{rowFrom}
 use Rattle.scan_table.proofs.Rows.{row-read}
 use mathlib.Core.Path.{refl}
 use borrow.Author.Needs.{needs}
@@ -9,7 +9,7 @@ use Rattle.scan_table.proofs.get_item.Tie as tie
 returns : tie.Need-returns
 returns c =
     let a = c .before .before .before .before .before .before .before .before .before .before .args in
-    row-read (a .text .now) (a .scratch .now) (256 + 16 * a .i) _ refl refl refl refl (c .get-u323 .ensures)
+    row-read (a .text .now) (a .scratch .now) (rowFrom (a .i)) _ refl refl refl refl (c .get-u323 .ensures)
     (rw (← c .before .before .before .before .before .before .before .get-u32 .ensures, ← c .before .before .before .before .before .before .get-u322 .ensures) (c .before .before .before .before .before .cut-place .ensures))
 
 pub get-item-spec : {M : Type 1} → statement M

@@ -1,5 +1,6 @@
 -- `scan_table::get_voice` meets its contract: the two numbers of its row, cut to the text.
-use Prim.Native.Nat.{_+_, _*_}
+use Prim.Native.Nat.{_*_}
+use Rattle.scan_table.specs.Rows.{voiceRowWidth}
 use Rattle.scan_table.proofs.Rows.{voice-read}
 use borrow.Author.Needs.{needs}
 use Rattle.scan_table.proofs.get_voice.Statement.{statement}
@@ -10,7 +11,7 @@ returns c =
     let a = c .before .before .before .before .before .args in
     let t = a .text .now in
     let s = a .scratch .now in
-    voice-read t s (8 * a .i) _ (rw (← c .before .before .get-u32 .ensures, ← c .before .get-u322 .ensures) (c .cut-place .ensures))
+    voice-read t s (voiceRowWidth * a .i) _ (rw (← c .before .before .get-u32 .ensures, ← c .before .get-u322 .ensures) (c .cut-place .ensures))
 
 pub get-voice-spec : {M : Type 1} → statement M
 get-voice-spec =

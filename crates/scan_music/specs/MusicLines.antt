@@ -10,8 +10,8 @@ use Rattle.tokens.specs.declared.Effect as code
 use Rattle.tokens.specs.declared.Effect.the-variants as effect
 use Rattle.scan_states.specs.declared.State.{State}
 use Rattle.scan_music.specs.declared.Count.{Count}
-use Rattle.scan_music.specs.declared.Played.{Played}
-use Rattle.scan_music.specs.declared.Played.the-variants.{On, Refused}
+use Rattle.scan_music.specs.declared.Counted.{Counted}
+use Rattle.scan_music.specs.declared.Counted.the-variants.{On, Refused}
 
 -- an effect as the definitions have it
 unfoldable pub effectAs : code.Effect → Effect
@@ -22,30 +22,29 @@ effectAs (effect.SetsMeter t b) = setsMeter (t, b)
 effectAs effect.NoEffect = noEffect
 
 -- effects, after these notes and with this L and M, unless one is refused
-unfoldable pub playedAs : Count → List Effect → Option ℕ → Played
-playedAs p es (some k) = Refused k
-playedAs p es none =
+unfoldable pub countedAs : Count → List Effect → Option ℕ → Counted
+countedAs p es (some k) = Refused k
+countedAs p es none =
     On (record { notes = p .notes + noteCount es; unit = lastUnit es (p .unit); top = lastMeter es (p .top, p .bottom) .0; bottom = lastMeter es (p .top, p .bottom) .1 })
 
-unfoldable pub playedFor : Count → List Effect → Played
-playedFor p es = playedAs p es (firstRefusal (p .notes) es)
+unfoldable pub countedFor : Count → List Effect → Counted
+countedFor p es = countedAs p es (firstRefusal (p .notes) es)
 
--- the same from what was played so far
-unfoldable pub playedOn : Played → List Effect → Played
-playedOn (On p) es = playedFor p es
-playedOn (Refused k) es = Refused k
+-- the same from what the tokens before come to
+unfoldable pub countedOn : Counted → List Effect → Counted
+countedOn (On p) es = countedFor p es
+countedOn (Refused k) es = Refused k
 
 -- a token is still to come, and nothing is refused
-unfoldable pub goesOn : Played → ℕ → ℕ → Bool
+unfoldable pub goesOn : Counted → ℕ → ℕ → Bool
 goesOn (On p) at end = ltb at end
 goesOn (Refused k) at end = false
 
 -- the state behind a music line: one item and one line more, a place for verses for every part up to this one
-abbrev pub playedTo : State → Count → State
-playedTo st q = record {
+abbrev pub stateAfter : State → Count → State
+stateAfter st q = record {
   in_header = st .in_header;
-  fifths = st .fifths;
-  minor = st .minor;
+  key = st .key;
   unit = q .unit;
   top = q .top;
   bottom = q .bottom;

@@ -27,56 +27,56 @@ use Rattle.text_lines.specs.Lines.{kindAs}
 use Rattle.scan_table.specs.Rows.{itemsIn}
 use Rattle.scan_states.specs.declared.State.{State}
 use Rattle.scan_states.specs.declared.Step.the-variants as S
-use Rattle.scan_states.specs.States.{held, reached, Stepped}
+use Rattle.scan_states.specs.States.{stateIn, outIn, Stepped}
 use Rattle.scan_music.specs.declared.Count.{Count}
-use Rattle.scan_music.specs.declared.Played.{Played}
-use Rattle.scan_music.specs.declared.Played.the-variants.{On, Refused}
-use Rattle.scan_music.specs.Plays.{effectAs, playedAs, playedFor, playedOn, playedTo, goesOn}
+use Rattle.scan_music.specs.declared.Counted.{Counted}
+use Rattle.scan_music.specs.declared.Counted.the-variants.{On, Refused}
+use Rattle.scan_music.specs.MusicLines.{effectAs, countedAs, countedFor, countedOn, stateAfter, goesOn}
 
 -- ONE TOKEN
 abbrev pub withNotes : Count → ℕ → Count
 withNotes p n = record { notes = n; unit = p .unit; top = p .top; bottom = p .bottom }
 
-pub note-counts : (p : Count) (es : List Effect) → p .notes < 100000 → playedOn (On (withNotes p (p .notes + 1))) es ≡ playedFor p (counts ∷ es)
-unfolding playedOn playedFor firstRefusal playedAs noteCount lastUnit lastMeter
+pub note-counts : (p : Count) (es : List Effect) → p .notes < 100000 → countedOn (On (withNotes p (p .notes + 1))) es ≡ countedFor p (counts ∷ es)
+unfolding countedOn countedFor firstRefusal countedAs noteCount lastUnit lastMeter
 note-counts p es h = rw (lt-ltb (p .notes) 100000 h, add-one (p .notes)) (go (firstRefusal (suc (p .notes)) es))
   where
     more : suc (p .notes) + noteCount es ≡ p .notes + suc (noteCount es)
     more = omega arith
 
-    go : (o : Option ℕ) → playedAs (withNotes p (suc (p .notes))) es o ≡ playedAs p (counts ∷ es) o
+    go : (o : Option ℕ) → countedAs (withNotes p (suc (p .notes))) es o ≡ countedAs p (counts ∷ es) o
     go (some k) = refl
     go none = ap (λ (n : ℕ). On (record { notes = n; unit = lastUnit es (p .unit); top = lastMeter es (p .top, p .bottom) .0; bottom = lastMeter es (p .top, p .bottom) .1 })) more
 
-pub note-refused : (p : Count) (es : List Effect) → 100000 ≤ p .notes → playedOn (Refused 11) es ≡ playedFor p (counts ∷ es)
-unfolding playedOn playedFor playedAs firstRefusal
+pub note-refused : (p : Count) (es : List Effect) → 100000 ≤ p .notes → countedOn (Refused 11) es ≡ countedFor p (counts ∷ es)
+unfolding countedOn countedFor countedAs firstRefusal
 note-refused p es h = rw (le-ltb (p .notes) 100000 h)
 
-pub refused-here : (p : Count) (k : ℕ) (es : List Effect) → playedOn (Refused k) es ≡ playedFor p (refuses k ∷ es)
-unfolding playedOn playedFor playedAs firstRefusal
+pub refused-here : (p : Count) (k : ℕ) (es : List Effect) → countedOn (Refused k) es ≡ countedFor p (refuses k ∷ es)
+unfolding countedOn countedFor countedAs firstRefusal
 refused-here p k es = refl
 
-pub unit-set : (p : Count) (u : ℕ) (es : List Effect) → playedOn (On (record { notes = p .notes; unit = u; top = p .top; bottom = p .bottom })) es ≡ playedFor p (setsUnit u ∷ es)
-unfolding playedOn playedFor firstRefusal playedAs noteCount lastUnit lastMeter
+pub unit-set : (p : Count) (u : ℕ) (es : List Effect) → countedOn (On (record { notes = p .notes; unit = u; top = p .top; bottom = p .bottom })) es ≡ countedFor p (setsUnit u ∷ es)
+unfolding countedOn countedFor firstRefusal countedAs noteCount lastUnit lastMeter
 unit-set p u es = go (firstRefusal (p .notes) es)
   where
-    go : (o : Option ℕ) → playedAs (record { notes = p .notes; unit = u; top = p .top; bottom = p .bottom }) es o ≡ playedAs p (setsUnit u ∷ es) o
+    go : (o : Option ℕ) → countedAs (record { notes = p .notes; unit = u; top = p .top; bottom = p .bottom }) es o ≡ countedAs p (setsUnit u ∷ es) o
     go (some k) = refl
     go none = refl
 
-pub meter-set : (p : Count) (t b : ℕ) (es : List Effect) → playedOn (On (record { notes = p .notes; unit = p .unit; top = t; bottom = b })) es ≡ playedFor p (setsMeter (t, b) ∷ es)
-unfolding playedOn playedFor firstRefusal playedAs noteCount lastUnit lastMeter
+pub meter-set : (p : Count) (t b : ℕ) (es : List Effect) → countedOn (On (record { notes = p .notes; unit = p .unit; top = t; bottom = b })) es ≡ countedFor p (setsMeter (t, b) ∷ es)
+unfolding countedOn countedFor firstRefusal countedAs noteCount lastUnit lastMeter
 meter-set p t b es = go (firstRefusal (p .notes) es)
   where
-    go : (o : Option ℕ) → playedAs (record { notes = p .notes; unit = p .unit; top = t; bottom = b }) es o ≡ playedAs p (setsMeter (t, b) ∷ es) o
+    go : (o : Option ℕ) → countedAs (record { notes = p .notes; unit = p .unit; top = t; bottom = b }) es o ≡ countedAs p (setsMeter (t, b) ∷ es) o
     go (some k) = refl
     go none = refl
 
-pub passed : (p : Count) (es : List Effect) → playedOn (On p) es ≡ playedFor p (noEffect ∷ es)
-unfolding playedOn playedFor firstRefusal playedAs noteCount lastUnit lastMeter
+pub passed : (p : Count) (es : List Effect) → countedOn (On p) es ≡ countedFor p (noEffect ∷ es)
+unfolding countedOn countedFor firstRefusal countedAs noteCount lastUnit lastMeter
 passed p es = go (firstRefusal (p .notes) es)
   where
-    go : (o : Option ℕ) → playedAs p es o ≡ playedAs p (noEffect ∷ es) o
+    go : (o : Option ℕ) → countedAs p es o ≡ countedAs p (noEffect ∷ es) o
     go (some k) = refl
     go none = refl
 
@@ -90,8 +90,8 @@ effect-back (setsMeter m) = refl
 effect-back noEffect = refl
 
 module _ (line : List ℕ) (at : ℕ) where
-  pub none-left : (p : Count) → length line ≤ at → playedFor p (effects (drop at line)) ≡ On p
-  unfolding playedFor playedAs effects firstRefusal noteCount lastUnit lastMeter
+  pub none-left : (p : Count) → length line ≤ at → countedFor p (effects (drop at line)) ≡ On p
+  unfolding countedFor countedAs effects firstRefusal noteCount lastUnit lastMeter
   none-left p h = rw (tokens-end line at h) (ap (λ (n : ℕ). On (withNotes p n)) none)
     where
       none : p .notes + 0 ≡ p .notes
@@ -112,17 +112,17 @@ module _ (line : List ℕ) (at : ℕ) where
   within h = token-within line at h
 
   -- the rest, after one token
-  pub turned : at < length line → (q s : Played) (e : code.Effect) → e ≡ found .effect → ((es : List Effect) → playedOn s es ≡ playedOn q (effectAs e ∷ es)) → playedOn s (effects (drop (found .next) line)) ≡ playedOn q (effects (drop at line))
-  turned h q s e x f = f (effects (drop (found .next) line)) ∙ ap (λ (y : code.Effect). playedOn q (effectAs y ∷ effects (drop (found .next) line))) x ∙ ap (playedOn q) (sym (next-effect h))
+  pub turned : at < length line → (q s : Counted) (e : code.Effect) → e ≡ found .effect → ((es : List Effect) → countedOn s es ≡ countedOn q (effectAs e ∷ es)) → countedOn s (effects (drop (found .next) line)) ≡ countedOn q (effects (drop at line))
+  turned h q s e x f = f (effects (drop (found .next) line)) ∙ ap (λ (y : code.Effect). countedOn q (effectAs y ∷ effects (drop (found .next) line))) x ∙ ap (countedOn q) (sym (next-effect h))
 
-  -- the test of the loop: a token is there, or nothing more is played
-  pub goes : (q : Played) (b : Bool) → b ≡ goesOn q at (length line) → T b → at < length line
+  -- the test of the loop: a token is there, or nothing more is counted
+  pub goes : (q : Counted) (b : Bool) → b ≡ goesOn q at (length line) → T b → at < length line
   unfolding goesOn
   goes (On p) b e t = ltb→lt at (length line) (subst T e t)
   goes (Refused k) b e t = absurd (subst T e t)
 
-  pub ends : (q : Played) (b : Bool) → b ≡ goesOn q at (length line) → T (not b) → q ≡ playedOn q (effects (drop at line))
-  unfolding goesOn playedOn
+  pub ends : (q : Counted) (b : Bool) → b ≡ goesOn q at (length line) → T (not b) → q ≡ countedOn q (effects (drop at line))
+  unfolding goesOn countedOn
   ends (On p) b e t = sym (none-left p (nltb→le at (length line) (subst (λ (x : Bool). T (not x)) e t)))
   ends (Refused k) b e t = refl
 
@@ -132,18 +132,18 @@ countOf st = record { notes = st .notes; unit = st .unit; top = st .top; bottom 
 
 -- in the header it is passed over; refusal 6
 pub line-high : (text s s′ : List ℕ) (st : State) (from end : ℕ) → st .in_header ≡ false → hasHigh (between text from end) ≡ true
-    → Stepped text s st (act (held text s st) (kindAs (between text from end) C.Music) (st .in_header)) s′ (S.Refused 6 (suc (st .lines)))
+    → Stepped text s st (act (stateIn text s st) (kindAs (between text from end) C.Music) (st .in_header)) s′ (S.Refused 6 (suc (st .lines)))
 unfolding act
 line-high text s s′ st from end body high =
     let l = between text from end in
     record {
-      is = sym (ap (first (itemsIn text s (st .items))) (ap (λ (b : Bool). act (held text s st) (music (hasHigh l) (effects l) l) b) body ∙ ap (λ (b : Bool). act (held text s st) (music b (effects l) l) false) high));
+      is = sym (ap (first (itemsIn text s (st .items))) (ap (λ (b : Bool). act (stateIn text s st) (music (hasHigh l) (effects l) l) b) body ∙ ap (λ (b : Bool). act (stateIn text s st) (music b (effects l) l) false) high));
       follows = tt;
     }
 
 -- the line as it was lent
-pub lent-line : (text : List ℕ) (from end : ℕ) (p : Count) (r q : Played) → r ≡ q → r ≡ playedFor p (effects (take (end - from) (drop from text))) → q ≡ playedFor p (effects (between text from end))
-lent-line text from end p r q e x = sym e ∙ x ∙ ap (λ (l : List ℕ). playedFor p (effects l)) (part-cut text from (end - from))
+pub lent-line : (text : List ℕ) (from end : ℕ) (p : Count) (r q : Counted) → r ≡ q → r ≡ countedFor p (effects (take (end - from) (drop from text))) → q ≡ countedFor p (effects (between text from end))
+lent-line text from end p r q e x = sym e ∙ x ∙ ap (λ (l : List ℕ). countedFor p (effects l)) (part-cut text from (end - from))
 
 module _ (text s : List ℕ) (st : State) (from end : ℕ) (body : st .in_header ≡ false) (low : hasHigh (between text from end) ≡ false) where
   abbrev line : List ℕ
@@ -152,31 +152,31 @@ module _ (text s : List ℕ) (st : State) (from end : ℕ) (body : st .in_header
   abbrev es : List Effect
   es = effects line
 
-  music-line : act (held text s st) (kindAs line C.Music) (st .in_header) ≡ playOn (held text s st) es line (firstRefusal (st .notes) es)
+  music-line : act (stateIn text s st) (kindAs line C.Music) (st .in_header) ≡ playOn (stateIn text s st) es line (firstRefusal (st .notes) es)
   unfolding act
-  music-line = ap (λ (b : Bool). act (held text s st) (music (hasHigh line) es line) b) body ∙ ap (λ (b : Bool). act (held text s st) (music b es line) false) low
+  music-line = ap (λ (b : Bool). act (stateIn text s st) (music (hasHigh line) es line) b) body ∙ ap (λ (b : Bool). act (stateIn text s st) (music b es line) false) low
 
-  pub line-refused : (s′ : List ℕ) (k : ℕ) → Refused k ≡ playedFor (countOf st) es → Stepped text s st (act (held text s st) (kindAs line C.Music) (st .in_header)) s′ (S.Refused k (suc (st .lines)))
-  unfolding playedFor playedAs playOn
+  pub line-refused : (s′ : List ℕ) (k : ℕ) → Refused k ≡ countedFor (countOf st) es → Stepped text s st (act (stateIn text s st) (kindAs line C.Music) (st .in_header)) s′ (S.Refused k (suc (st .lines)))
+  unfolding countedFor countedAs playOn
   line-refused s′ k e = record { is = sym (ap (first (itemsIn text s (st .items))) (music-line ∙ go (firstRefusal (st .notes) es) e)); follows = tt }
     where
-      go : (o : Option ℕ) → Refused k ≡ playedAs (countOf st) es o → playOn (held text s st) es line o ≡ refuse k (suc (st .lines))
+      go : (o : Option ℕ) → Refused k ≡ countedAs (countOf st) es o → playOn (stateIn text s st) es line o ≡ refuse k (suc (st .lines))
       go (some j) x = let q : j ≡ k = cc in ap (λ (n : ℕ). refuse n (suc (st .lines))) q
       go none x = let z : _≡_ {A = ℕ} 0 1 = cc in absurd (omega arith)
 
-  pub line-played : (s′ : List ℕ) (q : Count) (r : State) → On q ≡ playedFor (countOf st) es → st .voices ≤ 32 → st .part < 32 → r ≡ playedTo st q
-      → reached text s′ (S.On r) ≡ on (held text s (playedTo st q)) (itemsIn text s (st .items) ++ ((st .part, musicLine (st .unit) (st .top, st .bottom) line) ∷ []))
-      → Stepped text s st (act (held text s st) (kindAs line C.Music) (st .in_header)) s′ (S.On r)
-  unfolding playedFor playedAs playOn
-  line-played s′ q r e v p f x =
+  pub line-counted : (s′ : List ℕ) (q : Count) (r : State) → On q ≡ countedFor (countOf st) es → st .voices ≤ 32 → st .part < 32 → r ≡ stateAfter st q
+      → outIn text s′ (S.On r) ≡ on (stateIn text s (stateAfter st q)) (itemsIn text s (st .items) ++ ((st .part, musicLine (st .unit) (st .top, st .bottom) line) ∷ []))
+      → Stepped text s st (act (stateIn text s st) (kindAs line C.Music) (st .in_header)) s′ (S.On r)
+  unfolding countedFor countedAs playOn
+  line-counted s′ q r e v p f x =
       record {
         is = x ∙ sym (ap (first (itemsIn text s (st .items))) (music-line ∙ go (firstRefusal (st .notes) es) e));
         follows = rw f (refl, (v, (p, omega arith)));
       }
     where
-      go : (o : Option ℕ) → On q ≡ playedAs (countOf st) es o → playOn (held text s st) es line o ≡ on (held text s (playedTo st q)) ((st .part, musicLine (st .unit) (st .top, st .bottom) line) ∷ [])
+      go : (o : Option ℕ) → On q ≡ countedAs (countOf st) es o → playOn (stateIn text s st) es line o ≡ on (stateIn text s (stateAfter st q)) ((st .part, musicLine (st .unit) (st .top, st .bottom) line) ∷ [])
       go (some j) x = let z : _≡_ {A = ℕ} 0 1 = cc in absurd (omega arith)
       go none x =
           let c : Count = record { notes = st .notes + noteCount es; unit = lastUnit es (st .unit); top = lastMeter es (st .top, st .bottom) .0; bottom = lastMeter es (st .top, st .bottom) .1 } in
           let y : c ≡ q = cc in
-          ap (λ (d : Count). on (held text s (playedTo st d)) ((st .part, musicLine (st .unit) (st .top, st .bottom) line) ∷ [])) y
+          ap (λ (d : Count). on (stateIn text s (stateAfter st d)) ((st .part, musicLine (st .unit) (st .top, st .bottom) line) ∷ [])) y
