@@ -4,6 +4,7 @@ ghost use Rattle.part_layout.specs.Log.{onLine};
 ghost use Rattle.part_invariant.specs.Lines.{RepresentedBetween, RoomForBytes, SimulatesItem};
 ghost use Rattle.part_sounds.specs.Sounds.{OnceAppended};
 ghost use Rattle.part_body.specs.Body.{Ready, SimulatesToken};
+use field_keys::Key;
 use part_registers::Registers;
 use part_registers::Tables;
 use part_sounds::Deferred;
@@ -58,8 +59,7 @@ fn on_token(line: &[u8], store: &mut [u8], t: Tables, r: Registers, token: Token
             store,
             t,
             r,
-            fifths,
-            minor,
+            Key { fifths, minor },
         )),
         Token::Field => part_sounds::defer_nothing(r),
         Token::Chord {

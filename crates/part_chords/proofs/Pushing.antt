@@ -16,7 +16,7 @@ use Rattle.reader.specs.Pitches.{chordOf, Scope, soundOf, scopeAfter, soundsOf,
 use Rattle.reader.specs.Part.{soundNote}
 use Rattle.bounds.proofs.TokenRanges.{pitches-fit}
 use Rattle.part_layout.specs.Log.{LogState, setScopes, setPending, append, onSound}
-use Rattle.part_layout.proofs.Lines.{Standing}
+use Rattle.part_layout.specs.Lines.{Standing}
 use Rattle.token_lengths.specs.declared.Length.{Length}
 use Rattle.token_pitches.specs.declared.Pitch.{Pitch}
 use Rattle.token_pitches.specs.declared.Met.the-variants as met-as
@@ -33,7 +33,7 @@ use Rattle.part_sounds.specs.Sounds.{deferredSound, OnceAppended, Pushable, Sim
 use Rattle.part_sounds.specs.declared.Deferred.{Deferred}
 use Rattle.part_sounds.proofs.Sounding.{standing-scopes}
 use Rattle.part_sounds.proofs.Leaving.{sound-leaves}
-use Rattle.capacity.specs.Covers.{flags, signsIn}
+use Rattle.capacity.specs.Covers.{signCount, signsIn}
 use Rattle.part_chords.specs.Chords.{chordIn, ChordAt, SimulatesPitches, SimulatesChord}
 use Rattle.part_chords.proofs.Pitches.{sounds-more, scope-more, marked-both, length-sounds}
 
@@ -41,10 +41,10 @@ use Rattle.part_chords.proofs.Pitches.{sounds-more, scope-more, marked-
 pub written-back : (w : Written) → writtenOf (pitchFor w) ≡ w
 written-back w = λ i. record { step = w .step; octave = w .octave; sign = mark-back (w .sign) i }
 
-pub signs-are : (w : Written) → signs (signFor (w .sign)) ≡ flags (w .sign)
+pub signs-are : (w : Written) → signs (signFor (w .sign)) ≡ signCount (w .sign)
 signs-are w = by (w .sign)
   where
-    by : (a : Option standard.Accidental) → signs (signFor a) ≡ flags a
+    by : (a : Option standard.Accidental) → signs (signFor a) ≡ signCount a
     by none = refl
     by (some a) = refl
 
@@ -184,8 +184,8 @@ module _ {line : List ℕ} {t : Tables} {s s′ : List ℕ} {r r′ : Registers}
     turn-room room =
         let g = p .pushed .grows in
         let a : length (chordIn line place) ≡ length (p .done) + suc (length (u .behind)) = ap length whole ∙ length-append (p .done) (u .first ∷ u .behind) in
-        let b : signsIn (chordIn line place) ≡ signsIn (p .done) + (flags (u .first .sign) + signsIn (u .behind)) = ap signsIn whole ∙ marked-both (p .done) (u .first ∷ u .behind) in
-        let d : signs (q .sign) ≡ flags (u .first .sign) = ap (λ (x : Pitch). signs (x .sign)) (u .pitch-is) ∙ signs-are (u .first) in
+        let b : signsIn (chordIn line place) ≡ signsIn (p .done) + (signCount (u .first .sign) + signsIn (u .behind)) = ap signsIn whole ∙ marked-both (p .done) (u .first ∷ u .behind) in
+        let d : signs (q .sign) ≡ signCount (u .first .sign) = ap (λ (x : Pitch). signs (x .sign)) (u .pitch-is) ∙ signs-are (u .first) in
         record {
           for-heads = omega (arith, room .for-heads, g);
           for-notes = omega (arith, room .for-notes, g);

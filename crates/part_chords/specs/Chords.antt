@@ -12,7 +12,7 @@ use Rattle.reader.specs.Lengths as reader
 use Rattle.reader.specs.Lengths.{valueOf}
 use Rattle.reader.specs.Pitches.{chordOf, soundsOf, scopeAfterAll}
 use Rattle.part_layout.specs.Log.{LogState, setScopes, onSound}
-use Rattle.part_layout.proofs.Lines.{Standing}
+use Rattle.part_layout.specs.Lines.{Standing}
 use Rattle.token_lengths.specs.declared.Length.{Length}
 use Rattle.token_lengths.specs.Values.{asValue}
 use Rattle.capacity.specs.Covers.{signsIn}

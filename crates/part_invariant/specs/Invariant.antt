@@ -6,11 +6,11 @@ use lib.ListN.{length}
 use Rattle.laws.specs.Lists.{concat}
 use Rattle.standard.specs.Pitches.{Pitch}
 use Rattle.reader.specs.State.{Note}
-use Rattle.reader.specs.Records.{pitchBytes}
+use Rattle.reader.specs.Records.{pitchBytes, measureWidth}
 use Rattle.part_layout.specs.Log.{Head, LogState, append}
-use Rattle.part_layout.proofs.Lines.{Standing}
+use Rattle.part_layout.specs.Lines.{Standing}
 use Rattle.part_rows.specs.Table.{Table, Only}
-use Rattle.part_rows.specs.Encoded.{noteRow, rowFor}
+use Rattle.part_rows.specs.Encoded.{noteRow, rowFor, noteRowWidth, pitchRowWidth, scopeRowWidth}
 use Rattle.part_rows.specs.declared.NoteRow.{NoteRow}
 use Rattle.part_measures.specs.Heads.{headRow}
 use Rattle.part_chains.specs.Chains.{Scoped}
@@ -21,18 +21,18 @@ use Rattle.part_registers.specs.States.{pendingFor, halfFor, runningFor, lineFo
 
 -- the tables stand one behind the other, with room for so many rows more in each
 pub record Room (t : Tables) (c : Counts) (size heads notes pitches scopes : ℕ) : Type 0 where
-  pub for-heads : t .heads + 28 * (c .heads + heads) ≤ t .notes
-  pub for-notes : t .notes + 16 * (c .notes + notes) ≤ t .pitches
-  pub for-pitches : t .pitches + 5 * (c .pitches + pitches) ≤ t .scopes
-  pub for-scopes : t .scopes + 8 * (c .scopes + scopes) ≤ t .end
+  pub for-heads : t .heads + measureWidth * (c .heads + heads) ≤ t .notes
+  pub for-notes : t .notes + noteRowWidth * (c .notes + notes) ≤ t .pitches
+  pub for-pitches : t .pitches + pitchRowWidth * (c .pitches + pitches) ≤ t .scopes
+  pub for-scopes : t .scopes + scopeRowWidth * (c .scopes + scopes) ≤ t .end
   pub ends : t .end ≤ size
   pub small : t .end < 2 ^ 32
 
 -- heads, notes and pitches
 pub record Stored (t : Tables) (c : Counts) (s : List ℕ) (heads : List Head) (log : List (ℕ × Note)) (pitches : List Pitch) : Type 0 where
-  pub heads-table : Table headRow 28 s (t .heads) heads
-  pub notes-table : Table noteRow 16 s (t .notes) log
-  pub pitches-table : Table pitchBytes 5 s (t .pitches) pitches
+  pub heads-table : Table headRow measureWidth s (t .heads) heads
+  pub notes-table : Table noteRow noteRowWidth s (t .notes) log
+  pub pitches-table : Table pitchBytes pitchRowWidth s (t .pitches) pitches
   pub heads-are : c .heads ≡ length heads
   pub notes-are : c .notes ≡ length log
   pub pitches-are : c .pitches ≡ length pitches

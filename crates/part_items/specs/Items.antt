@@ -12,9 +12,9 @@ use Rattle.reader.specs.Scan.{Item}
 use Rattle.reader.specs.Steps.{itemsOf}
 use Rattle.part_layout.specs.Log.{LogState, newLog}
 use Rattle.part_layout.specs.Ends.{onItem}
-use Rattle.part_layout.proofs.Lines.{Between}
+use Rattle.part_layout.specs.Lines.{Between}
 use Rattle.capacity.specs.Music.{musicOf}
-use Rattle.scan_table.specs.Rows.{itemsFrom, itemBytes, itemIn, itemsIn}
+use Rattle.scan_table.specs.Rows.{itemsFrom, itemBytes, tableEnd, itemIn, itemsIn}
 use Rattle.lyrics.specs.Items.{itemAt, lineOf, linesIn}
 use Rattle.part_rows.specs.Table.{Only}
 use Rattle.part_registers.specs.declared.Tables.{Tables}
@@ -40,11 +40,11 @@ begun =
     }
 
 -- with another key
-abbrev pub keyedAs : Registers → ℕ → Bool → Registers
-keyedAs r fifths minor =
+abbrev pub keyedAs : Registers → Key → Registers
+keyedAs r k =
     record {
       counts = r .counts;
-      key = record { fifths = fifths; minor = minor; scopes = r .key .scopes };
+      key = record { fifths = k .fifths; minor = k .minor; scopes = r .key .scopes };
       last = r .last;
       pending = r .pending;
       line = r .line;
@@ -73,7 +73,7 @@ versed r placed = withVerse r (cond placed (nextVerse (r .verses .verse)) (r .ve
 
 -- where item i stands
 abbrev pub rowFrom : ℕ → ℕ
-rowFrom i = itemsFrom + itemBytes * i
+rowFrom i = tableEnd i
 
 -- its row with a verse and a first note
 abbrev pub lined : List ℕ → ℕ → ℕ → ℕ → List ℕ

@@ -25,6 +25,9 @@ keyMarkAt = 20
 abbrev pub voltaAt : ℕ
 voltaAt = 22
 
+abbrev pub firstPassAt : ℕ
+firstPassAt = 23
+
 abbrev pub passesAt : ℕ
 passesAt = 24
 

@@ -52,7 +52,7 @@ pub enum Running {
         actual: u8,
         normal: u8,
         count: u64,
-        left: u64,
+        remaining: u64,
     },
 }
 
@@ -163,12 +163,12 @@ pub fn apply_abc_tuplet(n: NoteRow, running: Running) -> NoteRow
             actual,
             normal,
             count,
-            left,
+            remaining,
         } => {
             let mut m = n;
             m.actual = actual;
             m.normal = normal;
-            m.boundary = boundary(left == count, left == 1);
+            m.boundary = boundary(remaining == count, remaining == 1);
             m
         }
     }
@@ -191,16 +191,16 @@ pub fn one_fewer(running: Running) -> Running
             actual,
             normal,
             count,
-            left,
+            remaining,
         } => {
-            if left <= 1 {
+            if remaining <= 1 {
                 return Running::Nothing;
             }
             Running::Tuplet {
                 actual,
                 normal,
                 count,
-                left: left - 1,
+                remaining: remaining - 1,
             }
         }
     }

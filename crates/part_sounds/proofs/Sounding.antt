@@ -19,12 +19,12 @@ use Rattle.reader.specs.Codes.{kindCode, beamCode}
 use Rattle.reader.specs.Records.{pitchBytes}
 use Rattle.reader.specs.Part.{soundNote}
 use Rattle.part_layout.specs.Log.{LogState, lastPlace, setScopes, setPending, append, onSound}
-use Rattle.part_layout.proofs.Lines.{Standing}
+use Rattle.part_layout.specs.Lines.{Standing}
 use Rattle.token_lengths.specs.declared.Length.{Length}
 use Rattle.token_lengths.specs.Values.{asValue}
 use Rattle.token_pitches.specs.declared.Pitch.{Pitch}
 use Rattle.part_rows.specs.Table.{Only}
-use Rattle.part_rows.specs.Encoded.{rowFor, pitchFor, pitchRow}
+use Rattle.part_rows.specs.Encoded.{rowFor, pitchFor, pitchRow, pitchRowWidth}
 use Rattle.part_rows.proofs.Bytes.{pitch-row, length-pitch-row}
 use Rattle.part_rows.proofs.Tables.{table-front, only-then, only-wider}
 use Rattle.part_chains.specs.Chains.{Scoped, Scopes}
@@ -115,7 +115,7 @@ module _ (t : Tables) (s : List ℕ) (r : Registers) (p : Pitch) (room : Room t 
   push-scopes a = record { scopes = a .state .scopes; scoped = a .represents .scoped }
 
   module _ (s₁ s₂ : List ℕ) (q : Resolved) (res : ResolvedAs s (t .scopes) (r .counts .scopes) (r .key) (r .line .overlay) p s₁ q)
-      (e : s₂ ≡ splice s₁ (t .pitches + 5 * r .counts .pitches) (pitchRow (q .sounded))) where
+      (e : s₂ ≡ splice s₁ (t .pitches + pitchRowWidth * r .counts .pitches) (pitchRow (q .sounded))) where
     length₁ : length s₁ ≡ length s
     length₁ = res .only .same-length
 

@@ -13,7 +13,7 @@ use Rattle.reader.specs.Pitches.{soundOf, scopeAfter}
 use Rattle.reader.specs.State.{Note}
 use Rattle.reader.specs.Part.{soundNote}
 use Rattle.part_layout.specs.Log.{LogState, setScopes, setPending, append, onSound}
-use Rattle.part_layout.proofs.Lines.{Standing}
+use Rattle.part_layout.specs.Lines.{Standing}
 use Rattle.token_lengths.specs.declared.Length.{Length}
 use Rattle.token_lengths.specs.declared.Length.the-variants.{WholeBar}
 use Rattle.token_lengths.specs.Values.{asValue}

@@ -1,4 +1,5 @@
 -- `part_items::on_header_key` meets its contract.
+use Rattle.field_keys.specs.Passed.{keyAs}
 use Rattle.part_items.proofs.Each.{takes-as, headed-takes}
 use borrow.Author.Needs.{needs}
 use Rattle.part_items.proofs.on_header_key.Statement.{statement}
@@ -7,7 +8,7 @@ use Rattle.part_items.proofs.on_header_key.Tie as tie
 returns : tie.Need-returns
 returns c =
     let a = c .before .args in
-    λ t s. takes-as (c .set-key .ensures) (headed-takes (record { fifths = a .fifths; minor = a .minor }))
+    λ t s. takes-as (c .set-key .ensures) (headed-takes (keyAs (a .header)))
 
 pub on-header-key-spec : {M : Type 1} → statement M
 on-header-key-spec = tie.close (tie.spec (λ c κs. search needs) returns)

@@ -1,4 +1,5 @@
 -- `part_items::on_key` meets its contract.
+use Rattle.field_keys.specs.Passed.{keyAs}
 use Rattle.part_items.proofs.Each.{takes-as, key-none, key-some}
 use borrow.Author.Needs.{needs}
 use native.Mathlib.Omega.{arith}
@@ -8,13 +9,13 @@ use Rattle.part_items.proofs.on_key.Tie as tie
 returns : tie.Need-returns
 returns c =
     let a = c .before .before .before .before .before .args in
-    takes-as (c .hear .ensures) (key-none (c .before .before .before .before .before .pre .0) (record { fifths = a .fifths; minor = a .minor }) (record { fifths = a .sharps; minor = a .mode }) (c .before .if1 .taken))
+    takes-as (c .hear .ensures) (key-none (c .before .before .before .before .before .pre .0) (keyAs (a .header)) (keyAs (a .key)) (c .before .if1 .taken))
 
 returns-2 : tie.Need-returns-2
 returns-2 c =
     let a = c .before .before .before .before .before .before .before .before .before .before .before .before .args in
     takes-as (c .hear2 .ensures)
-    (key-some (c .before .before .before .before .before .before .before .before .before .before .before .before .pre .0) (record { fifths = a .fifths; minor = a .minor }) (record { fifths = a .sharps; minor = a .mode }) (omega (arith, c .before .before .before .before .before .before .before .before .if1 .left)) (c .before .before .before .before .before .before .before .before .before .before .before .before .pre .1) _ _ _
+    (key-some (c .before .before .before .before .before .before .before .before .before .before .before .before .pre .0) (keyAs (a .header)) (keyAs (a .key)) (omega (arith, c .before .before .before .before .before .before .before .before .if1 .left)) (c .before .before .before .before .before .before .before .before .before .before .before .before .pre .1) _ _ _
     (c .before .before .before .before .before .mode-code .ensures) (c .before .before .before .before .signed .ensures) (c .before .before .before .set-key-mark .ensures))
 
 pub on-key-spec : {M : Type 1} → statement M
