@@ -69,7 +69,7 @@ fn on_token(line: &[u8], store: &mut [u8], t: Tables, r: Registers, token: Token
             tie,
             slur,
         } => part_chords::append_abc_chord_note(line, store, t, r, place, count, length, tie, slur),
-        Token::RoomForBytes { kind, length } => part_sounds::append_abc_rest_note(r, kind, length),
+        Token::Rest { kind, length } => part_sounds::append_abc_rest_note(r, kind, length),
         Token::Note {
             pitch,
             length,
