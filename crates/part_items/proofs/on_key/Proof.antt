@@ -13,10 +13,9 @@ returns c =
 
 returns-2 : tie.Need-returns-2
 returns-2 c =
-    let a = c .before .before .before .before .before .before .before .before .before .before .before .before .args in
+    let c0 = c .before .before .before .before .before .before .before .before .before .before in
     takes-as (c .hear2 .ensures)
-    (key-some (c .before .before .before .before .before .before .before .before .before .before .before .before .pre .0) (keyAs (a .header)) (keyAs (a .key)) (omega (arith, c .before .before .before .before .before .before .before .before .if1 .left)) (c .before .before .before .before .before .before .before .before .before .before .before .before .pre .1) _ _ _
-    (c .before .before .before .before .before .mode-code .ensures) (c .before .before .before .before .signed .ensures) (c .before .before .before .set-key-mark .ensures))
+    (key-some (c0 .pre .0) (keyAs (c0 .args .header)) (keyAs (c0 .args .key)) (omega (arith, c .before .before .before .before .before .before .if1 .left)) (c0 .pre .1) _ (c .before .before .before .set-key-mark .ensures))
 
 pub on-key-spec : {M : Type 1} → statement M
-on-key-spec = tie.close (tie.spec (λ c κs. search needs) returns (λ c. search needs) (λ c. search needs) (λ c κs. search needs) (λ c κs. search needs) (λ c κs. search needs) (λ c κs. search needs) (λ c. search needs) returns-2)
+on-key-spec = tie.close (tie.spec (λ c κs. search needs) returns (λ c. search needs) (λ c. search needs) (λ c κs. search needs) (λ c κs. search needs) (λ c. search needs) returns-2)
