@@ -24,7 +24,7 @@ use Rattle.part_accidentals.specs.declared.AbcPartParseState.{AbcPartPar
 use Rattle.part_accidentals.specs.declared.Resolved.{Resolved}
 use Rattle.part_accidentals.specs.Resolving.{signs, writtenOf, entered, ResolvedAs}
 
--- THE DEFINITION by the mark
+-- THE DEFINITION by the sign
 sound-marked : (k : Key) (sc : Scope) (w : Written) (a : Accidental) → w .sign ≡ some a → soundOf k sc w ≡ altered w a
 unfolding soundOf soundBy
 sound-marked k sc w a e = ap (soundBy k sc w) e

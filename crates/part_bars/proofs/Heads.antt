@@ -45,8 +45,8 @@ use Rattle.part_bars.specs.Bars.{codeOf, leftStore, nowhere, ended, open
 pub some-head : (l : LogState) → Standing l → 0 < length (l .heads)
 some-head l st = omega (arith, ap length (st .heads-are), length-append (st .older) (st .open-head ∷ []))
 
-pub held-heads : {t : Tables} {s : List ℕ} {r : Registers} → RepresentedInLine t s r → 0 < r .counts .heads
-held-heads h = omega (arith, some-head (h .state) (h .standing), h .represents .stored .heads-are)
+pub represented-heads : {t : Tables} {s : List ℕ} {r : Registers} → RepresentedInLine t s r → 0 < r .counts .heads
+represented-heads h = omega (arith, some-head (h .state) (h .standing), h .represents .stored .heads-are)
 
 -- ROOM FOR LESS
 pub room-less : (t : Tables) (c : Counts) (n h : ℕ) → Room t c n h 0 0 0 → Room t c n 0 0 0 0
@@ -70,9 +70,9 @@ module _ {t : Tables} {s : List ℕ} {r : Registers} (room : Room t (r .counts) 
   pub open-scoped : Scoped s′ (t .scopes) (r .counts .scopes) (r .key .scopes) (l .scopes)
   open-scoped = scoped-behind (h .scoped) s′ _ bs e (omega (arith, at-last, h .stored .heads-are, room .for-heads, room .for-notes, room .for-pitches))
 
-  pub open-held : (g : Head → Head) → splice (headRow (getD (l .heads) (r .counts .heads - 1) someHead)) f bs ≡ headRow (g (getD (l .heads) (r .counts .heads - 1) someHead)) → Represents t s′ r [] (onOpen g l)
+  pub open-represented : (g : Head → Head) → splice (headRow (getD (l .heads) (r .counts .heads - 1) someHead)) f bs ≡ headRow (g (getD (l .heads) (r .counts .heads - 1) someHead)) → Represents t s′ r [] (onOpen g l)
   unfolding onOpen
-  open-held g q =
+  open-represented g q =
       record {
         stored = open-stored g q;
         scoped = open-scoped;
@@ -97,17 +97,17 @@ pub grows-none : (c : Counts) (h n p a : ℕ) → Grows c c h n p a
 grows-none c h n p a = record { more-heads = omega arith; more-notes = omega arith; more-pitches = omega arith; more-scopes = omega arith }
 
 -- registers by another name
-pub does-as : {t : Tables} {s s′ : List ℕ} {r r′ r″ : Registers} {h n p a : ℕ} {f : LogState → LogState} → r′ ≡ r″ → Simulates t s r s′ r″ h n p a f → Simulates t s r s′ r′ h n p a f
-does-as {t} {s} {s′} {r} {r′} {r″} {h} {n} {p} {a} {f} e d = subst (λ (x : Registers). Simulates t s r s′ x h n p a f) (sym e) d
+pub simulates-as : {t : Tables} {s s′ : List ℕ} {r r′ r″ : Registers} {h n p a : ℕ} {f : LogState → LogState} → r′ ≡ r″ → Simulates t s r s′ r″ h n p a f → Simulates t s r s′ r′ h n p a f
+simulates-as {t} {s} {s′} {r} {r′} {r″} {h} {n} {p} {a} {f} e d = subst (λ (x : Registers). Simulates t s r s′ x h n p a f) (sym e) d
 
 -- A STEP ON THE OPEN HEAD ALONE
-pub open-does : {t : Tables} {s : List ℕ} {r : Registers} → Room t (r .counts) (length s) 0 0 0 0 → RepresentedInLine t s r → (s′ : List ℕ) (f : ℕ) (bs : List ℕ) → s′ ≡ splice s (t .heads + measureWidth * (r .counts .heads - 1) + f) bs
+pub open-simulates : {t : Tables} {s : List ℕ} {r : Registers} → Room t (r .counts) (length s) 0 0 0 0 → RepresentedInLine t s r → (s′ : List ℕ) (f : ℕ) (bs : List ℕ) → s′ ≡ splice s (t .heads + measureWidth * (r .counts .heads - 1) + f) bs
     → f + length bs ≤ measureWidth → (g : Head → Head) → ((m : Head) → splice (headRow m) f bs ≡ headRow (g m)) → Simulates t s r s′ r 0 0 0 0 (onOpen g)
-open-does {t} {s} {r} room a s′ f bs e k g q =
+open-simulates {t} {s} {r} room a s′ f bs e k g q =
     record {
       only = open-only room s′ f bs e k (a .state) (some-head (a .state) (a .standing)) (a .represents);
       grows = grows-none (r .counts) 0 0 0 0;
-      holds = λ l st h. open-held room s′ f bs e k l (some-head l st) h g (q (getD (l .heads) (r .counts .heads - 1) someHead));
+      holds = λ l st h. open-represented room s′ f bs e k l (some-head l st) h g (q (getD (l .heads) (r .counts .heads - 1) someHead));
     }
 
 -- AN ENDING
@@ -115,18 +115,18 @@ bytes-4 : (v : ℕ) → length (le32 v) ≡ 4
 unfolding little
 bytes-4 v = refl
 
-pub volta-does : {t : Tables} {s : List ℕ} {r : Registers} → Room t (r .counts) (length s) 0 0 0 0 → RepresentedInLine t s r → (s′ : List ℕ) (first passes : ℕ)
+pub volta-simulates : {t : Tables} {s : List ℕ} {r : Registers} → Room t (r .counts) (length s) 0 0 0 0 → RepresentedInLine t s r → (s′ : List ℕ) (first passes : ℕ)
     → s′ ≡ splice s (t .heads + measureWidth * (r .counts .heads - 1) + voltaAt) ((1 ∷ first ∷ []) ++ le32 passes) → (ps : List ℕ) → first ≡ getD ps 0 0 → passes ≡ passBits ps
     → Simulates t s r s′ r 0 0 0 0 (λ l. onToken l (token.volta ps))
 unfolding onToken
-volta-does {t} {s} {r} room a s′ first passes e ps i j =
-    open-does room a s′ voltaAt ((1 ∷ first ∷ []) ++ le32 passes) e (omega (arith, bytes-4 passes)) (withVolta voltaBegins ps)
+volta-simulates {t} {s} {r} room a s′ first passes e ps i j =
+    open-simulates room a s′ voltaAt ((1 ∷ first ∷ []) ++ le32 passes) e (omega (arith, bytes-4 passes)) (withVolta voltaBegins ps)
     (λ m. (λ x. splice (headRow m) voltaAt ((1 ∷ i x ∷ []) ++ le32 (j x))) ∙ head-volta m ps)
 
 -- A METER
 module _ {t : Tables} {s : List ℕ} {r : Registers} (top bottom : ℕ) where
-  timed-held : (l : LogState) → Represents t s r [] l → Represents t s (timed r top bottom) [] (setLine (withTime (top, bottom) (l .line)) l)
-  timed-held l h =
+  timed-represented : (l : LogState) → Represents t s r [] l → Represents t s (timed r top bottom) [] (setLine (withTime (top, bottom) (l .line)) l)
+  timed-represented l h =
       record {
         stored = h .stored;
         scoped = h .scoped;
@@ -142,15 +142,15 @@ module _ {t : Tables} {s : List ℕ} {r : Registers} (top bottom : ℕ) where
         verse-is = h .verse-is;
       }
 
-  pub meter-does : Room t (r .counts) (length s) 0 0 0 0 → RepresentedInLine t s r → (s′ : List ℕ) → s′ ≡ splice s (t .heads + measureWidth * (r .counts .heads - 1) + meterAt) (top ∷ bottom ∷ [])
+  pub meter-simulates : Room t (r .counts) (length s) 0 0 0 0 → RepresentedInLine t s r → (s′ : List ℕ) → s′ ≡ splice s (t .heads + measureWidth * (r .counts .heads - 1) + meterAt) (top ∷ bottom ∷ [])
       → Simulates t s r s′ (timed r top bottom) 0 0 0 0 (λ l. onToken l (token.meter (top, bottom)))
   unfolding onToken
-  meter-does room a s′ e =
+  meter-simulates room a s′ e =
       record {
         only = open-only room s′ meterAt (top ∷ bottom ∷ []) e (omega arith) (a .state) (some-head (a .state) (a .standing)) (a .represents);
         grows = grows-none (r .counts) 0 0 0 0;
         holds =
-            λ l st h. open-held {r = timed r top bottom} room s′ meterAt (top ∷ bottom ∷ []) e (omega arith) (setLine (withTime (top, bottom) (l .line)) l) (some-head l st) (timed-held l h) (withMeter (top, bottom))
+            λ l st h. open-represented {r = timed r top bottom} room s′ meterAt (top ∷ bottom ∷ []) e (omega arith) (setLine (withTime (top, bottom) (l .line)) l) (some-head l st) (timed-represented l h) (withMeter (top, bottom))
             (head-meter (getD (l .heads) (r .counts .heads - 1) someHead) (top, bottom));
       }
 
@@ -215,11 +215,11 @@ endedWith r n places =
       verses = r .verses;
     }
 
-ends-held : {t : Tables} {s s′ : List ℕ} {r : Registers} (b : standard.Barline) (opens : Bool) (l : LogState) (n : ℕ) (places : List ℕ) (heads′ : List Head) → t .scopes ≤ length s′ → Represents t s r [] l
+ends-represented : {t : Tables} {s s′ : List ℕ} {r : Registers} (b : standard.Barline) (opens : Bool) (l : LogState) (n : ℕ) (places : List ℕ) (heads′ : List Head) → t .scopes ≤ length s′ → Represents t s r [] l
     → Stored t (endedWith r n places .counts) s′ heads′ (l .log) (pitchesIn (l .log) ++ []) → heads′ ≡ endedHeads b opens (l .line .meter) (l .heads) → places ≡ endedLast opens (l .heads) (l .last)
     → Represents t s′ (endedWith r n places) [] (onBarline b opens l)
 unfolding onBarline
-ends-held {t} {s} {s′} {r} b opens l n places heads′ room h q e f =
+ends-represented {t} {s} {s′} {r} b opens l n places heads′ room h q e f =
     record {
       stored = subst (λ (hs : List Head). Stored t (endedWith r n places .counts) s′ hs (l .log) (pitchesIn (l .log) ++ [])) e q;
       scoped = no-scopes s′ (t .scopes) room;
@@ -255,7 +255,7 @@ pub record Left (s : List ℕ) (at : ℕ) (b : standard.Barline) : Type 0 where
   pub sets : (m : Head) → splice (headRow m) leftAt bytes ≡ headRow (leftSet b m)
 
 left-is : (s : List ℕ) (at : ℕ) (b : standard.Barline) → Left s at b
-unfolding leftStore leftSet barlineCode
+unfolding leftSet barlineCode
 left-is s at normal = record { bytes = []; short = omega arith; written = sym (splice-nil s at); sets = λ m. splice-nil (headRow m) leftAt }
 left-is s at repeatStart = record { bytes = 1 ∷ []; short = omega arith; written = refl; sets = λ m. head-left m repeatStart }
 left-is s at repeatEnd = record { bytes = []; short = omega arith; written = sym (splice-nil s at); sets = λ m. splice-nil (headRow m) leftAt }
@@ -264,7 +264,7 @@ left-is s at double = record { bytes = 4 ∷ []; short = omega arith; written = 
 left-is s at final = record { bytes = []; short = omega arith; written = sym (splice-nil s at); sets = λ m. splice-nil (headRow m) leftAt }
 
 code-is : (b : standard.Barline) → codeOf (barlineFor b) ≡ barlineCode b
-unfolding codeOf barlineCode
+unfolding barlineCode
 code-is normal = refl
 code-is repeatStart = refl
 code-is repeatEnd = refl
@@ -281,9 +281,9 @@ module _ {t : Tables} {s : List ℕ} {r : Registers} (room : Room t (r .counts) 
   is-empty l st h = tested ∙ empty-is room l st h
 
   -- on a measure without notes
-  pub empty-does : empty ≡ true → (right : Barline) → right ≡ barlineFor b → (s′ : List ℕ) → s′ ≡ leftStore s (t .heads + measureWidth * (r .counts .heads - 1) + leftAt) right → Simulates t s r s′ (ended r) 1 0 0 0 (onBarline b opens)
+  pub empty-simulates : empty ≡ true → (right : Barline) → right ≡ barlineFor b → (s′ : List ℕ) → s′ ≡ leftStore s (t .heads + measureWidth * (r .counts .heads - 1) + leftAt) right → Simulates t s r s′ (ended r) 1 0 0 0 (onBarline b opens)
   unfolding endedHeads endedLast
-  empty-does y right d s′ e =
+  empty-simulates y right d s′ e =
       let at = t .heads + measureWidth * (r .counts .heads - 1) + leftAt in
       let w = left-is s at b in
       let e′ : s′ ≡ splice s at (w .bytes) = e ∙ ap (leftStore s at) d ∙ w .written in
@@ -294,7 +294,7 @@ module _ {t : Tables} {s : List ℕ} {r : Registers} (room : Room t (r .counts) 
         holds =
             λ l st h.
             let z : openIsEmpty (l .heads) ≡ true = sym (is-empty l st h) ∙ y in
-            ends-held b opens l (r .counts .heads) (r .last .places) (onLastHead (leftSet b) (l .heads)) (omega (arith, room .for-scopes, room .ends, o .same-length)) h
+            ends-represented b opens l (r .counts .heads) (r .last .places) (onLastHead (leftSet b) (l .heads)) (omega (arith, room .for-scopes, room .ends, o .same-length)) h
             (stored-as (open-stored less s′ leftAt (w .bytes) e′ (omega (arith, w .short)) l (some-head l st) h (leftSet b) (w .sets (getD (l .heads) (r .counts .heads - 1) someHead))) refl refl refl) (rw (z, endedHeads)) (rw z (h .last-is));
       }
 
@@ -309,25 +309,25 @@ module _ {t : Tables} {s : List ℕ} {r : Registers} (room : Room t (r .counts) 
     stored₁ l st h = open-stored less s₁ rightAt (code ∷ []) e₁ (omega arith) l (some-head l st) h (withRight b) (right-set (getD (l .heads) (r .counts .heads - 1) someHead))
 
     -- with `]` behind it
-    pub closed-does : opens ≡ false → Simulates t s r s₁ (ended r) 1 0 0 0 (onBarline b opens)
+    pub closed-simulates : opens ≡ false → Simulates t s r s₁ (ended r) 1 0 0 0 (onBarline b opens)
     unfolding endedHeads endedLast
-    closed-does c =
+    closed-simulates c =
         record {
           only = only₁;
           grows = record { more-heads = omega arith; more-notes = omega arith; more-pitches = omega arith; more-scopes = omega arith };
           holds =
               λ l st h.
               let z : openIsEmpty (l .heads) ≡ false = sym (is-empty l st h) ∙ n in
-              ends-held b opens l (r .counts .heads) (r .last .places) (onLastHead (withRight b) (l .heads)) (omega (arith, room .for-scopes, room .ends, only₁ .same-length)) h (stored-as (stored₁ l st h) refl refl refl)
+              ends-represented b opens l (r .counts .heads) (r .last .places) (onLastHead (withRight b) (l .heads)) (omega (arith, room .for-scopes, room .ends, only₁ .same-length)) h (stored-as (stored₁ l st h) refl refl refl)
               (rw (z, endedHeads) (rw c)) (rw (z, c) (h .last-is));
         }
 
     -- a new measure
-    pub opens-does : opens ≡ true → (left : Barline) → left ≡ barlineFor (leftOf b) → (lcode : ℕ) → lcode ≡ codeOf left → (s₂ : List ℕ) → s₂ ≡ splice s₁ (t .heads + measureWidth * (r .counts .heads - 1 + 1)) (newRow lcode (r .line .top) (r .line .bottom))
+    pub opens-simulates : opens ≡ true → (left : Barline) → left ≡ barlineFor (leftOf b) → (lcode : ℕ) → lcode ≡ codeOf left → (s₂ : List ℕ) → s₂ ≡ splice s₁ (t .heads + measureWidth * (r .counts .heads - 1 + 1)) (newRow lcode (r .line .top) (r .line .bottom))
         → Simulates t s r s₂ (opened r) 1 0 0 0 (onBarline b opens)
     unfolding endedHeads endedLast
-    opens-does c left f lcode el s₂ e₂ =
-        let one : r .counts .heads - 1 + 1 ≡ r .counts .heads = omega (arith, held-heads a) in
+    opens-simulates c left f lcode el s₂ e₂ =
+        let one : r .counts .heads - 1 + 1 ≡ r .counts .heads = omega (arith, represented-heads a) in
         let row : (l : LogState) → Represents t s r [] l → newRow lcode (r .line .top) (r .line .bottom) ≡ headRow (newHead (l .line .meter) (leftOf b)) =
         λ l h. (λ i. newRow ((el ∙ ap codeOf f ∙ code-is (leftOf b)) i) (h .line-is i .top) (h .line-is i .bottom)) ∙ new-row (l .line .meter) (leftOf b) in
         let e₃ = e₂ ∙ ap (λ (k : ℕ). splice s₁ (t .heads + measureWidth * k) (newRow lcode (r .line .top) (r .line .bottom))) one in
@@ -339,6 +339,6 @@ module _ {t : Tables} {s : List ℕ} {r : Registers} (room : Room t (r .counts) 
           holds =
               λ l st h.
               let z : openIsEmpty (l .heads) ≡ false = sym (is-empty l st h) ∙ n in
-              ends-held b opens l (r .counts .heads + 1) nowhere (onLastHead (withRight b) (l .heads) ++ (newHead (l .line .meter) (leftOf b) ∷ [])) (omega (arith, room .for-scopes, room .ends, only₁ .same-length, only₂ .same-length)) h
+              ends-represented b opens l (r .counts .heads + 1) nowhere (onLastHead (withRight b) (l .heads) ++ (newHead (l .line .meter) (leftOf b) ∷ [])) (omega (arith, room .for-scopes, room .ends, only₁ .same-length, only₂ .same-length)) h
               (stored-as (head-pushed (stored₁ l st h) s₂ room₁ (newHead (l .line .meter) (leftOf b)) (newRow lcode (r .line .top) (r .line .bottom)) (row l h) e₃) refl refl refl) (rw (z, endedHeads) (rw c)) (rw (z, c));
         }

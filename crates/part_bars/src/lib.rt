@@ -4,9 +4,7 @@ ghost use mathlib.Core.List.{List};
 ghost use Prim.Native.Nat.{ℕ, _+_, _*_, _^_, _≤_, _<_};
 ghost use lib.ListN.{length, getD};
 ghost use Rattle.standard.specs.Bars as standard;
-ghost use Rattle.standard.specs.Keys.{Key};
 ghost use Rattle.reader.specs.Records.{passBits, measureWidth};
-ghost use Rattle.reader.specs.Codes.{modeCode};
 ghost use Rattle.reader.specs.Barlines.{leftOf};
 ghost use Rattle.reader.specs.Token as token;
 ghost use Rattle.part_layout.specs.Log.{onBarline, onToken};
@@ -127,7 +125,7 @@ pub fn on_barline(
     }
     part_measures::set_right(store, t.heads, i, barline_code(right));
     if opens {
-        part_measures::put_head(
+        part_measures::put_measure(
             store,
             t.heads,
             i + 1,

@@ -1,4 +1,4 @@
--- THE LOOP over the tokens of a line: what is still to come of the line does the rest to every part that was held where it began.
+-- THE LOOP over the tokens of a line: what is still to come of the line does the rest to every part that was represented where it began.
 use Prim.Native.Nat.{ℕ, _+_, _≤_, _<_, max}
 use mathlib.Core.Path.{_≡_, refl, sym, subst, _∙_}
 use mathlib.Core.List.{List, []}
@@ -28,9 +28,9 @@ use Rattle.tokens.specs.Tokens.{tokenisedFor}
 use Rattle.tokens.proofs.Chords.{chord-pitches}
 use Rattle.tokens.proofs.Past.{token-past}
 use Rattle.part_body.specs.Body.{Ready, SimulatesToken}
-use Rattle.part_body.proofs.Tokens.{token-ready, token-does}
+use Rattle.part_body.proofs.Tokens.{token-ready, token-simulates}
 
--- a part is held in a line, with room for what these bytes can make
+-- a part is represented in a line, with room for what these bytes can make
 pub record Begun (line : List ℕ) (t : Tables) (s : List ℕ) (r : Registers) : Type 0 where
   pub room : RoomForBytes t (r .counts) (length s) line
   pub state : LogState
@@ -89,9 +89,9 @@ module _ {t : Tables} {s s₁ : List ℕ} {r r₁ : Registers} (u : ℕ) (m : Me
       }
 
   -- AFTER THEM the line has done what it does
-  pub line-takes : {line s₂ : List ℕ} {r₂ : Registers} {at : ℕ} → Going line t s₁ r₁ s₂ r₂ at → length line ≤ at → SimulatesItem t s r s₂ r₂ line (onLine u m line)
+  pub line-simulates : {line s₂ : List ℕ} {r₂ : Registers} {at : ℕ} → Going line t s₁ r₁ s₂ r₂ at → length line ≤ at → SimulatesItem t s r s₂ r₂ line (onLine u m line)
   unfolding onLine bars letters rests signs
-  line-takes {line} {s₂} {r₂} {at} g h =
+  line-simulates {line} {s₂} {r₂} {at} g h =
       let a = b .grows in
       record {
         only = only-then (b .only) (g .only);
@@ -145,7 +145,7 @@ module _ {line : List ℕ} {t : Tables} {s₀ s : List ℕ} {r₀ r : Registers}
         small = a .small;
       }
 
-  -- some part is held
+  -- some part is represented
   holding : RepresentedInLine t s r
   holding =
       let e = g .holds (b .state) (b .in-line) (b .represents) in
@@ -163,7 +163,7 @@ module _ {line : List ℕ} {t : Tables} {s₀ s : List ℕ} {r₀ r : Registers}
   going-turn s′ r′ a = subst (λ (x : Tokenised). Going line t s₀ r₀ s′ r′ (x .next)) (sym k) turned
     where
       does : Simulates t s r s′ r′ (makes tok .heads) (makes tok .notes) (makes tok .pitches) (makes tok .scopes) (λ l. onToken l tok)
-      does = token-does line at tok (chord-pitches line at) (subst (λ (x : Tokenised). SimulatesToken line t s r s′ r′ (x .token)) k a)
+      does = token-simulates line at tok (chord-pitches line at) (subst (λ (x : Tokenised). SimulatesToken line t s r s′ r′ (x .token)) k a)
 
       turned : Going line t s₀ r₀ s′ r′ (at + used)
       turned =

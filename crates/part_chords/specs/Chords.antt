@@ -1,4 +1,4 @@
--- CHORDS: a chord's pitches by its place in the line, and what a chord does to every part that is held.
+-- CHORDS: a chord's pitches by its place in the line, and what a chord does to every part that is represented.
 use Prim.Native.Nat.{ℕ}
 use mathlib.Core.Path.{_≡_}
 use mathlib.Core.Bool.{Bool}

@@ -209,7 +209,7 @@ module _ {s : List ℕ} {at n i : ℕ} {a b : List Head} {m : Head} (h : Stands 
       ))
   none-starts (some ps) r r′ p q e f x y z = absurd (both-true (r .begun) (q .0) p)
 
--- ALL MEASURES: those done, and those left with the ending that is open before them
+-- ALL MEASURES: those done, and those to come with the ending that is open before them
 pub record Going (s : List ℕ) (at n i : ℕ) (r : Span) (heads : List Head) : Type 0 where
   pub done : List Head
   pub rest : List Head
@@ -365,7 +365,7 @@ small-by (m ∷ b) four h = (record { four = four .0; small = λ v l. omega (ari
 pub fits-small : (heads : List Head) (log : List (ℕ × Note)) → Fits heads log → length log < 2 ^ 32 → All Small heads
 fits-small heads log f h = small-by heads (f .four-counts) (omega (arith, f .all-notes))
 
--- as many heads as were left
+-- as many heads as there are then
 pub length-end : (header : Key) (heads : List Head) → length (marked header (close none (dropped heads))) ≡ length (dropped heads)
 unfolding marked
 length-end header heads = length-marked (close none (dropped heads)) ∙ length-close none (dropped heads)

@@ -1,4 +1,4 @@
--- CLOSING ENDINGS (layout's `close`) one measure at a time, and what the code keeps meanwhile.
+-- CLOSING ENDINGS (part_layout's `close`) one measure at a time, and what the code keeps meanwhile.
 use Prim.Native.Nat.{ℕ, _+_, _<_, _^_}
 use mathlib.Core.Path.{_≡_}
 use mathlib.Core.Bool.{true, false}

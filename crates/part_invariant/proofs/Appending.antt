@@ -229,9 +229,9 @@ module _ {t : Tables} {s : List ℕ} {r : Registers} (room : Room t (r .counts) 
           (only-then (note-pushed-only (B .stored) s₂ (room-same length₁ room) (l .line .overlay, afterHalf (l .line .half) (beamedNew (l .line .run) (grouped (l .line .tuplet) n))) (rowBytes row (l .line .overlay)) (ap (λ (q : NoteRow). rowBytes q (l .line .overlay)) row-is) e₂)
           (only-splice (t .heads) (t .end) s₂ s₃ _ _ e₃ (omega arith) (omega (arith, i-in, h .stored .heads-are, st .overlay-4, bytes-4 (suc (u32At s₂ (t .heads + measureWidth * (r .counts .heads - 1) + 4 * l .line .overlay))), room .for-heads, room .for-notes, room .for-pitches, room .for-scopes))))
 
-      pub append-held : Represents t s₃ (appended r (kindCode (grouped (l .line .tuplet) n .kind)) (grouped (l .line .tuplet) n .value)) [] (append n l)
+      pub append-represented : Represents t s₃ (appended r (kindCode (grouped (l .line .tuplet) n .kind)) (grouped (l .line .tuplet) n .value)) [] (append n l)
       unfolding append onOpen soundedOn
-      append-held =
+      append-represented =
           let v = counted-fields (l .line .overlay) (grouped (l .line .tuplet) n) (l .verses) in
           let ov : r .line .overlay ≡ l .line .overlay = ap (λ (y : _). y .overlay) (h .line-is) in
           record {
@@ -339,5 +339,5 @@ module _ {t : Tables} {s : List ℕ} {r : Registers} {n : NoteRow} (room : Room 
                 };
             holds =
                 λ l m st e h. subst (λ (x : Registers). Represents t s₃ x [] (append m l)) (sym (d ∙ (λ i. appended r (tuplet-row l m e h i .kind) (tuplet-row l m e h i .value))))
-                (append-held room l m st h s₁ s₂ (to₁ l m st e h) (asWritten r n) (written-row l m e h) (to₂ l m e h) s₃ (to₃ l m e h));
+                (append-represented room l m st h s₁ s₂ (to₁ l m st e h) (asWritten r n) (written-row l m e h) (to₂ l m e h) s₃ (to₃ l m e h));
           }

@@ -1,4 +1,4 @@
--- A PART BETWEEN ITS LINES, held in scratch and registers; the room for the music that is to come; and what a line or another item does.
+-- A PART BETWEEN ITS LINES, represented by scratch and registers; the room for the music that is to come; and what a line or another item does.
 use Prim.Native.Nat.{ℕ, _+_, _*_, _^_, _≤_, _<_, max}
 use mathlib.Core.List.{List, []}
 use Rattle.part_layout.specs.Log.{LogState}
@@ -12,7 +12,7 @@ use Rattle.part_registers.specs.declared.Registers.{Registers}
 use Rattle.reader.specs.Records.{measureWidth}
 use Rattle.part_invariant.specs.Invariant.{Represents}
 
--- a part is held
+-- a part is represented
 pub record RepresentedBetween (t : Tables) (s : List ℕ) (r : Registers) : Type 0 where
   pub state : LogState
   pub between : Between state
@@ -34,7 +34,7 @@ pub record GrowsBy (c c′ : Counts) (bytes : List ℕ) : Type 0 where
   pub more-pitches : c′ .pitches ≤ c .pitches + letters bytes
   pub more-scopes : c′ .scopes ≤ c .scopes + signs bytes
 
--- A LINE OR ANOTHER ITEM, with these bytes of music: scratch and registers do what f does to every part that they hold between lines
+-- A LINE OR ANOTHER ITEM, with these bytes of music: scratch and registers do what f does to every part that they represent between lines
 pub record SimulatesItem (t : Tables) (s : List ℕ) (r : Registers) (s′ : List ℕ) (r′ : Registers) (bytes : List ℕ) (f : LogState → LogState) : Type 0 where
   pub only : Only (t .heads) (t .end) s s′
   pub grows : GrowsBy (r .counts) (r′ .counts) bytes

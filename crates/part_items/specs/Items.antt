@@ -83,7 +83,7 @@ lined s i verse start = splice (splice s (rowFrom i + 3) (verse ∷ [])) (rowFro
 abbrev pub ownAt : List ℕ → ℕ → List ℕ → ℕ → List Item
 ownAt text p s i = itemsOf p (itemIn text (itemAt s i) ∷ [])
 
--- ITEM i CAN BE TAKEN: a part is held, there is room, and the row stands before the tables
+-- ITEM i CAN BE TAKEN: a part is represented, there is room, and the row stands before the tables
 pub record Ready (text : List ℕ) (t : Tables) (p i : ℕ) (s : List ℕ) (r : Registers) : Type 0 where
   pub room : RoomForBytes t (r .counts) (length s) (musicOf (ownAt text p s i))
   pub waits : RepresentedBetween t s r
@@ -103,7 +103,7 @@ pub record Taken (text : List ℕ) (t : Tables) (header : Key) (p i : ℕ) (s : 
 abbrev pub after : Key → List ℕ → List ℕ → ℕ → ℕ → LogState
 after header text s p n = foldl (onItem header) newLog (itemsOf p (itemsIn text s n))
 
--- ALL ITEMS were taken: the part is held, the line table is the same, and its lyric lines have their verses and first notes
+-- ALL ITEMS were taken: the part is represented, the line table is the same, and its lyric lines have their verses and first notes
 pub record Built (text : List ℕ) (t : Tables) (header : Key) (p n : ℕ) (s s′ : List ℕ) (r : Registers) : Type 0 where
   pub represents : Represents t s′ r [] (after header text s p n)
   pub room : RoomForBytes t (r .counts) (length s′) []

@@ -106,7 +106,7 @@ fn on_header_key(r: Registers, header: Key) -> Registers
     set_key(r, header)
 }
 
-// A V line: nothing waits any more.
+// A V line: nothing is pending any more.
 fn on_reset(r: Registers) -> Registers
     ensures { λ x. ⌜ ((t : Tables) (s : List ℕ) (header : StandardKey) → SimulatesItem t s r s x [] (λ l. onItem header l scan.reset)) ⌝ }
 {

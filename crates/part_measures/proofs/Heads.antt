@@ -41,7 +41,7 @@ pub length-new : (left top bottom : ℕ) → length (newRow left top bottom) ≡
 unfolding newRow
 length-new left top bottom = refl
 
--- layout's bytes
+-- part_layout's bytes
 bytes-by : (m : Head) (cs : List ℕ) → m .counts ≡ cs → length cs ≡ 4 → headRow m ≡ headBytes m
 unfolding headRow headBytes little
 bytes-by m [] e h = absurd (omega arith)

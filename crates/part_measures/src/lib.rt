@@ -47,7 +47,7 @@ fn put_no_counts(store: &mut [u8], place: usize)
 }
 
 // Writes a new measure as row i: no notes, its left barline by number, its meter.
-pub fn put_head(store: &mut [u8], at: usize, i: usize, left: u8, top: u8, bottom: u8)
+pub fn put_measure(store: &mut [u8], at: usize, i: usize, left: u8, top: u8, bottom: u8)
     requires { ⌜ at + measureWidth * i + measureWidth ≤ length (now store) ⌝ }
     ensures { λ _. ⌜ now (store .exit) ≡ splice (now (store .entry)) (at + measureWidth * i) (newRow left top bottom) ⌝ }
 {

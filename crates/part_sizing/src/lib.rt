@@ -14,7 +14,7 @@ ghost use Rattle.part_sizing.specs.Counting.{madeOf, more, both, asMade,
 ghost use Rattle.part_sizing.specs.Room.{PartRoom, Sized};
 use part_registers::Tables;
 
-// How many bytes of music can open a measure, name a pitch, be a rest, mark an accidental.
+// How many bytes of music can open a measure, name a pitch, be a rest, be an accidental's sign.
 pub struct Made {
     pub bars: usize,
     pub letters: usize,

@@ -168,7 +168,7 @@ pub fn begin_line(
 {
     let counts = r.counts;
     if counts.heads == 0 {
-        part_measures::put_head(store, t.heads, 0, 0, top, bottom);
+        part_measures::put_measure(store, t.heads, 0, 0, top, bottom);
         return new_line(r, 1, unit, top, bottom);
     }
     new_line(r, counts.heads, unit, top, bottom)
