@@ -130,17 +130,17 @@ module _ {line : List ℕ} {t : Tables} {s₀ s : List ℕ} {r₀ r : Registers}
   abbrev used : ℕ
   used = tokenOf (drop at line) .used
 
-  pays : CoversBoth tok (drop at line) (drop (at + used) line)
-  pays = token-spends line at h
+  covered : CoversBoth tok (drop at line) (drop (at + used) line)
+  covered = token-spends line at h
 
   room : Room t (r .counts) (length s) (makes tok .heads) (makes tok .notes) (makes tok .pitches) (makes tok .scopes)
   room =
       let a = b .room in
       record {
-        for-heads = omega (arith, a .for-heads, g .heads-left, pays .bars-left);
-        for-notes = omega (arith, a .for-notes, g .notes-left, pays .tones-left);
-        for-pitches = omega (arith, a .for-pitches, g .pitches-left, pays .letters-left);
-        for-scopes = omega (arith, a .for-scopes, g .scopes-left, pays .signs-left);
+        for-heads = omega (arith, a .for-heads, g .heads-left, covered .bars-left);
+        for-notes = omega (arith, a .for-notes, g .notes-left, covered .tones-left);
+        for-pitches = omega (arith, a .for-pitches, g .pitches-left, covered .letters-left);
+        for-scopes = omega (arith, a .for-scopes, g .scopes-left, covered .signs-left);
         ends = omega (arith, a .ends, g .only .same-length);
         small = a .small;
       }
@@ -171,10 +171,10 @@ module _ {line : List ℕ} {t : Tables} {s₀ s : List ℕ} {r₀ r : Registers}
           record {
             within = token-within line at h;
             only = only-then (g .only) (does .only);
-            heads-left = omega (arith, g .heads-left, d .more-heads, pays .bars-left);
-            notes-left = omega (arith, g .notes-left, d .more-notes, pays .tones-left);
-            pitches-left = omega (arith, g .pitches-left, d .more-pitches, pays .letters-left);
-            scopes-left = omega (arith, g .scopes-left, d .more-scopes, pays .signs-left);
+            heads-left = omega (arith, g .heads-left, d .more-heads, covered .bars-left);
+            notes-left = omega (arith, g .notes-left, d .more-notes, covered .tones-left);
+            pitches-left = omega (arith, g .pitches-left, d .more-pitches, covered .letters-left);
+            scopes-left = omega (arith, g .scopes-left, d .more-scopes, covered .signs-left);
             holds =
                 λ l i q.
                 let p = g .holds l i q in
