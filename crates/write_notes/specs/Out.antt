@@ -9,7 +9,7 @@ use Rattle.laws.specs.Bytes.{part, u32At}
 use Rattle.reader.specs.State.{Note}
 use Rattle.reader.specs.Codes.{bit}
 use Rattle.part_layout.specs.Log.{Head}
-use Rattle.part_layout.proofs.Counts.{Fits}
+use Rattle.part_layout.specs.Lines.{Fits}
 use Rattle.part_rows.specs.Table.{Table}
 use Rattle.part_rows.specs.Encoded.{noteRow}
 use Rattle.part_measures.specs.Heads.{headRow}
