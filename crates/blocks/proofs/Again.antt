@@ -1,4 +1,4 @@
--- THE MOVED TEXT MEETS THE SUPPOSITIONS TOO, with the same rows for each part: its blocks may be moved on, and back. Assumes nothing.
+-- THE MOVED TEXT MEETS THE SUPPOSITIONS TOO, with the same lines for each part: its blocks may be moved on, and back. Assumes nothing.
 use Prim.Native.Nat.{ℕ}
 use mathlib.Core.Path.{_≡_, refl, sym, ap, subst, _∙_}
 use mathlib.Core.Bool.{true, cond, false≢true}
@@ -15,11 +15,11 @@ use Rattle.reader.specs.Scan.{scan}
 use Rattle.blocks.specs.Blocks.{closed, endsLF, upToK, header, opening, blocks, rebuilt}
 use Rattle.blocks.specs.Demand.{voiceOf, Moved, named, SetsNeither, stateOf, stateAtBlocks, linesAt, LyricsBehind, Hypotheses}
 use Rattle.blocks.proofs.Lists.{numbered-named}
-use Rattle.blocks.proofs.Rows.{Closed, concat-lines}
+use Rattle.blocks.proofs.TextLines.{Closed, concat-lines}
 use Rattle.blocks.proofs.Words.{moved-is-perm, moved-own, moved-closed}
 use Rattle.blocks.proofs.Demand.{again, owned}
 
--- a text of closed rows, one at least, ends in a line feed
+-- a text of closed lines, one at least, ends in a line feed
 ends-app : (r t : List ℕ) → endsLF t ≡ true → endsLF (r ++ t) ≡ true
 ends-app [] t h = h
 ends-app (c ∷ r) t h =
@@ -33,21 +33,21 @@ closed-ends (c ∷ r) h =
     let k : closed r ≡ true = rw e at h in
     by-test (isNil r) (λ n. absurd (false≢true (sym (ap closed (isNil-true r n)) ∙ k))) (λ n. rw n (closed-ends r k)))
 
-rows-end : (r : TextLine) (rs : List TextLine) → All Closed (r ∷ rs) → endsLF (concat (r ∷ rs)) ≡ true
-rows-end r [] c = subst (λ (l : List ℕ). endsLF l ≡ true) (sym (append-nil r)) (closed-ends r (c .0))
-rows-end r (q ∷ rs) c = ends-app r (concat (q ∷ rs)) (rows-end q rs (c .1))
+lines-end : (r : TextLine) (rs : List TextLine) → All Closed (r ∷ rs) → endsLF (concat (r ∷ rs)) ≡ true
+lines-end r [] c = subst (λ (l : List ℕ). endsLF l ≡ true) (sym (append-nil r)) (closed-ends r (c .0))
+lines-end r (q ∷ rs) c = ends-app r (concat (q ∷ rs)) (lines-end q rs (c .1))
 
--- the first row stays, so the moved text has one
+-- the first line stays, so the moved text has one
 still-ends : (text : List ℕ) (rest : List TextLine) (rs : List TextLine) → textLines text ≡ rs → endsLF text ≡ true → All Closed (upToK rs ++ rest) → endsLF (concat (upToK rs ++ rest)) ≡ true
 still-ends text rest [] e h c = absurd (false≢true (sym (ap endsLF (sym (concat-lines text) ∙ ap concat e)) ∙ h))
-still-ends text rest (r ∷ rs) e h c = rows-end r (cond (isK r) [] (upToK rs) ++ rest) c
+still-ends text rest (r ∷ rs) e h c = lines-end r (cond (isK r) [] (upToK rs) ++ rest) c
 
--- A VOICE'S ROWS BY NAME: the lyric condition goes by the numbers of the parts; the rows of the part that v has are those before the first block, if v is then being read,
+-- A VOICE'S LINES BY NAME: the lyric condition goes by the numbers of the parts; the lines of the part that v has are those before the first block, if v is then being read,
 -- and those of the blocks that name v
-pub rows-named : (text : List ℕ) (rl sl : ℕ) → Hypotheses text rl sl → (v : List ℕ) → elem v (stateAtBlocks text .env .voices) ≡ true
+pub lines-named : (text : List ℕ) (rl sl : ℕ) → Hypotheses text rl sl → (v : List ℕ) → elem v (stateAtBlocks text .env .voices) ≡ true
     → linesAt text (indexOf v (stateAtBlocks text .env .voices))
     ≡ cond (eqb (stateAtBlocks text .part) (indexOf v (stateAtBlocks text .env .voices))) (opening text) [] ++ concat (filter (λ b. eqText (voiceOf b) v) (blocks text))
-rows-named text rl sl m v hv =
+lines-named text rl sl m v hv =
     ap (λ (l : List (List TextLine)). cond (eqb (stateAtBlocks text .part) (indexOf v (stateAtBlocks text .env .voices))) (opening text) [] ++ concat l)
     (numbered-named voiceOf (stateAtBlocks text .env .voices) v hv (blocks text) (owned text rl sl m))
 
@@ -59,9 +59,9 @@ module _ (text : List ℕ) (rl sl : ℕ) (m : Hypotheses text rl sl) (bs : List 
   there-same : stateAtBlocks (rebuilt text bs) ≡ stateAtBlocks text
   there-same = λ i. stateOf (scan (own .0 i ++ own .1 i))
 
-  -- each part's rows are the same
-  pub rows-same : (p : ℕ) → linesAt (rebuilt text bs) p ≡ linesAt text p
-  rows-same p =
+  -- each part's lines are the same
+  pub lines-same : (p : ℕ) → linesAt (rebuilt text bs) p ≡ linesAt text p
+  lines-same p =
       (λ i. cond (eqb (there-same i .part) p) (own .1 i) [] ++ concat (filter (λ b. eqb (indexOf (voiceOf b) (there-same i .env .voices)) p) (own .2 i)))
       ∙ ap (λ (l : List (List TextLine)). cond (eqb (stateAtBlocks text .part) p) (opening text) [] ++ concat l)
       (moved-index voiceOf (stateAtBlocks text .env .voices) (blocks text) bs (owned text rl sl m) mv p)
@@ -76,5 +76,5 @@ module _ (text : List ℕ) (rl sl : ℕ) (m : Hypotheses text rl sl) (bs : List 
             (subst (All (λ b. named (voiceOf b) (header text) ≡ true)) (sym (own .2))
             (All-perm (λ b. named (voiceOf b) (header text) ≡ true) (moved-is-perm (blocks text) bs mv) (m .known)));
         sets-neither = subst (All (All SetsNeither)) (sym (own .2)) (All-perm (All SetsNeither) (moved-is-perm (blocks text) bs mv) (m .sets-neither));
-        sung = λ p. subst LyricsBehind (sym (rows-same p)) (m .sung p);
+        sung = λ p. subst LyricsBehind (sym (lines-same p)) (m .sung p);
       }

@@ -18,21 +18,21 @@ use Rattle.laws.proofs.Orders.{All-perm, All-perm-back, sum-perm, perm-nil, mov
 use Rattle.reader.specs.Text.{textLines}
 use Rattle.reader.specs.Steps.{TextLine, Step, refuse, on, run, itemsOf}
 use Rattle.blocks.specs.Blocks.{closed, afterK, untilV, blocksOf, header, opening, blocks, rebuilt}
-use Rattle.blocks.specs.Frame.{Reader, result, answered, answer, identOf, Moved, named, SetsNeither, Brings, stateOf, before, isPart, blocksAt, Music, LyricsAfterMusic, onlyPart, voices, Hypotheses, Conclusion, Claim, NoMusic, Low, Laws}
+use Rattle.blocks.specs.Frame.{Reader, result, answered, answer, identOf, Moved, named, SetsNeither, Brings, stateOf, before, isPart, blocksAt, Music, LyricsAfterMusic, onlyPart, voices, Hypotheses, Conclusion, Claim, NoMusic, WithinLimits, Laws}
 use Rattle.blocks.proofs.Lists.{numbered-named}
-use Rattle.blocks.proofs.Rows.{lines-concat, rows-closed, Closed, rows-all, rebuilt-self, Shape, until-plain, blocks-shape}
-use Rattle.blocks.proofs.Runs.{mine-append, Run, run-run, run-of, run-cut, run-join, gathers, Mute, music-or, music-right, sung-yes, sung-map, sung-right, run-hush, run-low, run-lines, run-body, run-notes, run-fine, run-stays, run-music, run-named, run-keeps}
-use Rattle.blocks.proofs.Frame.{gathers-hush, Steady, steady-quiet, steady-brings, BlocksDone, Tells, Good, part, go-any, body-head}
+use Rattle.blocks.proofs.TextLines.{lines-concat, lines-closed, Closed, lines-all, rebuilt-self, Shape, until-plain, blocks-shape}
+use Rattle.blocks.proofs.Runs.{mine-append, Run, run-run, run-of, run-cut, run-join, gathers, Mute, music-or, music-right, sung-yes, sung-map, sung-right, run-no-music, run-low, run-lines, run-body, run-notes, run-fine, run-stays, run-music, run-named, run-keeps}
+use Rattle.blocks.proofs.Frame.{gathers-no-music, Steady, steady-sets-neither, steady-brings, BlocksDone, Tells, Good, part, go-any, body-head}
 
--- a test that goes row by row
+-- a test that goes line by line
 module _ (P : List ℕ → Type 0) (nil : P []) (row : (r t : List ℕ) → closed r ≡ true → P (r ++ t) ↔ (P r × P t)) where
-  rows-to : (rs : List (List ℕ)) → All Closed rs → P (concat rs) → All P rs
-  rows-to [] c p = tt
-  rows-to (r ∷ rs) c p = let q : P r × P (concat rs) = row r (concat rs) (c .0) .0 p in (q .0, rows-to rs (c .1) (q .1))
+  lines-to : (rs : List (List ℕ)) → All Closed rs → P (concat rs) → All P rs
+  lines-to [] c p = tt
+  lines-to (r ∷ rs) c p = let q : P r × P (concat rs) = row r (concat rs) (c .0) .0 p in (q .0, lines-to rs (c .1) (q .1))
 
-  rows-from : (rs : List (List ℕ)) → All Closed rs → All P rs → P (concat rs)
-  rows-from [] c p = nil
-  rows-from (r ∷ rs) c p = row r (concat rs) (c .0) .1 (p .0, rows-from rs (c .1) (p .1))
+  lines-from : (rs : List (List ℕ)) → All Closed rs → All P rs → P (concat rs)
+  lines-from [] c p = nil
+  lines-from (r ∷ rs) c p = row r (concat rs) (c .0) .1 (p .0, lines-from rs (c .1) (p .1))
 
 module _ (R : Reader) (L : Laws R) where
   -- an accepted answer: nothing early, and a run to the end
@@ -51,7 +51,7 @@ module _ (R : Reader) (L : Laws R) where
 
   -- the blocks of an accepted text
   good : (e : R .Env) (known : List TextLine → Type 0) → ((b : List TextLine) → known b → elem (identOf R b) (R .ids e) ≡ true) →
-      (bs : List (List TextLine)) → All Shape bs → All known bs → All (All (R .Fine)) bs → All (Good R e) bs
+      (bs : List (List TextLine)) → All Shape bs → All known bs → All (All (R .NotRefused)) bs → All (Good R e) bs
   good e known f [] s k h = tt
   good e known f ([] ∷ bs) s k h = absurd (s .0)
   good e known f ((r ∷ rs) ∷ bs) s k h =
@@ -114,7 +114,7 @@ module _
     kept-0 (inr q) = tt
 
     steady-0 : (x : All (All (SetsNeither R)) bs ⊎ All (Brings R) bs) → All (Steady R e (Kept x) u0 m0) bs
-    steady-0 (inl q) = All-map (All (SetsNeither R)) (Steady R e (λ w n. (w ≡ u0) × (n ≡ m0)) u0 m0) (λ b h. steady-quiet R L e u0 m0 b h) bs q
+    steady-0 (inl q) = All-map (All (SetsNeither R)) (Steady R e (λ w n. (w ≡ u0) × (n ≡ m0)) u0 m0) (λ b h. steady-sets-neither R L e u0 m0 b h) bs q
     steady-0 (inr q) = brings bs (blocks-shape (afterK (textLines text))) q
       where
         brings : (cs : List (List TextLine)) → All Shape cs → All (Brings R) cs → All (Steady R e (λ w n. Unit {0}) u0 m0) cs
@@ -130,22 +130,22 @@ module _
     body-0 : (bs ≡ []) ⊎ R .Body e
     body-0 = ⊎-elim (λ z. inl (ap blocksOf z)) (λ b. inr (run-body R L dM b)) body-K
 
-    music-0 : Music R (opening text) → R .slot s0 (R .cur s0) ≡ true
+    music-0 : Music R (opening text) → R .versePlace s0 (R .cur s0) ≡ true
     music-0 mu =
         ⊎-elim
         (λ z. absurd (subst (Music R) (ap untilV z) mu))
         (λ b.
         subst
-        (λ (c : ℕ). R .slot s0 c ≡ true)
+        (λ (c : ℕ). R .versePlace s0 c ≡ true)
         (sym (run-stays R L dM b (until-plain (afterK (textLines text)))))
         (run-music R L dM b (until-plain (afterK (textLines text))) mu))
         body-K
 
-    -- each part's lyric rows find a place for verses; or the part has no place before its blocks and no music in them
+    -- each part's lyric lines find a place for verses; or the part has no place before its blocks and no music in them
     abbrev Told : List (List TextLine) → ℕ → Type 0
-    Told cs p = LyricsAfterMusic R (R .slot s0 p ≡ true) (concat (part R e p cs)) ⊎ ((R .slot s0 p ≡ false) × All (Mute R) (concat (part R e p cs)))
+    Told cs p = LyricsAfterMusic R (R .versePlace s0 p ≡ true) (concat (part R e p cs)) ⊎ ((R .versePlace s0 p ≡ false) × All (Mute R) (concat (part R e p cs)))
 
-    sung-0 : (p : ℕ) → Music R (concat (part R e p bs)) → LyricsAfterMusic R (R .slot s0 p ≡ true) (concat (part R e p bs))
+    sung-0 : (p : ℕ) → Music R (concat (part R e p bs)) → LyricsAfterMusic R (R .versePlace s0 p ≡ true) (concat (part R e p bs))
     sung-0 p mp =
         let h : LyricsAfterMusic R ⊥ (cond (eqb (R .cur s0) p) (opening text) [] ++ concat (part R e p bs))
         = subst
@@ -158,24 +158,24 @@ module _
         by-test
         (eqb (R .cur s0) p)
         (λ x.
-        sung-map R (⊥ ⊎ Music R (opening text)) (R .slot s0 p ≡ true)
-        (⊎-elim (λ z. absurd z) (λ mu. subst (λ (c : ℕ). R .slot s0 c ≡ true) (eqb-true (R .cur s0) p x) (music-0 mu)))
+        sung-map R (⊥ ⊎ Music R (opening text)) (R .versePlace s0 p ≡ true)
+        (⊎-elim (λ z. absurd z) (λ mu. subst (λ (c : ℕ). R .versePlace s0 c ≡ true) (eqb-true (R .cur s0) p x) (music-0 mu)))
         (concat (part R e p bs))
         (sung-right R ⊥ (opening text) (concat (part R e p bs))
         (subst (λ (c : Bool). LyricsAfterMusic R ⊥ (cond c (opening text) [] ++ concat (part R e p bs))) x h)))
         (λ x.
-        sung-map R ⊥ (R .slot s0 p ≡ true) (λ z. absurd z) (concat (part R e p bs))
+        sung-map R ⊥ (R .versePlace s0 p ≡ true) (λ z. absurd z) (concat (part R e p bs))
         (subst (λ (c : Bool). LyricsAfterMusic R ⊥ (cond c (opening text) [] ++ concat (part R e p bs))) x h))
 
     told-0 : (p : ℕ) → Told bs p
     told-0 p =
         by-test
-        (R .slot s0 p)
-        (λ x. inl (sung-yes R (R .slot s0 p ≡ true) x (concat (part R e p bs))))
+        (R .versePlace s0 p)
+        (λ x. inl (sung-yes R (R .versePlace s0 p ≡ true) x (concat (part R e p bs))))
         (λ x. ⊎-elim (λ mp. inl (sung-0 p mp)) (λ q. inr (x, q)) (music-or R (concat (part R e p bs))))
 
-    fine-0 : All (All (R .Fine)) bs
-    fine-0 = ⊎-elim (λ z. subst (All (All (R .Fine))) (sym z) tt) (λ b. All-uncat (R .Fine) bs (run-fine R L d1 b)) body-0
+    fine-0 : All (All (R .NotRefused)) bs
+    fine-0 = ⊎-elim (λ z. subst (All (All (R .NotRefused))) (sym z) tt) (λ b. All-uncat (R .NotRefused) bs (run-fine R L d1 b)) body-0
 
     known-0 : All (λ b. elem (identOf R b) (R .ids e) ≡ true) bs
     known-0 =
@@ -189,24 +189,24 @@ module _
     good-0 : All (Good R e) bs
     good-0 = good R L e (λ b. elem (identOf R b) (R .ids e) ≡ true) (λ b k. k) bs (blocks-shape (afterK (textLines text))) known-0 fine-0
 
-    low-0 : Low R s0
-    low-0 = run-low R L d0 (L .low-start)
+    within-0 : WithinLimits R s0
+    within-0 = run-low R L d0 (L .start-within)
 
-    low-1 : Low R s1
-    low-1 = run-low R L d1 low-0
+    within-1 : WithinLimits R s1
+    within-1 = run-low R L d1 within-0
 
     notes-0 : R .notes s0 + sum (sum (R .noteCount)) bs ≤ R .maxNotes
     notes-0 =
         ⊎-elim
-        (λ z. omega (arith, low-0 .0, ap (sum (sum (R .noteCount))) z))
-        (λ b. omega (arith, low-1 .0, run-notes R L d1 b, sum-concat (R .noteCount) bs))
+        (λ z. omega (arith, within-0 .0, ap (sum (sum (R .noteCount))) z))
+        (λ b. omega (arith, within-1 .0, run-notes R L d1 b, sum-concat (R .noteCount) bs))
         body-0
 
     lines-0 : R .lines s0 + sum length bs ≤ R .maxLines
-    lines-0 = omega (arith, low-1 .1, run-lines R L d1, length-concat bs)
+    lines-0 = omega (arith, within-1 .1, run-lines R L d1, length-concat bs)
 
     closed-all : All Closed (header text ++ (opening text ++ concat bs))
-    closed-all = subst (All Closed) (sym (rows-all text)) (rows-closed text (m .ended))
+    closed-all = subst (All Closed) (sym (lines-all text)) (lines-closed text (m .ended))
 
     closed-header : All Closed (header text)
     closed-header = All-left Closed (header text) (opening text ++ concat bs) closed-all
@@ -217,12 +217,12 @@ module _
     closed-blocks : All (All Closed) bs
     closed-blocks = All-uncat Closed bs (All-right Closed (opening text) (concat bs) (All-right Closed (header text) (opening text ++ concat bs) closed-all))
 
-    closed-rows : (cs : List (List TextLine)) → All (All Closed) cs → All Closed (header text ++ (opening text ++ concat cs))
-    closed-rows cs c =
+    closed-lines : (cs : List (List TextLine)) → All (All Closed) cs → All Closed (header text ++ (opening text ++ concat cs))
+    closed-lines cs c =
         All-append Closed (header text) (opening text ++ concat cs) closed-header
         (All-append Closed (opening text) (concat cs) closed-opening (All-concat Closed cs c))
 
-    -- part p's items, where the blocks are cs and all lyric rows find a place
+    -- part p's items, where the blocks are cs and all lyric lines find a place
     abbrev F : List (List TextLine) → ℕ → List (R .Item)
     F cs p = itemsOf p i0 ++ gathers R e u0 m0 (part R e p cs)
 
@@ -232,19 +232,19 @@ module _
         ⊎-elim
         (λ x. inl (mine-append p i0 a ∙ ap (λ (l : List (R .Item)). itemsOf p i0 ++ l) (h .0 x)))
         (λ x.
-        let q : NoMusic R (itemsOf p i0) = run-hush R L d0 p (x .0) in
+        let q : NoMusic R (itemsOf p i0) = run-no-music R L d0 p (x .0) in
         inr (
           subst (NoMusic R) (sym (mine-append p i0 a)) (All-append (λ i. R .isMusicItem i ≡ false) (itemsOf p i0) (itemsOf p a) q (h .1 (x .1))),
-          All-append (λ i. R .isMusicItem i ≡ false) (itemsOf p i0) (gathers R e u0 m0 (part R e p cs)) q (gathers-hush R L e u0 m0 (part R e p cs) (x .1)),
+          All-append (λ i. R .isMusicItem i ≡ false) (itemsOf p i0) (gathers R e u0 m0 (part R e p cs)) q (gathers-no-music R L e u0 m0 (part R e p cs) (x .1)),
         ))
         w
 
-    -- the rows of the text with the blocks cs, and a run of them
-    rows-of : (cs : List (List TextLine)) → All (All Closed) cs → textLines (rebuilt text cs) ≡ (header text ++ opening text) ++ concat cs
-    rows-of cs c = lines-concat (header text ++ (opening text ++ concat cs)) (closed-rows cs c) ∙ sym (append-assoc (header text) (opening text) (concat cs))
+    -- the lines of the text with the blocks cs, and a run of them
+    lines-of : (cs : List (List TextLine)) → All (All Closed) cs → textLines (rebuilt text cs) ≡ (header text ++ opening text) ++ concat cs
+    lines-of cs c = lines-concat (header text ++ (opening text ++ concat cs)) (closed-lines cs c) ∙ sym (append-assoc (header text) (opening text) (concat cs))
 
-    run-of-rows : (cs : List (List TextLine)) → All (All Closed) cs → (t : R .State) (a : List (ℕ × R .Item)) → Run R s0 (concat cs) t a → run (R .step) (R .start) (textLines (rebuilt text cs)) ≡ on t (i0 ++ a)
-    run-of-rows cs c t a d = ap (run (R .step) (R .start)) (rows-of cs c) ∙ run-run R (run-join R d0 d)
+    run-of-lines : (cs : List (List TextLine)) → All (All Closed) cs → (t : R .State) (a : List (ℕ × R .Item)) → Run R s0 (concat cs) t a → run (R .step) (R .start) (textLines (rebuilt text cs)) ≡ on t (i0 ++ a)
+    run-of-lines cs c t a d = ap (run (R .step) (R .start)) (lines-of cs c) ∙ run-run R (run-join R d0 d)
 
     -- blocks that may stand where the text's own stand
     record Fit (cs : List (List TextLine)) : Type 0 where
@@ -254,7 +254,7 @@ module _
       even : All (Steady R e I u0 m0) cs
       few : R .notes s0 + sum (sum (R .noteCount)) cs ≤ R .maxNotes
       short : R .lines s0 + sum length cs ≤ R .maxLines
-      slot-unseen : (p : ℕ) → Told cs p
+      verse-place-unseen : (p : ℕ) → Told cs p
 
     done : (cs : List (List TextLine)) → Fit cs → BlocksDone R e u0 m0 s0 cs
     done cs f = go-any R L e I u0 m0 cs s0 (f .late) refl (kept-0 (m .sets-neither)) (f .even) (f .well) (f .few) (f .short)
@@ -264,19 +264,19 @@ module _
       where
         go : BlocksDone R e u0 m0 s0 cs → result R rl′ sl′ (run (R .step) (R .start) (textLines (rebuilt text cs))) ≡ R .finish e (F cs) rl′ sl′
         go q =
-            ap (result R rl′ sl′) (run-of-rows cs (f .shut) (q .0) (q .1) (q .2))
+            ap (result R rl′ sl′) (run-of-lines cs (f .shut) (q .0) (q .1) (q .2))
             ∙ (λ i. R .finish (q .3 i) (λ p. itemsOf p (i0 ++ q .1)) rl′ sl′)
-            ∙ L .alike e (λ p. itemsOf p (i0 ++ q .1)) (F cs) rl′ sl′ (λ p. items-of cs (q .1) p (f .slot-unseen p) (q .4 p))
+            ∙ L .alike e (λ p. itemsOf p (i0 ++ q .1)) (F cs) rl′ sl′ (λ p. items-of cs (q .1) p (f .verse-place-unseen p) (q .4 p))
 
     voices-of : (cs : List (List TextLine)) → Fit cs → voices R (rebuilt text cs) ≡ R .ids e
     voices-of cs f = go (done cs f)
       where
         go : BlocksDone R e u0 m0 s0 cs → voices R (rebuilt text cs) ≡ R .ids e
-        go q = ap (λ (x : Step (R .State) (R .Item)). R .ids (R .env (stateOf R x))) (run-of-rows cs (f .shut) (q .0) (q .1) (q .2)) ∙ ap (R .ids) (q .3)
+        go q = ap (λ (x : Step (R .State) (R .Item)). R .ids (R .env (stateOf R x))) (run-of-lines cs (f .shut) (q .0) (q .1) (q .2)) ∙ ap (R .ids) (q .3)
 
     -- the text itself
     fit-self : Fit bs
-    fit-self = record { shut = closed-blocks; late = body-0; well = good-0; even = steady-0 (m .sets-neither); few = notes-0; short = lines-0; slot-unseen = told-0 }
+    fit-self = record { shut = closed-blocks; late = body-0; well = good-0; even = steady-0 (m .sets-neither); few = notes-0; short = lines-0; verse-place-unseen = told-0 }
 
     value-self : (rl′ sl′ : ℕ) → result R rl′ sl′ (run (R .step) (R .start) (textLines text)) ≡ R .finish e (F bs) rl′ sl′
     value-self rl′ sl′ =
@@ -287,20 +287,20 @@ module _
     answer-self = answer-run R L text rl sl none-early ∙ value-self rl sl
 
     -- the blocks in another order
-    rows-sum : (cs : List (List TextLine)) → sum length (header text ++ (opening text ++ concat cs)) ≡ sum length (header text) + (sum length (opening text) + sum (sum length) cs)
-    rows-sum cs =
+    lines-sum : (cs : List (List TextLine)) → sum length (header text ++ (opening text ++ concat cs)) ≡ sum length (header text) + (sum length (opening text) + sum (sum length) cs)
+    lines-sum cs =
         omega (arith, sum-append length (header text) (opening text ++ concat cs), sum-append length (opening text) (concat cs), sum-concat {A = TextLine} length cs)
 
     module _ (cs : List (List TextLine)) (pm : Perm bs cs) where
-      rows-moved : (P : TextLine → Type 0) → All P (header text ++ (opening text ++ concat bs)) → All P (header text ++ (opening text ++ concat cs))
-      rows-moved P h =
+      lines-moved : (P : TextLine → Type 0) → All P (header text ++ (opening text ++ concat bs)) → All P (header text ++ (opening text ++ concat cs))
+      lines-moved P h =
           let k : All P (opening text ++ concat bs) = All-right P (header text) (opening text ++ concat bs) h in
           All-append P (header text) (opening text ++ concat cs) (All-left P (header text) (opening text ++ concat bs) h)
           (All-append P (opening text) (concat cs) (All-left P (opening text) (concat bs) k)
           (All-concat P cs (All-perm (All P) pm (All-uncat P bs (All-right P (opening text) (concat bs) k)))))
 
-      rows-back : (P : TextLine → Type 0) → All P (header text ++ (opening text ++ concat cs)) → All P (header text ++ (opening text ++ concat bs))
-      rows-back P h =
+      lines-back : (P : TextLine → Type 0) → All P (header text ++ (opening text ++ concat cs)) → All P (header text ++ (opening text ++ concat bs))
+      lines-back P h =
           let k : All P (opening text ++ concat cs) = All-right P (header text) (opening text ++ concat cs) h in
           All-append P (header text) (opening text ++ concat bs) (All-left P (header text) (opening text ++ concat cs) h)
           (All-append P (opening text) (concat bs) (All-left P (opening text) (concat cs) k)
@@ -315,8 +315,8 @@ module _
             arith,
             length-concat (header text ++ (opening text ++ concat cs)),
             length-concat (header text ++ (opening text ++ concat bs)),
-            rows-sum cs,
-            rows-sum bs,
+            lines-sum cs,
+            lines-sum bs,
             sum-perm (sum length) pm,
           )
 
@@ -326,12 +326,12 @@ module _
           = L .early-iff (rebuilt text bs) rl sl .0 (subst (λ (t : List ℕ). R .early t rl sl ≡ none) (sym (rebuilt-self text)) none-early) in
           L .early-iff (rebuilt text cs) rl sl .1 (
             subst (λ (n : ℕ). R .Fits n sl) (sym length-moved) (o .0),
-            rows-from (R .Utf8) (L .utf8-nil) (L .utf8-row) (header text ++ (opening text ++ concat cs)) (closed-rows cs closed-cs)
-                (rows-moved (R .Utf8) (rows-to (R .Utf8) (L .utf8-nil) (L .utf8-row) (header text ++ (opening text ++ concat bs)) closed-all (o .1))),
+            lines-from (R .Utf8) (L .utf8-nil) (L .utf8-line) (header text ++ (opening text ++ concat cs)) (closed-lines cs closed-cs)
+                (lines-moved (R .Utf8) (lines-to (R .Utf8) (L .utf8-nil) (L .utf8-line) (header text ++ (opening text ++ concat bs)) closed-all (o .1))),
             λ b.
                 o .2
-                (rows-from (R .Blank) (L .blank-nil) (L .blank-row) (header text ++ (opening text ++ concat bs)) closed-all
-                (rows-back (R .Blank) (rows-to (R .Blank) (L .blank-nil) (L .blank-row) (header text ++ (opening text ++ concat cs)) (closed-rows cs closed-cs) b))),
+                (lines-from (R .Blank) (L .blank-nil) (L .blank-line) (header text ++ (opening text ++ concat bs)) closed-all
+                (lines-back (R .Blank) (lines-to (R .Blank) (L .blank-nil) (L .blank-line) (header text ++ (opening text ++ concat cs)) (closed-lines cs closed-cs) b))),
           )
 
       fit-moved : ((p : ℕ) → part R e p cs ≡ part R e p bs) → Fit cs
@@ -343,9 +343,9 @@ module _
             even = All-perm (Steady R e I u0 m0) pm (steady-0 (m .sets-neither));
             few = omega (arith, notes-0, sum-perm (sum (R .noteCount)) pm);
             short = omega (arith, lines-0, sum-perm {A = List TextLine} length pm);
-            slot-unseen =
+            verse-place-unseen =
                 λ p.
-                subst (λ (l : List (List TextLine)). LyricsAfterMusic R (R .slot s0 p ≡ true) (concat l) ⊎ ((R .slot s0 p ≡ false) × All (Mute R) (concat l))) (sym (h p)) (told-0 p);
+                subst (λ (l : List (List TextLine)). LyricsAfterMusic R (R .versePlace s0 p ≡ true) (concat l) ⊎ ((R .versePlace s0 p ≡ false) × All (Mute R) (concat l))) (sym (h p)) (told-0 p);
           }
 
       answer-moved : ((p : ℕ) → part R e p cs ≡ part R e p bs) → answer R (rebuilt text cs) rl sl ≡ answer R text rl sl
@@ -371,12 +371,12 @@ module _
           even = All-filter (isPart R (R .ids e) p) (Steady R e I u0 m0) bs (steady-0 (m .sets-neither));
           few = omega (arith, notes-0, sum-filter (isPart R (R .ids e) p) (sum (R .noteCount)) bs);
           short = omega (arith, lines-0, sum-filter {A = List TextLine} (isPart R (R .ids e) p) length bs);
-          slot-unseen =
+          verse-place-unseen =
               λ q.
               by-test
               (eqb p q)
-              (λ x. subst (λ (l : List (List TextLine)). LyricsAfterMusic R (R .slot s0 q ≡ true) (concat l) ⊎ ((R .slot s0 q ≡ false) × All (Mute R) (concat l))) (sym (part-same R L e p q bs x)) (told-0 q))
-              (λ x. inl (subst (λ (l : List (List TextLine)). LyricsAfterMusic R (R .slot s0 q ≡ true) (concat l)) (sym (part-other R L e p q bs x)) tt));
+              (λ x. subst (λ (l : List (List TextLine)). LyricsAfterMusic R (R .versePlace s0 q ≡ true) (concat l) ⊎ ((R .versePlace s0 q ≡ false) × All (Mute R) (concat l))) (sym (part-same R L e p q bs x)) (told-0 q))
+              (λ x. inl (subst (λ (l : List (List TextLine)). LyricsAfterMusic R (R .versePlace s0 q ≡ true) (concat l)) (sym (part-other R L e p q bs x)) tt));
         }
 
     value-alone : (p rl′ sl′ : ℕ) → result R rl′ sl′ (run (R .step) (R .start) (textLines (rebuilt text (part R e p bs)))) ≡ R .finish e (F (part R e p bs)) rl′ sl′
@@ -440,7 +440,7 @@ module _ (R : Reader) (L : Laws R) where
           last q = same R L text rl sl m (q .0) s t (q .1) (q .2) a b (q .3) (q .4) d0 d1 (early .0)
 
       go : (s : R .State) × (a : List (ℕ × R .Item)) × (run (R .step) (R .start) (textLines text) ≡ on s a) → Conclusion R text rl sl
-      go q = two (run-cut R (header text ++ opening text) (subst (λ (rs : List TextLine). Run R (R .start) rs (q .0) (q .1)) (sym (append-assoc (header text) (opening text) (concat (blocks text)) ∙ rows-all text)) (run-of R (textLines text) (R .start) (q .0) (q .1) (q .2))))
+      go q = two (run-cut R (header text ++ opening text) (subst (λ (rs : List TextLine). Run R (R .start) rs (q .0) (q .1)) (sym (append-assoc (header text) (opening text) (concat (blocks text)) ∙ lines-all text)) (run-of R (textLines text) (R .start) (q .0) (q .1) (q .2))))
         where
           two : (u : R .State) × (x : List (ℕ × R .Item)) × (y : List (ℕ × R .Item)) × Run R (R .start) (header text ++ opening text) u x × Run R u (concat (blocks text)) (q .0) y × (q .1 ≡ x ++ y) → Conclusion R text rl sl
           two w = cut (w .3) (w .4)

@@ -1,4 +1,4 @@
--- `parseAbc` AS A READER of the frame. What the frame wants to know of a row beside specs/Kinds: its notes, what is refused in it wherever it stands after the
+-- `parseAbc` AS A READER of the frame. What the frame wants to know of a line beside specs/Kinds: its notes, what is refused in it wherever it stands after the
 -- first K: line, its items. A second edition would be a parameter here.
 use Prim.Native.Nat.{ℕ, _≤_}
 use mathlib.Core.Path.{_≡_}
@@ -91,16 +91,16 @@ reader =
       meterIn = λ s. s .meter;
       notes = λ s. s .notes;
       lines = λ s. s .lines;
-      slot = λ s p. ltb p (s .places);
+      versePlace = λ s p. ltb p (s .places);
       Body = λ e. e .inHeader ≡ false;
       ids = λ e. e .voices;
       ident = identifier;
       isMusic = λ r. isMusicLine (kindOf r);
       noteCount = λ r. kindCost (kindOf r);
-      Fine = λ r. kindFine (kindOf r);
+      NotRefused = λ r. kindFine (kindOf r);
       afterL = λ r. unitAfter (kindOf r);
       afterM = λ r. meterAfter (kindOf r);
-      emit = λ e u m b r. kindItems u m b (kindOf r);
+      lineItems = λ e u m b r. kindItems u m b (kindOf r);
       isMusicItem = isMusic;
       maxNotes = mostNotes;
       maxLines = mostLines;

@@ -1,12 +1,12 @@
 pub mod Lists
-pub mod Rows
+pub mod TextLines
 pub mod Machine
 pub mod Runs
 pub mod Frame
 pub mod Claim
 pub mod Moves
 pub mod Lyrics
-pub mod RowKinds
+pub mod LineKinds
 pub mod Instance
 pub mod Scan
 pub mod End

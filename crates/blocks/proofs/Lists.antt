@@ -1,4 +1,4 @@
--- Of lists, what crate `laws` lacks. Assumes nothing.
+-- Lists of elements that have an owner, and places in a list. Assumes nothing.
 use Prim.Native.Nat.{ℕ, zero, suc, _<_}
 use mathlib.Core.Path.{_≡_, refl}
 use mathlib.Core.Bool.{true}

@@ -12,15 +12,15 @@ use Rattle.blocks.specs.Frame.{Reader, Music, LyricsAfterMusic}
 use Rattle.blocks.proofs.Runs.{Mute, music-right, sung-yes, sung-map, sung-right}
 
 module _ (R : Reader) where
-  -- Literal: no row before the first music row is a lyric row
+  -- Literal: no line before the first music line is a lyric line
   abbrev pub Literal : List TextLine → Type 0
   Literal rs = (xs ys : List TextLine) (r : TextLine) → rs ≡ xs ++ (r ∷ ys) → R .isMusic r ≡ true → All (λ x. R .isMusic x ≡ false) xs → All (λ x. isLyric x ≡ false) xs
 
-  -- A lyric row with a music row after it has one before it.
+  -- A lyric line with a music line after it has one before it.
   abbrev pub Between : List TextLine → Type 0
   Between rs = (xs ys : List TextLine) (r : TextLine) → rs ≡ xs ++ (r ∷ ys) → isLyric r ≡ true → Music R ys → Music R xs
 
-  -- As it is used: if some row is music, each lyric row has a music row before it.
+  -- As it is used: if some line is music, each lyric line has a music line before it.
   abbrev pub Stepwise : List TextLine → Type 0
   Stepwise rs = Music R rs → LyricsAfterMusic R ⊥ rs
 
@@ -41,7 +41,7 @@ module _ (R : Reader) where
   mute-no [] h m = m
   mute-no (r ∷ rs) h m = ⊎-elim (λ x. true≢false (sym x ∙ h .0)) (λ x. mute-no rs (h .1) x) m
 
-  -- given that no row is both
+  -- given that no line is both
   pub literal-stepwise : ((r : TextLine) → R .isMusic r ≡ true → isLyric r ≡ false) → (rs : List TextLine) → Literal rs → Stepwise rs
   literal-stepwise w [] h m = tt
   literal-stepwise w (r ∷ rs) h m =

@@ -1,5 +1,5 @@
--- A machine that a line feed brings to its start, or to a state that it does not leave: it accepts rows one after the other just if it accepts each.
--- With it: UTF-8 and blank texts, row by row. Assumes nothing.
+-- A machine that a line feed brings to its start, or to a state that it does not leave: it accepts lines one after the other just if it accepts each.
+-- With it: UTF-8 and blank texts, line by line. Assumes nothing.
 use Prim.Native.Nat.{ℕ}
 use mathlib.Core.Path.{_≡_, refl, sym, ap, _∙_}
 use mathlib.Core.Logic.{_⊎_, inl, inr, ⊎-elim, _↔_}
@@ -18,10 +18,10 @@ module _ {Q : Type 0} (d : Q → ℕ → Q) (q0 dead : Q) (differ : dead ≡ q0 
   stays-dead [] = refl
   stays-dead (c ∷ t) = ap (λ (q : Q). foldl d q t) (stuck c) ∙ stays-dead t
 
-  after-row : (q : Q) (r : List ℕ) → closed r ≡ true → (foldl d q r ≡ q0) ⊎ (foldl d q r ≡ dead)
-  after-row q [] h = absurd (false≢true h)
-  after-row q (c ∷ r) h =
-      let rest : closed r ≡ true → (foldl d (d q c) r ≡ q0) ⊎ (foldl d (d q c) r ≡ dead) = after-row (d q c) r in
+  after-line : (q : Q) (r : List ℕ) → closed r ≡ true → (foldl d q r ≡ q0) ⊎ (foldl d q r ≡ dead)
+  after-line q [] h = absurd (false≢true h)
+  after-line q (c ∷ r) h =
+      let rest : closed r ≡ true → (foldl d (d q c) r ≡ q0) ⊎ (foldl d (d q c) r ≡ dead) = after-line (d q c) r in
       by-test (eqb c 10)
       (λ e.
       let z : r ≡ [] = isNil-true r (rw e at h) in
@@ -29,13 +29,13 @@ module _ {Q : Type 0} (d : Q → ℕ → Q) (q0 dead : Q) (differ : dead ≡ q0 
       ⊎-elim (λ x. inl (ap (foldl d (d q c)) z ∙ k ∙ x)) (λ x. inr (ap (foldl d (d q c)) z ∙ k ∙ x)) (lf q))
       (λ e. rest (rw e at h))
 
-  pub accept-row : (r t : List ℕ) → closed r ≡ true → (foldl d q0 (r ++ t) ≡ q0) ↔ ((foldl d q0 r ≡ q0) × (foldl d q0 t ≡ q0))
-  accept-row r t h = (
+  pub accept-line : (r t : List ℕ) → closed r ≡ true → (foldl d q0 (r ++ t) ≡ q0) ↔ ((foldl d q0 r ≡ q0) × (foldl d q0 t ≡ q0))
+  accept-line r t h = (
     λ a.
         ⊎-elim
         (λ x. (x, sym (ap (λ (q : Q). foldl d q t) x) ∙ sym (foldl-append d q0 r t) ∙ a))
         (λ x. absurd (differ (sym (stays-dead t) ∙ sym (ap (λ (q : Q). foldl d q t) x) ∙ sym (foldl-append d q0 r t) ∙ a)))
-        (after-row q0 r h),
+        (after-line q0 r h),
     λ a. foldl-append d q0 r t ∙ ap (λ (q : Q). foldl d q t) (a .0) ∙ a .1,
   )
 
@@ -63,8 +63,8 @@ other-stuck : (c : ℕ) → whiteStep other c ≡ other
 unfolding whiteStep
 other-stuck c = refl
 
-pub blank-row : (r t : List ℕ) → closed r ≡ true → Blank (r ++ t) ↔ (Blank r × Blank t)
-blank-row = accept-row whiteStep white other other-white white-lf other-stuck
+pub blank-line : (r t : List ℕ) → closed r ≡ true → Blank (r ++ t) ↔ (Blank r × Blank t)
+blank-line = accept-line whiteStep white other other-white white-lf other-stuck
 
 -- UTF-8
 abbrev pub IsUtf8 : List ℕ → Type 0
@@ -89,5 +89,5 @@ invalid-stuck : (c : ℕ) → utf8Step invalid c ≡ invalid
 unfolding utf8Step
 invalid-stuck c = refl
 
-pub utf8-row : (r t : List ℕ) → closed r ≡ true → IsUtf8 (r ++ t) ↔ (IsUtf8 r × IsUtf8 t)
-utf8-row = accept-row utf8Step between invalid invalid-between utf8-lf invalid-stuck
+pub utf8-line : (r t : List ℕ) → closed r ≡ true → IsUtf8 (r ++ t) ↔ (IsUtf8 r × IsUtf8 t)
+utf8-line = accept-line utf8Step between invalid invalid-between utf8-lf invalid-stuck

@@ -1,4 +1,4 @@
--- RUNS: a row after the other, without a refusal, and what a run keeps, for every reader that keeps the laws. Assumes nothing.
+-- RUNS: a line after the other, without a refusal, and what a run keeps, for every reader that keeps the laws. Assumes nothing.
 use Prim.Native.Nat.{ℕ, _+_}
 use mathlib.Core.Path.{_≡_, refl, sym, ap, subst, _∙_}
 use mathlib.Core.Logic.{_⊎_, inl, inr, ⊎-elim}
@@ -12,8 +12,8 @@ use Rattle.laws.proofs.Bools.{by-test, and-left, and-right, or-either}
 use Rattle.laws.proofs.Lists.{All-append, eqText-true}
 use Rattle.reader.specs.Lines.{isV}
 use Rattle.reader.specs.Steps.{TextLine, Step, refuse, on, first, run, itemsOf, tag}
-use Rattle.blocks.specs.Frame.{Reader, named, Music, LyricsAfterMusic, NoMusic, Low, Laws}
-use Rattle.blocks.proofs.Rows.{Plain}
+use Rattle.blocks.specs.Frame.{Reader, named, Music, LyricsAfterMusic, NoMusic, WithinLimits, Laws}
+use Rattle.blocks.proofs.TextLines.{Plain}
 
 -- items of a part
 module _ {I : Type 0} where
@@ -45,7 +45,7 @@ module _ {I : Type 0} where
   tag-append p (x ∷ xs) ys = ap {B = List (ℕ × I)} (λ l. (p, x) ∷ l) (tag-append p xs ys)
 
 module _ (R : Reader) where
-  -- the rows rs take s to t and give the items a
+  -- the lines rs take s to t and give the items a
   pub data Run : R .State → List TextLine → R .State → List (ℕ × R .Item) → Type 0 where
     stop : {s : R .State} → Run s [] s []
     then : {s t u : R .State} {r : TextLine} {rs : List TextLine} {a b : List (ℕ × R .Item)} → R .step s r ≡ on t a → Run t rs u b → Run s (r ∷ rs) u (a ++ b)
@@ -112,13 +112,13 @@ module _ (R : Reader) where
   run-join {ys = ys} {s = s} {u = u} {b = b} (then {r = r} {rs = rs} {a = c} {b = d} e k) f =
       subst (λ (l : List (ℕ × R .Item)). Run s (r ∷ (rs ++ ys)) u l) (sym (append-assoc c d b)) (then e (run-join k f))
 
-  -- two runs of the same rows from one state end alike
+  -- two runs of the same lines from one state end alike
   pub run-one : {s t t′ : R .State} {rs : List TextLine} {a a′ : List (ℕ × R .Item)} → Run s rs t a → Run s rs t′ a′ → (t ≡ t′) × (a ≡ a′)
   run-one {t = t} {t′ = t′} {a = a} {a′ = a′} d f =
       let k : _≡_ {A = Out} (on t a) (on t′ a′) = sym (run-run d) ∙ run-run f in
       (cc, cc)
 
-  -- L and M after rows
+  -- L and M after lines
   abbrev pub endL : List TextLine → ℕ → ℕ
   endL [] u = u
   endL (r ∷ rs) u = endL rs (R .afterL r u)
@@ -127,16 +127,16 @@ module _ (R : Reader) where
   endM [] m = m
   endM (r ∷ rs) m = endM rs (R .afterM r m)
 
-  -- the items of rows that all find a place for verses, with L and M in force before them; and of blocks that each find the same L and M
+  -- the items of lines that all find a place for verses, with L and M in force before them; and of blocks that each find the same L and M
   abbrev pub emits : R .Env → ℕ → R .Meter → List TextLine → List (R .Item)
   emits e u m [] = []
-  emits e u m (r ∷ rs) = R .emit e u m true r ++ emits e (R .afterL r u) (R .afterM r m) rs
+  emits e u m (r ∷ rs) = R .lineItems e u m true r ++ emits e (R .afterL r u) (R .afterM r m) rs
 
   abbrev pub gathers : R .Env → ℕ → R .Meter → List (List TextLine) → List (R .Item)
   gathers e u m [] = []
   gathers e u m (b ∷ bs) = emits e u m b ++ gathers e u m bs
 
-  -- a row that is no music
+  -- a line that is no music
   abbrev pub Mute : TextLine → Type 0
   Mute r = R .isMusic r ≡ false
 
@@ -180,9 +180,9 @@ module _ (R : Reader) where
 
 module _ (R : Reader) (L : Laws R) where
   -- what a run keeps
-  pub run-low : {s t : R .State} {rs : List TextLine} {a : List (ℕ × R .Item)} → Run R s rs t a → Low R s → Low R t
+  pub run-low : {s t : R .State} {rs : List TextLine} {a : List (ℕ × R .Item)} → Run R s rs t a → WithinLimits R s → WithinLimits R t
   run-low stop h = h
-  run-low (then e d) h = run-low d (L .low _ _ _ _ h e)
+  run-low (then e d) h = run-low d (L .stays-within _ _ _ _ h e)
 
   pub run-lines : {s t : R .State} {rs : List TextLine} {a : List (ℕ × R .Item)} → Run R s rs t a → R .lines t ≡ R .lines s + length rs
   run-lines stop = omega arith
@@ -196,7 +196,7 @@ module _ (R : Reader) (L : Laws R) where
   run-notes stop h = omega arith
   run-notes (then e d) h = omega (arith, run-notes d (L .body _ _ _ _ e h), L .note _ _ _ _ h e)
 
-  pub run-fine : {s t : R .State} {rs : List TextLine} {a : List (ℕ × R .Item)} → Run R s rs t a → R .Body (R .env s) → All (R .Fine) rs
+  pub run-fine : {s t : R .State} {rs : List TextLine} {a : List (ℕ × R .Item)} → Run R s rs t a → R .Body (R .env s) → All (R .NotRefused) rs
   run-fine stop h = tt
   run-fine (then e d) h = (L .fine _ _ _ _ h e, run-fine d (L .body _ _ _ _ e h))
 
@@ -204,33 +204,33 @@ module _ (R : Reader) (L : Laws R) where
   run-keeps stop v h = h
   run-keeps (then e d) v h = run-keeps d v (L .keeps _ _ _ _ e v h)
 
-  pub run-slots : {s t : R .State} {rs : List TextLine} {a : List (ℕ × R .Item)} → Run R s rs t a → (p : ℕ) → R .slot s p ≡ true → R .slot t p ≡ true
+  pub run-slots : {s t : R .State} {rs : List TextLine} {a : List (ℕ × R .Item)} → Run R s rs t a → (p : ℕ) → R .versePlace s p ≡ true → R .versePlace t p ≡ true
   run-slots stop p h = h
-  run-slots (then e d) p h = run-slots d p (L .slots _ _ _ _ e p h)
+  run-slots (then e d) p h = run-slots d p (L .verse-place-stays _ _ _ _ e p h)
 
-  -- a part that has no place for verses afterwards got no item of a music row
-  pub run-hush : {s t : R .State} {rs : List TextLine} {a : List (ℕ × R .Item)} → Run R s rs t a → (p : ℕ) → R .slot t p ≡ false → NoMusic R (itemsOf p a)
-  run-hush stop p h = tt
-  run-hush {t = t} (then {t = m} {a = a} {b = b} e d) p h =
+  -- a part that has no place for verses afterwards got no item of a music line
+  pub run-no-music : {s t : R .State} {rs : List TextLine} {a : List (ℕ × R .Item)} → Run R s rs t a → (p : ℕ) → R .versePlace t p ≡ false → NoMusic R (itemsOf p a)
+  run-no-music stop p h = tt
+  run-no-music {t = t} (then {t = m} {a = a} {b = b} e d) p h =
       subst (NoMusic R) (sym (mine-append p a b))
       (All-append (λ i. R .isMusicItem i ≡ false) (itemsOf p a) (itemsOf p b)
-      (by-test (R .slot m p) (λ x. absurd (true≢false (sym (run-slots d p x) ∙ h))) (λ x. L .placed _ _ _ _ e p x))
-      (run-hush d p h))
+      (by-test (R .versePlace m p) (λ x. absurd (true≢false (sym (run-slots d p x) ∙ h))) (λ x. L .placed _ _ _ _ e p x))
+      (run-no-music d p h))
 
-  -- in rows that are no V: rows the part stays, and music makes its place for verses
+  -- in lines that are no V: lines the part stays, and music makes its place for verses
   pub run-stays : {s t : R .State} {rs : List TextLine} {a : List (ℕ × R .Item)} → Run R s rs t a → R .Body (R .env s) → All Plain rs → R .cur t ≡ R .cur s
   run-stays stop h v = refl
   run-stays (then e d) h v = run-stays d (L .body _ _ _ _ e h) (v .1) ∙ L .stays _ _ _ _ h (v .0) e
 
-  pub run-music : {s t : R .State} {rs : List TextLine} {a : List (ℕ × R .Item)} → Run R s rs t a → R .Body (R .env s) → All Plain rs → Music R rs → R .slot t (R .cur s) ≡ true
+  pub run-music : {s t : R .State} {rs : List TextLine} {a : List (ℕ × R .Item)} → Run R s rs t a → R .Body (R .env s) → All Plain rs → Music R rs → R .versePlace t (R .cur s) ≡ true
   run-music stop h v m = absurd m
   run-music {t = t} (then e d) h v m =
       ⊎-elim
-      (λ x. run-slots d _ (L .slot-music _ _ _ _ h x e))
-      (λ x. subst (λ (c : ℕ). R .slot t c ≡ true) (L .stays _ _ _ _ h (v .0) e) (run-music d (L .body _ _ _ _ e h) (v .1) x))
+      (λ x. run-slots d _ (L .verse-place-music _ _ _ _ h x e))
+      (λ x. subst (λ (c : ℕ). R .versePlace t c ≡ true) (L .stays _ _ _ _ h (v .0) e) (run-music d (L .body _ _ _ _ e h) (v .1) x))
       m
 
-  -- each identifier of a V: row is known afterwards
+  -- each identifier of a V: line is known afterwards
   pub run-named : {s t : R .State} {rs : List TextLine} {a : List (ℕ × R .Item)} → Run R s rs t a → (v : List ℕ) → named R v rs ≡ true → elem v (R .ids (R .env t)) ≡ true
   run-named stop v h = absurd (false≢true h)
   run-named {t = t} (then {t = m} {r = r} {rs = rs} e d) v h =

@@ -18,8 +18,8 @@ use Rattle.reader.specs.Steps.{TextLine, refuse, on, tag, itemsOf}
 use Rattle.reader.specs.Scan.{Item, voiceDeclared, reset, keyInHeader, keyChange, meterChange, lyricLine, musicLine, ScanState, mostNotes, mostLines, mostVoices, noteCount, lastUnit, lastMeter, firstRefusal, further, at, nextLine, withUnnamed, voicesBefore, withVoices, Items, Out, playOn, voiceOn, act, step}
 use Rattle.reader.specs.Answer.{isMusic}
 use Rattle.blocks.specs.Kinds.{isMusicLine, unitAfter, meterAfter}
-use Rattle.blocks.specs.Frame.{Goes}
-use Rattle.blocks.proofs.RowKinds.{isVoice, isSung, Keyish, Names, lyric-row, voice-only}
+use Rattle.blocks.specs.Frame.{GoesThrough}
+use Rattle.blocks.proofs.LineKinds.{isVoice, isSung, Keyish, Names, lyric-begins, voice-only}
 use Rattle.blocks.proofs.Instance.{scanning, Clear, kindCost, kindFine, kindItems, reader}
 
 -- an answer is not none
@@ -81,14 +81,14 @@ known-same o v (i ∷ is) h = refl
 pub record Facts (s : ScanState) (k : Kind) (h : Bool) (t : ScanState) : Type 0 where
   pub line : t .lines ≡ suc (s .lines)
   pub counted : h ≡ false → t .notes ≡ s .notes + kindCost k
-  pub low : s .notes ≤ mostNotes → t .notes ≤ mostNotes
+  pub stays-within : s .notes ≤ mostNotes → t .notes ≤ mostNotes
   pub body-K : Keyish k → t .env .inHeader ≡ false
   pub body : s .env .inHeader ≡ false → t .env .inHeader ≡ false
   pub names : (v : List ℕ) → Names v k → elem v (t .env .voices) ≡ true
   pub keeps : (v : List ℕ) → elem v (s .env .voices) ≡ true → elem v (t .env .voices) ≡ true
   pub stays : h ≡ false → isVoice k ≡ false → t .part ≡ s .part
-  pub slots : s .places ≤ t .places
-  pub slot : h ≡ false → isMusicLine k ≡ true → s .part < t .places
+  pub verse-place-stays : s .places ≤ t .places
+  pub versePlace : h ≡ false → isMusicLine k ≡ true → s .part < t .places
   pub fine : h ≡ false → kindFine k
   pub units : h ≡ false → t .unit ≡ unitAfter k (s .unit)
   pub meters : h ≡ false → t .meter ≡ meterAfter k (s .meter)
@@ -100,14 +100,14 @@ calm s k h u m c p hk nm f hu hm =
     record {
       line = refl;
       counted = λ x. omega (arith, c);
-      low = λ x. x;
+      stays-within = λ x. x;
       body-K = hk;
       body = λ x. x;
       names = λ v x. absurd (nm v x);
       keeps = λ v x. x;
       stays = λ x y. refl;
-      slots = omega arith;
-      slot = λ x y. absurd (false≢true (sym p ∙ y));
+      verse-place-stays = omega arith;
+      versePlace = λ x y. absurd (false≢true (sym p ∙ y));
       fine = f;
       units = λ x. hu;
       meters = λ x. hm;
@@ -128,14 +128,14 @@ voice-facts s v h false full true hk t a e =
     (record {
       line = refl;
       counted = λ x. omega arith;
-      low = λ x. x;
+      stays-within = λ x. x;
       body-K = λ x. absurd x;
       body = λ x. x;
       names = λ w x. subst (λ (y : List ℕ). elem y (voicesBefore s) ≡ true) x hk;
       keeps = λ w x. known-elem (s .opened) w (s .env .voices) x;
       stays = λ x y. absurd (true≢false y);
-      slots = omega arith;
-      slot = λ x y. absurd (false≢true y);
+      verse-place-stays = omega arith;
+      versePlace = λ x y. absurd (false≢true y);
       fine = λ x. refl;
       units = λ x. refl;
       meters = λ x. refl;
@@ -147,14 +147,14 @@ voice-facts s v h false false false hk t a e =
     (record {
       line = refl;
       counted = λ x. omega arith;
-      low = λ x. x;
+      stays-within = λ x. x;
       body-K = λ x. absurd x;
       body = λ x. x;
       names = λ w x. subst (λ (y : List ℕ). elem y (voicesBefore s ++ (v ∷ [])) ≡ true) x (has-last v (voicesBefore s));
       keeps = λ w x. elem-left w (voicesBefore s) (v ∷ []) (known-elem (s .opened) w (s .env .voices) x);
       stays = λ x y. absurd (true≢false y);
-      slots = omega arith;
-      slot = λ x y. absurd (false≢true y);
+      verse-place-stays = omega arith;
+      versePlace = λ x y. absurd (false≢true y);
       fine = λ x. refl;
       units = λ x. refl;
       meters = λ x. refl;
@@ -169,14 +169,14 @@ play-facts s es l none eo t a e =
     (record {
       line = refl;
       counted = λ x. refl;
-      low = λ x. none-within (s .notes) es eo x .1;
+      stays-within = λ x. none-within (s .notes) es eo x .1;
       body-K = λ x. absurd x;
       body = λ x. x;
       names = λ w x. absurd x;
       keeps = λ w x. x;
       stays = λ x y. refl;
-      slots = omega arith;
-      slot = λ x y. omega arith;
+      verse-place-stays = omega arith;
+      versePlace = λ x y. omega arith;
       fine = λ x. (refl, none-clear (s .notes) es eo);
       units = λ x. refl;
       meters = λ x. refl;
@@ -194,14 +194,14 @@ act-facts s (key w) true eh t a e =
     (record {
       line = refl;
       counted = λ x. omega arith;
-      low = λ x. x;
+      stays-within = λ x. x;
       body-K = λ x. refl;
       body = λ x. refl;
       names = λ v x. absurd x;
       keeps = λ v x. x;
       stays = λ x y. refl;
-      slots = omega arith;
-      slot = λ x y. absurd (false≢true y);
+      verse-place-stays = omega arith;
+      versePlace = λ x y. absurd (false≢true y);
       fine = λ x. tt;
       units = λ x. refl;
       meters = λ x. refl;
@@ -216,14 +216,14 @@ act-facts s tune true eh t a e =
     (record {
       line = refl;
       counted = λ x. omega arith;
-      low = λ x. x;
+      stays-within = λ x. x;
       body-K = λ x. absurd x;
       body = λ x. x;
       names = λ v x. absurd x;
       keeps = λ v x. x;
       stays = λ x y. absurd (true≢false x);
-      slots = omega arith;
-      slot = λ x y. absurd (false≢true y);
+      verse-place-stays = omega arith;
+      versePlace = λ x y. absurd (false≢true y);
       fine = λ x. absurd (true≢false x);
       units = λ x. refl;
       meters = λ x. refl;
@@ -235,14 +235,14 @@ act-facts s (music hi es l) true eh t a e =
     (record {
       line = refl;
       counted = λ x. absurd (true≢false x);
-      low = λ x. x;
+      stays-within = λ x. x;
       body-K = λ x. absurd x;
       body = λ x. x;
       names = λ v x. absurd x;
       keeps = λ v x. x;
       stays = λ x y. refl;
-      slots = omega arith;
-      slot = λ x y. absurd (true≢false x);
+      verse-place-stays = omega arith;
+      versePlace = λ x y. absurd (true≢false x);
       fine = λ x. absurd (true≢false x);
       units = λ x. absurd (true≢false x);
       meters = λ x. absurd (true≢false x);
@@ -313,7 +313,7 @@ through-V s tune w nm hw f = absurd nm
 through-V s other w nm hw f = absurd nm
 through-V s (music hi es l) w nm hw f = absurd nm
 
--- a V: row is no music
+-- a V: line is no music
 pub names-played : (w : List ℕ) (k : Kind) → Names w k → isMusicLine k ≡ true → ⊥
 names-played w blank nm h = nm
 names-played w (refused n) nm h = false≢true h
@@ -355,74 +355,74 @@ blind-kind u w m n b other h = refl
 blind-kind u w m n b (music hi es l) h = absurd (true≢false h)
 
 -- only a music line gives a music line's item
-pub hush-kind : (u : ℕ) (n : Meter) (b : Bool) (k : Kind) → isMusicLine k ≡ false → All (λ i. isMusic i ≡ false) (kindItems u n b k)
+pub no-music-kind : (u : ℕ) (n : Meter) (b : Bool) (k : Kind) → isMusicLine k ≡ false → All (λ i. isMusic i ≡ false) (kindItems u n b k)
 unfolding isMusic
-hush-kind u n b blank h = tt
-hush-kind u n b (refused k) h = tt
-hush-kind u n b (lyric t) h = (refl, tt)
-hush-kind u n b (voice v mid) h = (refl, tt)
-hush-kind u n b (key x) h = (refl, tt)
-hush-kind u n b (meter m) h = (refl, tt)
-hush-kind u n b (unit x) h = tt
-hush-kind u n b tune h = tt
-hush-kind u n b other h = tt
-hush-kind u n b (music hi es l) h = absurd (true≢false h)
+no-music-kind u n b blank h = tt
+no-music-kind u n b (refused k) h = tt
+no-music-kind u n b (lyric t) h = (refl, tt)
+no-music-kind u n b (voice v mid) h = (refl, tt)
+no-music-kind u n b (key x) h = (refl, tt)
+no-music-kind u n b (meter m) h = (refl, tt)
+no-music-kind u n b (unit x) h = tt
+no-music-kind u n b tune h = tt
+no-music-kind u n b other h = tt
+no-music-kind u n b (music hi es l) h = absurd (true≢false h)
 
 -- a line that leaves part p without a place for verses gives it no music line's item
 abbrev pub HushOut : ℕ → Out → Type 0
 HushOut p (refuse n l) = Unit {0}
 HushOut p (on t a) = ltb p (t .places) ≡ false → All (λ i. isMusic i ≡ false) (itemsOf p a)
 
-hush-item : (c p : ℕ) (x : Item) (xs : Items) → isMusic x ≡ false → All (λ i. isMusic i ≡ false) (itemsOf p xs) → All (λ i. isMusic i ≡ false) (itemsOf p ((c, x) ∷ xs))
-hush-item c p x xs h r = go (eqb c p)
+no-music-item : (c p : ℕ) (x : Item) (xs : Items) → isMusic x ≡ false → All (λ i. isMusic i ≡ false) (itemsOf p xs) → All (λ i. isMusic i ≡ false) (itemsOf p ((c, x) ∷ xs))
+no-music-item c p x xs h r = go (eqb c p)
   where
     go : (b : Bool) → All (λ i. isMusic i ≡ false) (cond b (x ∷ itemsOf p xs) (itemsOf p xs))
     go true = (h, r)
     go false = r
 
-voice-hush : (s : ScanState) (v : List ℕ) (is : List (List ℕ)) (known full mid : Bool) (p : ℕ) → HushOut p (voiceOn s v is known full mid)
+voice-no-music : (s : ScanState) (v : List ℕ) (is : List (List ℕ)) (known full mid : Bool) (p : ℕ) → HushOut p (voiceOn s v is known full mid)
 unfolding scanning isMusic
-voice-hush s v is true full true p = tt
-voice-hush s v is true full false p = λ h. hush-item (indexOf v is) p reset [] refl tt
-voice-hush s v is false true mid p = tt
-voice-hush s v is false false true p = tt
-voice-hush s v is false false false p = λ h. hush-item (length is) p (voiceDeclared (s .env .inHeader)) ((length is, reset) ∷ []) refl (hush-item (length is) p reset [] refl tt)
+voice-no-music s v is true full true p = tt
+voice-no-music s v is true full false p = λ h. no-music-item (indexOf v is) p reset [] refl tt
+voice-no-music s v is false true mid p = tt
+voice-no-music s v is false false true p = tt
+voice-no-music s v is false false false p = λ h. no-music-item (length is) p (voiceDeclared (s .env .inHeader)) ((length is, reset) ∷ []) refl (no-music-item (length is) p reset [] refl tt)
 
-play-hush : (s : ScanState) (es : List Effect) (l : List ℕ) (o : Option ℕ) (p : ℕ) → HushOut p (playOn s es l o)
+play-no-music : (s : ScanState) (es : List Effect) (l : List ℕ) (o : Option ℕ) (p : ℕ) → HushOut p (playOn s es l o)
 unfolding scanning isMusic
-play-hush s es l (some k) p = tt
-play-hush s es l none p =
+play-no-music s es l (some k) p = tt
+play-no-music s es l none p =
     λ h.
     by-test
     (eqb (s .part) p)
     (λ e. absurd (true≢false (sym (lt-ltb p (max (s .places) (suc (s .part))) (omega (arith, eqb-true (s .part) p e))) ∙ h)))
     (λ e. subst (All (λ i. isMusic i ≡ false)) (sym (ap (λ (b : Bool). cond b (musicLine (s .unit) (s .meter) l ∷ []) []) e)) tt)
 
-pub act-hush : (s : ScanState) (k : Kind) (h : Bool) (p : ℕ) → HushOut p (act s k h)
+pub act-no-music : (s : ScanState) (k : Kind) (h : Bool) (p : ℕ) → HushOut p (act s k h)
 unfolding scanning isMusic
-act-hush s blank h p = λ x. tt
-act-hush s (refused n) h p = tt
-act-hush s (lyric t) true p = λ x. tt
-act-hush s (lyric t) false p = λ x. hush-item (s .part) p (lyricLine (ltb (s .part) (s .places)) t) [] refl tt
-act-hush s (voice v mid) h p = voice-hush s v (voicesBefore s) (elem v (voicesBefore s)) (leb mostVoices (length (voicesBefore s))) mid p
-act-hush s (key k) true p = λ x. hush-item (s .part) p keyInHeader [] refl tt
-act-hush s (key k) false p = λ x. hush-item (s .part) p (keyChange k) [] refl tt
-act-hush s (meter m) true p = λ x. tt
-act-hush s (meter m) false p = λ x. hush-item (s .part) p (meterChange m) [] refl tt
-act-hush s (unit none) h p = λ x. tt
-act-hush s (unit (some u)) h p = λ x. tt
-act-hush s tune true p = λ x. tt
-act-hush s tune false p = tt
-act-hush s other h p = λ x. tt
-act-hush s (music hi es l) true p = λ x. tt
-act-hush s (music true es l) false p = tt
-act-hush s (music false es l) false p = play-hush s es l (firstRefusal (s .notes) es) p
+act-no-music s blank h p = λ x. tt
+act-no-music s (refused n) h p = tt
+act-no-music s (lyric t) true p = λ x. tt
+act-no-music s (lyric t) false p = λ x. no-music-item (s .part) p (lyricLine (ltb (s .part) (s .places)) t) [] refl tt
+act-no-music s (voice v mid) h p = voice-no-music s v (voicesBefore s) (elem v (voicesBefore s)) (leb mostVoices (length (voicesBefore s))) mid p
+act-no-music s (key k) true p = λ x. no-music-item (s .part) p keyInHeader [] refl tt
+act-no-music s (key k) false p = λ x. no-music-item (s .part) p (keyChange k) [] refl tt
+act-no-music s (meter m) true p = λ x. tt
+act-no-music s (meter m) false p = λ x. no-music-item (s .part) p (meterChange m) [] refl tt
+act-no-music s (unit none) h p = λ x. tt
+act-no-music s (unit (some u)) h p = λ x. tt
+act-no-music s tune true p = λ x. tt
+act-no-music s tune false p = tt
+act-no-music s other h p = λ x. tt
+act-no-music s (music hi es l) true p = λ x. tt
+act-no-music s (music true es l) false p = tt
+act-no-music s (music false es l) false p = play-no-music s es l (firstRefusal (s .notes) es) p
 
 -- no line is both music and a lyric line
 pub music-lyric : (r : TextLine) → isMusicLine (kindOf r) ≡ true → isLyric r ≡ false
-music-lyric r h = never-true (isLyric r) (λ x. true≢false (sym h ∙ lyric-row r x))
+music-lyric r h = never-true (isLyric r) (λ x. true≢false (sym h ∙ lyric-begins r x))
 
--- A ROW
+-- A LINE
 
 pub step-on : (s t : ScanState) (r : List ℕ) (a : Items) → step s r ≡ on t a → (s .lines < mostLines) × (act s (kindOf r) (s .env .inHeader) ≡ on t a)
 unfolding step
@@ -436,7 +436,7 @@ pub facts : (s t : ScanState) (r : List ℕ) (a : Items) → step s r ≡ on t a
 facts s t r a e = act-facts s (kindOf r) (s .env .inHeader) refl t a (step-on s t r a e .1)
 
 -- from `act` to `step`
-pub step-through : (s : ScanState) (r : List ℕ) (p : ℕ) → s .env .inHeader ≡ false → s .lines < mostLines → Through s (kindOf r) p → Goes reader s r p
+pub step-through : (s : ScanState) (r : List ℕ) (p : ℕ) → s .env .inHeader ≡ false → s .lines < mostLines → Through s (kindOf r) p → GoesThrough reader s r p
 unfolding step
 step-through s r p hb hl q = (
   q .0,
@@ -449,7 +449,7 @@ step-through s r p hb hl q = (
   q .5,
 )
 
--- WHAT THE WORDS OF specs/Kinds SAY OF THE SCAN: a row after the first K: row that goes through leaves L and M as `unitAfter` and `meterAfter` say
+-- WHAT THE WORDS OF specs/Kinds SAY OF THE SCAN: a line after the first K: line that goes through leaves L and M as `unitAfter` and `meterAfter` say
 pub unit-after : (s t : ScanState) (r : TextLine) (a : Items) → s .env .inHeader ≡ false → step s r ≡ on t a → t .unit ≡ unitAfter (kindOf r) (s .unit)
 unit-after s t r a b e = facts s t r a e .units b
 
@@ -458,7 +458,7 @@ meter-after s t r a b e = facts s t r a e .meters b
 
 -- and its part has a place for verses if it is music
 pub place-made : (s t : ScanState) (r : TextLine) (a : Items) → s .env .inHeader ≡ false → isMusicLine (kindOf r) ≡ true → step s r ≡ on t a → s .part < t .places
-place-made s t r a b h e = facts s t r a e .slot b h
+place-made s t r a b h e = facts s t r a e .versePlace b h
 
 -- no V: line, no voice
 pub no-voice : (r : TextLine) → isV r ≡ false → isVoice (kindOf r) ≡ false

@@ -1,4 +1,4 @@
--- WHAT SETS L, OR M ("A field, on its own line or inline, sets L (or M ..) unless 000 leaves that one as it found it, whatever it was"): a test by the fields of a row, equal
+-- WHAT SETS L, OR M ("A field, on its own line or inline, sets L (or M ..) unless 000 leaves that one as it found it, whatever it was"): a test by the fields of a line, equal
 -- to the words; and document 01's cases, computed. Assumes nothing.
 use Prim.Native.Nat.{ℕ}
 use mathlib.Core.Path.{_≡_, refl, sym, ap, _∙_}
@@ -158,15 +158,15 @@ M-leaves tune h = refl
 M-leaves other h = refl
 M-leaves (music hi es l) h = M-effects es h
 
--- no field of the row, on its own line or inline, sets L or M
+-- no field of the line, on its own line or inline, sets L or M
 abbrev pub noField : TextLine → Bool
 noField r = leavesL (kindOf r) && leavesM (kindOf r)
 
-pub quiet-field : (r : TextLine) → SetsNeither r → noField r ≡ true
-quiet-field r q = and-both (leavesL (kindOf r)) (leavesM (kindOf r)) (L-leaves (kindOf r) (q .0)) (M-leaves (kindOf r) (q .1))
+pub sets-neither-field : (r : TextLine) → SetsNeither r → noField r ≡ true
+sets-neither-field r q = and-both (leavesL (kindOf r)) (leavesM (kindOf r)) (L-leaves (kindOf r) (q .0)) (M-leaves (kindOf r) (q .1))
 
-pub field-quiet : (r : TextLine) → noField r ≡ true → SetsNeither r
-field-quiet r h =
+pub field-sets-neither : (r : TextLine) → noField r ≡ true → SetsNeither r
+field-sets-neither r h =
     (leaves-L (kindOf r) (and-left (leavesL (kindOf r)) (leavesM (kindOf r)) h), leaves-M (kindOf r) (and-right (leavesL (kindOf r)) (leavesM (kindOf r)) h))
 
 -- DOCUMENT 01'S CASES
@@ -228,10 +228,10 @@ unfolding reader.all
 all-leave = refl
 
 sets-what : (r : TextLine) → not (noField r) ≡ true → SetsNeither r → ⊥
-sets-what r h q = both-true (noField r) (quiet-field r q) (not-true (noField r) h)
+sets-what r h q = both-true (noField r) (sets-neither-field r q) (not-true (noField r) h)
 
 pub setting-sets : All (λ r. SetsNeither r → ⊥) setting
 setting-sets = All-map (λ r. not (noField r) ≡ true) (λ r. SetsNeither r → ⊥) sets-what setting (all-All (λ r. not (noField r)) setting all-set)
 
 pub leaving-leaves : All SetsNeither leaving
-leaving-leaves = All-map (λ r. noField r ≡ true) SetsNeither field-quiet leaving (all-All noField leaving all-leave)
+leaving-leaves = All-map (λ r. noField r ≡ true) SetsNeither field-sets-neither leaving (all-All noField leaving all-leave)

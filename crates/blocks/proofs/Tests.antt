@@ -98,14 +98,14 @@ behind-test n t h p =
         (blocks t) owners))
 
 -- all of them: what is left to the reader is that the text is accepted
-both-quiet : (bs : List (List TextLine)) → All (All (λ r. (u : ℕ) → unitAfter (kindOf r) u ≡ u)) bs → All (All (λ r. (m : Meter) → meterAfter (kindOf r) m ≡ m)) bs → All (All SetsNeither) bs
-both-quiet [] l m = tt
-both-quiet (b ∷ bs) l m = (rows-quiet b (l .0) (m .0), both-quiet bs (l .1) (m .1))
+both-set-neither : (bs : List (List TextLine)) → All (All (λ r. (u : ℕ) → unitAfter (kindOf r) u ≡ u)) bs → All (All (λ r. (m : Meter) → meterAfter (kindOf r) m ≡ m)) bs → All (All SetsNeither) bs
+both-set-neither [] l m = tt
+both-set-neither (b ∷ bs) l m = (lines-set-neither b (l .0) (m .0), both-set-neither bs (l .1) (m .1))
   where
-    rows-quiet : (rs : List TextLine) → All (λ r. (u : ℕ) → unitAfter (kindOf r) u ≡ u) rs → All (λ r. (m : Meter) → meterAfter (kindOf r) m ≡ m) rs → All SetsNeither rs
-    rows-quiet [] l m = tt
-    rows-quiet (r ∷ rs) l m = ((l .0, m .0), rows-quiet rs (l .1) (m .1))
+    lines-set-neither : (rs : List TextLine) → All (λ r. (u : ℕ) → unitAfter (kindOf r) u ≡ u) rs → All (λ r. (m : Meter) → meterAfter (kindOf r) m ≡ m) rs → All SetsNeither rs
+    lines-set-neither [] l m = tt
+    lines-set-neither (r ∷ rs) l m = ((l .0, m .0), lines-set-neither rs (l .1) (m .1))
 
 pub meant-test : (n : ℕ) (t : List ℕ) (rl sl : ℕ) → Accepted (parseAbc t rl sl) → endsLF t ≡ true → known? t ≡ true → quietL? t ≡ true → quietM? t ≡ true → behindBelow? n t ≡ true → Hypotheses t rl sl
 meant-test n t rl sl a e k l m b =
-    record { accepted = a; ended = e; known = known-test t k; sets-neither = both-quiet (blocks t) (quietL-test t l) (quietM-test t m); sung = behind-test n t b }
+    record { accepted = a; ended = e; known = known-test t k; sets-neither = both-set-neither (blocks t) (quietL-test t l) (quietM-test t m); sung = behind-test n t b }

@@ -21,9 +21,9 @@ use Rattle.blocks.proofs.Instance.{reader}
 use Rattle.blocks.proofs.Moves as moves
 use Rattle.blocks.proofs.Lyrics.{Between, Stepwise, behind?, literal-stepwise, stepwise-between, between-literal, literal-test, test-literal}
 use Rattle.blocks.proofs.Scan.{music-lyric}
-use Rattle.blocks.proofs.Rows.{lines-concat, rows-closed, rows-all, rebuilt-self, Closed, Plain, Shape, until-plain, blocks-shape}
+use Rattle.blocks.proofs.TextLines.{lines-concat, lines-closed, lines-all, rebuilt-self, Closed, Plain, Shape, until-plain, blocks-shape}
 
--- LINES: a row's line feed, and a carriage return before it, do not count: cut and trimmed a row is as its line without them
+-- LINES: a line's line feed, and a carriage return before it, do not count: cut and trimmed a line is as its line without them
 white-lf : (q : White) → isAllWhite (whiteStep q 10) ≡ isAllWhite q
 unfolding whiteStep
 white-lf white = refl
@@ -95,7 +95,7 @@ moved-swaps = moves.moved-swaps reader
 pub swaps-moved : {old new : List (List TextLine)} → moves.Swaps reader old new → Moved old new
 swaps-moved = moves.swaps-moved reader
 
--- THE LYRIC CONDITION: as the words have it; or, a lyric row with music after it has music before it; or, if some row is music, each lyric row has a music row before it;
+-- THE LYRIC CONDITION: as the words have it; or, a lyric line with music after it has music before it; or, if some line is music, each lyric line has a music line before it;
 -- or a test. All four are one
 pub lyrics-step : (rs : List TextLine) → LyricsBehind rs → Stepwise reader rs
 lyrics-step = literal-stepwise reader music-lyric
@@ -115,7 +115,7 @@ lyrics-test = literal-test reader
 pub test-lyrics : (rs : List TextLine) → behind? reader rs ≡ true → LyricsBehind rs
 test-lyrics = test-literal reader
 
--- BLOCKS: the moved text has the same rows before its first block, and its blocks are the moved ones
+-- BLOCKS: the moved text has the same lines before its first block, and its blocks are the moved ones
 up-to-again : (rs x : List TextLine) → any isK rs ≡ true → upToK (upToK rs ++ x) ≡ upToK rs
 up-to-again [] x h = absurd (false≢true h)
 up-to-again (r ∷ rs) x h = by-test (isK r) (λ e. rw e) (λ e. rw e (ap {B = List TextLine} (λ l. r ∷ l) (up-to-again rs x (rw e at h))))
@@ -146,16 +146,16 @@ blocks-concat ((r ∷ rs) ∷ cs) p =
     (r ∷ (until-app rs (concat cs) (p .0 .1) ∙ ap (λ (l : List TextLine). rs ++ l) (until-concat cs (p .1)) ∙ append-nil rs) i)
     ∷ (blocks-app rs (concat cs) (p .0 .1) ∙ blocks-concat cs (p .1)) i)
 
--- of any text with a K: row whose rows all end in line feeds, and any blocks in that shape
+-- of any text with a K: line whose lines all end in line feeds, and any blocks in that shape
 module _ (text : List ℕ) (hk : any isK (textLines text) ≡ true) (cs : List (List TextLine)) (sh : All Shape cs) (cl : All Closed (header text ++ (opening text ++ concat cs))) where
-  rows-rebuilt : textLines (rebuilt text cs) ≡ header text ++ (opening text ++ concat cs)
-  rows-rebuilt = lines-concat (header text ++ (opening text ++ concat cs)) cl
+  lines-rebuilt : textLines (rebuilt text cs) ≡ header text ++ (opening text ++ concat cs)
+  lines-rebuilt = lines-concat (header text ++ (opening text ++ concat cs)) cl
 
   after-rebuilt : afterK (textLines (rebuilt text cs)) ≡ opening text ++ concat cs
-  after-rebuilt = ap afterK rows-rebuilt ∙ after-again (textLines text) (opening text ++ concat cs) hk
+  after-rebuilt = ap afterK lines-rebuilt ∙ after-again (textLines text) (opening text ++ concat cs) hk
 
   pub header-rebuilt : header (rebuilt text cs) ≡ header text
-  header-rebuilt = ap upToK rows-rebuilt ∙ up-to-again (textLines text) (opening text ++ concat cs) hk
+  header-rebuilt = ap upToK lines-rebuilt ∙ up-to-again (textLines text) (opening text ++ concat cs) hk
 
   pub opening-rebuilt : opening (rebuilt text cs) ≡ opening text
   opening-rebuilt =
@@ -167,7 +167,7 @@ module _ (text : List ℕ) (hk : any isK (textLines text) ≡ true) (cs : List (
   pub blocks-rebuilt : blocks (rebuilt text cs) ≡ cs
   blocks-rebuilt = ap blocksOf after-rebuilt ∙ blocks-app (opening text) (concat cs) (until-plain (afterK (textLines text))) ∙ blocks-concat cs sh
 
--- a text without a K: row has no block
+-- a text without a K: line has no block
 no-K : (rs : List TextLine) → any isK rs ≡ false → afterK rs ≡ []
 no-K [] h = refl
 no-K (r ∷ rs) h = by-test (isK r) (λ e. absurd (both-true (isK r) e (first e))) (λ e. rw e (no-K rs (rw e at h)))
@@ -175,7 +175,7 @@ no-K (r ∷ rs) h = by-test (isK r) (λ e. absurd (both-true (isK r) e (first e)
     first : isK r ≡ true → isK r ≡ false
     first e = absurd (both-true (any isK (r ∷ rs)) (rw e) h)
 
--- the rows of the moved text all end in line feeds
+-- the lines of the moved text all end in line feeds
 pub moved-closed : (text : List ℕ) → endsLF text ≡ true → (bs : List (List TextLine)) → Moved (blocks text) bs → All Closed (header text ++ (opening text ++ concat bs))
 moved-closed text lf bs mv =
     All-append Closed (header text) (opening text ++ concat bs) (All-left Closed (header text) (opening text ++ concat (blocks text)) whole)
@@ -184,7 +184,7 @@ moved-closed text lf bs mv =
     (All-perm (All Closed) (moved-is-perm (blocks text) bs mv) (All-uncat Closed (blocks text) (All-right Closed (opening text) (concat (blocks text)) tail)))))
   where
     whole : All Closed (header text ++ (opening text ++ concat (blocks text)))
-    whole = subst (All Closed) (sym (rows-all text)) (rows-closed text lf)
+    whole = subst (All Closed) (sym (lines-all text)) (lines-closed text lf)
 
     tail : All Closed (opening text ++ concat (blocks text))
     tail = All-right Closed (header text) (opening text ++ concat (blocks text)) whole

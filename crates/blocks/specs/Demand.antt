@@ -1,6 +1,6 @@
 -- DEMAND 3, of `parseAbc`, in its own words and document 01's ("Blocks that change places"): "The order of the voice blocks changes no byte of the reading."
 -- Proved in proofs/Demand (`demand-3`). That the words below say what they should: proofs/Words, Again, Sets, Parts; that they can be met: proofs/Example; that none
--- can be left out: proofs/Needed. For two editions (T-03) `parseAbc`, and with it each definition below, takes the edition; the frame's claim is applied at each.
+-- can be left out: proofs/Needed.
 use Prim.Native.Nat.{ℕ}
 use mathlib.Core.Path.{_≡_}
 use mathlib.Core.Bool.{Bool, true, false, cond, _&&_, _||_}
@@ -32,7 +32,7 @@ Accepted w = IsReading (w .verdict)
 abbrev pub identifier : TextLine → List ℕ
 identifier r = fields.identifier (drop 2 (clean r))
 
--- "A block and its lines belong to the voice its V: line names": its first row's
+-- "A block and its lines belong to the voice its V: line names": its first line's
 abbrev pub voiceOf : List TextLine → List ℕ
 voiceOf [] = []
 voiceOf (r ∷ rs) = identifier r
@@ -43,13 +43,13 @@ voiceOf (r ∷ rs) = identifier r
 abbrev pub Moved : List (List TextLine) → List (List TextLine) → Type 0
 Moved old new = (v : List ℕ) → filter (λ b. eqText (voiceOf b) v) new ≡ filter (λ b. eqText (voiceOf b) v) old
 
--- one of the rows is a V: line that names v
+-- one of the lines is a V: line that names v
 abbrev pub named : List ℕ → List TextLine → Bool
 named v [] = false
 named v (r ∷ rs) = (isV r && eqText (identifier r) v) || named v rs
 
--- "A field, on its own line or inline, sets L (or M ..) unless 000 leaves that one as it found it, whatever it was": the row sets neither. So a field
--- that writes the present value sets it, and `L:1` or `[L:1/x]` does not (proofs/Sets); the same as: no field of the row sets one (`quiet-field`, `field-quiet`)
+-- "A field, on its own line or inline, sets L (or M ..) unless 000 leaves that one as it found it, whatever it was": the line sets neither. So a field
+-- that writes the present value sets it, and `L:1` or `[L:1/x]` does not (proofs/Sets); the same as: no field of the line sets one (`sets-neither-field`, `field-sets-neither`)
 abbrev pub SetsNeither : TextLine → Type 0
 SetsNeither r = ((u : ℕ) → unitAfter (kindOf r) u ≡ u) × ((m : Meter) → meterAfter (kindOf r) m ≡ m)
 
@@ -69,7 +69,7 @@ blocksAt text p = filter (λ b. eqb (indexOf (voiceOf b) (stateAtBlocks text .en
 abbrev pub voices : List ℕ → List (List ℕ)
 voices text = stateOf (scan (textLines text)) .env .voices
 
--- the rows of part p after the first K: row: "lines between the first K: line and the first block [belong] to the voice then current", and its blocks'
+-- the lines of part p after the first K: line: "lines between the first K: line and the first block [belong] to the voice then current", and its blocks'
 abbrev pub linesAt : List ℕ → ℕ → List TextLine
 linesAt text p = cond (eqb (stateAtBlocks text .part) p) (opening text) [] ++ concat (blocksAt text p)
 
@@ -77,7 +77,7 @@ linesAt text p = cond (eqb (stateAtBlocks text .part) p) (opening text) [] ++ co
 abbrev pub music : TextLine → Bool
 music r = isMusicLine (kindOf r)
 
--- "no lyric line .. comes before its voice's first music line": if r is music and no row before it is, no row before it is a lyric line. Literally:
+-- "no lyric line .. comes before its voice's first music line": if r is music and no line before it is, no line before it is a lyric line. Literally:
 -- of a voice without a music line nothing is asked, whatever lyric lines it has
 abbrev pub LyricsBehind : List TextLine → Type 0
 LyricsBehind rs =
@@ -94,9 +94,8 @@ partIn (reading ps) p = getElem? ps p
 
 -- WHAT IS SUPPOSED of a text, a reading store of rl bytes and a scratch store of sl. Not supposed, though the words have it: that no block sets "other than by
 -- its V: line, the voice, inline included". In an accepted text no other line does (`only-V` in proofs/Scan), so it need not be asked; the theorem is stronger by that.
--- T-13 (blocks that begin with their own L and M) lands here: `sets-neither` becomes All (All Quiet) (blocks text) ⊎ All Brings (blocks text), with Brings of specs/Frame
--- spelled out at `kindOf` as Quiet is. The frame's claim covers it already (`steady-brings` in proofs/Frame): proofs/Demand loses an `inl`, proofs/Tests gains one.
--- Every block must bring both: blocks that neither set nor bring hear what the block before them set
+-- The frame's claim covers blocks that each begin with their own L and M too (`Brings` in specs/Frame, `steady-brings` in proofs/Frame). Every block must bring
+-- both: blocks that neither set nor bring hear what the block before them set
 pub record Hypotheses (text : List ℕ) (rl sl : ℕ) : Type 0 where
   -- "the text is accepted"
   pub accepted : Accepted (parseAbc text rl sl)

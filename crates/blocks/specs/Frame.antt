@@ -1,7 +1,6 @@
--- THE FRAME: demand 3 over any reader that goes from row to row. `Reader` holds a reader's definitions and no proofs, `Laws` what they have to
+-- THE FRAME: demand 3 over any reader that goes from line to line. `Reader` holds a reader's definitions and no proofs, `Laws` what they have to
 -- satisfy, `Claim` the demand. proofs/Claim proves the claim from the laws; proofs/Scan and proofs/End prove the laws of `parseAbc`.
--- Two editions (T-03, "Voice blocks may be moved about in either edition") are two readers: the definitions take the edition as one more
--- argument, the instance in proofs/Instance takes it too, and the claim is applied once more; nothing in this file changes.
+-- Two editions are two readers: the instance in proofs/Instance takes the edition, and the claim is applied once more.
 use Prim.Native.Nat.{ℕ, suc, _+_, _≤_, _<_}
 use mathlib.Core.Path.{_≡_}
 use mathlib.Core.Logic.{_⊎_, _↔_}
@@ -26,7 +25,7 @@ pub record Reader : Type 1 where
   -- the scan
   pub start : State
   pub step : State → TextLine → Step State Item
-  -- what is read off a state: all that later rows and the end may use and that no row of a block changes; the part being read; the
+  -- what is read off a state: all that later lines and the end may use and that no line of a block changes; the part being read; the
   -- notes so far; the lines so far; whether part p has a place for its verses
   pub env : State → Env
   pub cur : State → ℕ
@@ -35,20 +34,20 @@ pub record Reader : Type 1 where
   pub meterIn : State → Meter
   pub notes : State → ℕ
   pub lines : State → ℕ
-  pub slot : State → ℕ → Bool
+  pub versePlace : State → ℕ → Bool
   -- the header is over; the identifiers named so far, in order
   pub Body : Env → Type 0
   pub ids : Env → List (List ℕ)
-  -- what is read off a row: a V: row's identifier; whether it is given to `parse_body_line` (after the first K: row); the notes in it;
+  -- what is read off a line: a V: line's identifier; whether it is given to `parse_body_line` (after the first K: line); the notes in it;
   -- that nothing in it alone is refused; what it makes of L and of M; and its items, where its part has a place for verses or has none
   pub ident : TextLine → List ℕ
   pub isMusic : TextLine → Bool
   pub noteCount : TextLine → ℕ
-  pub Fine : TextLine → Type 0
+  pub NotRefused : TextLine → Type 0
   pub afterL : TextLine → ℕ → ℕ
   pub afterM : TextLine → Meter → Meter
-  pub emit : Env → ℕ → Meter → Bool → TextLine → List Item
-  -- an item that a music row gives
+  pub lineItems : Env → ℕ → Meter → Bool → TextLine → List Item
+  -- an item that a music line gives
   pub isMusicItem : Item → Bool
   -- the most notes and lines
   pub maxNotes : ℕ
@@ -81,7 +80,7 @@ module _ (R : Reader) where
 
   -- THE WORDS OF DEMAND 3
 
-  -- the identifier that names a block's voice: its first row's
+  -- the identifier that names a block's voice: its first line's
   abbrev pub identOf : List TextLine → List ℕ
   identOf [] = []
   identOf (r ∷ rs) = R .ident r
@@ -90,16 +89,16 @@ module _ (R : Reader) where
   abbrev pub Moved : List (List TextLine) → List (List TextLine) → Type 0
   Moved old new = (v : List ℕ) → filter (λ b. eqText (identOf b) v) new ≡ filter (λ b. eqText (identOf b) v) old
 
-  -- `v` is named by a V: row among the rows
+  -- `v` is named by a V: line among the lines
   abbrev pub named : List ℕ → List TextLine → Bool
   named v [] = false
   named v (r ∷ rs) = (isV r && eqText (R .ident r) v) || named v rs
 
-  -- a row leaves L and M as it finds them, whatever they are
+  -- a line leaves L and M as it finds them, whatever they are
   abbrev pub SetsNeither : TextLine → Type 0
   SetsNeither r = ((u : ℕ) → R .afterL r u ≡ u) × ((m : R .Meter) → R .afterM r m ≡ m)
 
-  -- a block that brings its own L and M: its V: row, then an L: row and an M: row, and from both a value is taken whatever was in force before.
+  -- a block that brings its own L and M: its V: line, then an L: line and an M: line, and from both a value is taken whatever was in force before.
   -- Demand 3 does not use it; T-13 does (specs/Demand says where)
   abbrev pub Brings : List TextLine → Type 0
   Brings [] = ⊥
@@ -127,16 +126,16 @@ module _ (R : Reader) where
   abbrev pub blocksAt : List ℕ → ℕ → List (List TextLine)
   blocksAt text p = filter (isPart (R .ids (R .env (before text))) p) (blocks text)
 
-  -- the rows of part p after the first K: row
+  -- the lines of part p after the first K: line
   abbrev pub linesAt : List ℕ → ℕ → List TextLine
   linesAt text p = cond (eqb (R .cur (before text)) p) (opening text) [] ++ concat (blocksAt text p)
 
-  -- some row is music
+  -- some line is music
   abbrev pub Music : List TextLine → Type 0
   Music [] = ⊥
   Music (r ∷ rs) = (R .isMusic r ≡ true) ⊎ Music rs
 
-  -- each lyric row has a music row before it, unless P
+  -- each lyric line has a music line before it, unless P
   abbrev pub LyricsAfterMusic : Type 0 → List TextLine → Type 0
   LyricsAfterMusic P [] = Unit {0}
   LyricsAfterMusic P (r ∷ rs) = (isLyric r ≡ true → P) × LyricsAfterMusic (P ⊎ (R .isMusic r ≡ true)) rs
@@ -150,7 +149,7 @@ module _ (R : Reader) where
     pub ended : endsLF text ≡ true
     pub known : All (λ b. named (identOf b) (header text) ≡ true) (blocks text)
     pub sets-neither : All (All SetsNeither) (blocks text) ⊎ All Brings (blocks text)
-    -- in a part with music each lyric row has a music row before it
+    -- in a part with music each lyric line has a music line before it
     pub sung : (p : ℕ) → Music (linesAt text p) → LyricsAfterMusic ⊥ (linesAt text p)
 
   pub record Conclusion (text : List ℕ) (rl sl : ℕ) : Type 0 where
@@ -166,58 +165,59 @@ module _ (R : Reader) where
 
   -- WHAT THE DEFINITIONS HAVE TO SATISFY
 
-  -- the row goes through, in any state s with nothing of `env` changed, as a row of part p
-  abbrev pub Goes : R .State → TextLine → ℕ → Type 0
-  Goes s r p =
-      (t : R .State) × (R .step s r ≡ on t (tag p (R .emit (R .env s) (R .unitIn s) (R .meterIn s) (R .slot s p) r))) × (R .env t ≡ R .env s) × (R .cur t ≡ p) ×
+  -- the line goes through, in any state s with nothing of `env` changed, as a line of part p
+  abbrev pub GoesThrough : R .State → TextLine → ℕ → Type 0
+  GoesThrough s r p =
+      (t : R .State) × (R .step s r ≡ on t (tag p (R .lineItems (R .env s) (R .unitIn s) (R .meterIn s) (R .versePlace s p) r))) × (R .env t ≡ R .env s) × (R .cur t ≡ p) ×
       (R .unitIn t ≡ R .afterL r (R .unitIn s)) × (R .meterIn t ≡ R .afterM r (R .meterIn s))
 
-  -- no item of a music row
+  -- no item of a music line
   abbrev pub NoMusic : List (R .Item) → Type 0
   NoMusic is = All (λ i. R .isMusicItem i ≡ false) is
 
-  abbrev pub Low : R .State → Type 0
-  Low s = (R .notes s ≤ R .maxNotes) × (R .lines s ≤ R .maxLines)
+  -- notes and lines are within the limits
+  abbrev pub WithinLimits : R .State → Type 0
+  WithinLimits s = (R .notes s ≤ R .maxNotes) × (R .lines s ≤ R .maxLines)
 
   pub record Laws : Type 0 where
-    -- counting: a row that goes through adds its line and its notes, and stays within the caps
-    pub low-start : Low (R .start)
-    pub low : (s t : R .State) (r : TextLine) (a : List (ℕ × R .Item)) → Low s → R .step s r ≡ on t a → Low t
+    -- counting: a line that goes through adds its line and its notes, and stays within the limits
+    pub start-within : WithinLimits (R .start)
+    pub stays-within : (s t : R .State) (r : TextLine) (a : List (ℕ × R .Item)) → WithinLimits s → R .step s r ≡ on t a → WithinLimits t
     pub line : (s t : R .State) (r : TextLine) (a : List (ℕ × R .Item)) → R .step s r ≡ on t a → R .lines t ≡ suc (R .lines s)
     pub note : (s t : R .State) (r : TextLine) (a : List (ℕ × R .Item)) → R .Body (R .env s) → R .step s r ≡ on t a → R .notes t ≡ R .notes s + R .noteCount r
-    -- the header ends with a K: row and does not come back
+    -- the header ends with a K: line and does not come back
     pub body-K : (s t : R .State) (r : TextLine) (a : List (ℕ × R .Item)) → R .step s r ≡ on t a → isK r ≡ true → R .Body (R .env t)
     pub body : (s t : R .State) (r : TextLine) (a : List (ℕ × R .Item)) → R .step s r ≡ on t a → R .Body (R .env s) → R .Body (R .env t)
-    -- a V: row names its voice, and a name is never lost
+    -- a V: line names its voice, and a name is never lost
     pub names : (s t : R .State) (r : TextLine) (a : List (ℕ × R .Item)) → R .step s r ≡ on t a → isV r ≡ true → elem (R .ident r) (R .ids (R .env t)) ≡ true
     pub keeps : (s t : R .State) (r : TextLine) (a : List (ℕ × R .Item)) → R .step s r ≡ on t a → (v : List ℕ) → elem v (R .ids (R .env s)) ≡ true → elem v (R .ids (R .env t)) ≡ true
-    -- after the header only a V: row changes the part that is read
+    -- after the header only a V: line changes the part that is read
     pub stays : (s t : R .State) (r : TextLine) (a : List (ℕ × R .Item)) → R .Body (R .env s) → isV r ≡ false → R .step s r ≡ on t a → R .cur t ≡ R .cur s
-    -- a music row makes its part's place for verses, and a place is never lost
-    pub slots : (s t : R .State) (r : TextLine) (a : List (ℕ × R .Item)) → R .step s r ≡ on t a → (p : ℕ) → R .slot s p ≡ true → R .slot t p ≡ true
-    pub slot-music : (s t : R .State) (r : TextLine) (a : List (ℕ × R .Item)) → R .Body (R .env s) → R .isMusic r ≡ true → R .step s r ≡ on t a → R .slot t (R .cur s) ≡ true
+    -- a music line makes its part's place for verses, and a place is never lost
+    pub verse-place-stays : (s t : R .State) (r : TextLine) (a : List (ℕ × R .Item)) → R .step s r ≡ on t a → (p : ℕ) → R .versePlace s p ≡ true → R .versePlace t p ≡ true
+    pub verse-place-music : (s t : R .State) (r : TextLine) (a : List (ℕ × R .Item)) → R .Body (R .env s) → R .isMusic r ≡ true → R .step s r ≡ on t a → R .versePlace t (R .cur s) ≡ true
     pub music-V : (r : TextLine) → R .isMusic r ≡ true → isV r ≡ false
     pub music-L : (r : TextLine) → isL r ≡ true → R .isMusic r ≡ false
     pub music-M : (r : TextLine) → isM r ≡ true → R .isMusic r ≡ false
     pub music-w : (r : TextLine) → R .isMusic r ≡ true → isLyric r ≡ false
-    -- only a lyric row's items tell whether there is a place for verses; only a music row gives a music row's items, and it makes the place
-    pub slot-unseen : (e : R .Env) (u : ℕ) (m : R .Meter) (b : Bool) (r : TextLine) → isLyric r ≡ false → R .emit e u m b r ≡ R .emit e u m true r
-    -- only a music row's items tell L and M
-    pub unit-meter-unseen : (e : R .Env) (u w : ℕ) (m n : R .Meter) (b : Bool) (r : TextLine) → R .isMusic r ≡ false → R .emit e u m b r ≡ R .emit e w n b r
-    pub no-music : (e : R .Env) (u : ℕ) (m : R .Meter) (b : Bool) (r : TextLine) → R .isMusic r ≡ false → NoMusic (R .emit e u m b r)
-    pub placed : (s t : R .State) (r : TextLine) (a : List (ℕ × R .Item)) → R .step s r ≡ on t a → (p : ℕ) → R .slot t p ≡ false → NoMusic (itemsOf p a)
-    -- a row that goes through has nothing in it that is refused; and one that has not goes through anywhere in the blocks, within the caps
-    pub fine : (s t : R .State) (r : TextLine) (a : List (ℕ × R .Item)) → R .Body (R .env s) → R .step s r ≡ on t a → R .Fine r
-    pub goes : (s : R .State) (r : TextLine) → R .Body (R .env s) → isV r ≡ false → R .Fine r → R .notes s + R .noteCount r ≤ R .maxNotes → R .lines s < R .maxLines → Goes s r (R .cur s)
-    pub goes-V : (s : R .State) (r : TextLine) → R .Body (R .env s) → isV r ≡ true → elem (R .ident r) (R .ids (R .env s)) ≡ true → R .Fine r → R .notes s + R .noteCount r ≤ R .maxNotes → R .lines s < R .maxLines → Goes s r (indexOf (R .ident r) (R .ids (R .env s)))
+    -- only a lyric line's items tell whether there is a place for verses; only a music line gives a music line's items, and it makes the place
+    pub verse-place-unseen : (e : R .Env) (u : ℕ) (m : R .Meter) (b : Bool) (r : TextLine) → isLyric r ≡ false → R .lineItems e u m b r ≡ R .lineItems e u m true r
+    -- only a music line's items tell L and M
+    pub unit-meter-unseen : (e : R .Env) (u w : ℕ) (m n : R .Meter) (b : Bool) (r : TextLine) → R .isMusic r ≡ false → R .lineItems e u m b r ≡ R .lineItems e w n b r
+    pub no-music : (e : R .Env) (u : ℕ) (m : R .Meter) (b : Bool) (r : TextLine) → R .isMusic r ≡ false → NoMusic (R .lineItems e u m b r)
+    pub placed : (s t : R .State) (r : TextLine) (a : List (ℕ × R .Item)) → R .step s r ≡ on t a → (p : ℕ) → R .versePlace t p ≡ false → NoMusic (itemsOf p a)
+    -- a line that goes through has nothing in it that is refused; and one that has not goes through anywhere in the blocks, within the limits
+    pub fine : (s t : R .State) (r : TextLine) (a : List (ℕ × R .Item)) → R .Body (R .env s) → R .step s r ≡ on t a → R .NotRefused r
+    pub goes : (s : R .State) (r : TextLine) → R .Body (R .env s) → isV r ≡ false → R .NotRefused r → R .notes s + R .noteCount r ≤ R .maxNotes → R .lines s < R .maxLines → GoesThrough s r (R .cur s)
+    pub goes-V : (s : R .State) (r : TextLine) → R .Body (R .env s) → isV r ≡ true → elem (R .ident r) (R .ids (R .env s)) ≡ true → R .NotRefused r → R .notes s + R .noteCount r ≤ R .maxNotes → R .lines s < R .maxLines → GoesThrough s r (indexOf (R .ident r) (R .ids (R .env s)))
     -- the answer: no refusal is a reading; a part is made of `env`, its number and its own items, and without music its items do not matter
     pub early-no : (text : List ℕ) (rl sl : ℕ) (a : R .Ans) → R .early text rl sl ≡ some a → R .Accepted a → ⊥
     pub late-no : (n l rl sl : ℕ) → R .Accepted (R .late n l rl sl) → ⊥
     pub alike : (e : R .Env) (f g : ℕ → List (R .Item)) (rl sl : ℕ) → ((p : ℕ) → (f p ≡ g p) ⊎ (NoMusic (f p) × NoMusic (g p))) → R .finish e f rl sl ≡ R .finish e g rl sl
     pub part : (e : R .Env) (f g : ℕ → List (R .Item)) (rl sl rl′ sl′ p : ℕ) → R .Accepted (R .finish e f rl sl) → R .Accepted (R .finish e g rl′ sl′) → f p ≡ g p → R .partOf (R .finish e f rl sl) p ≡ R .partOf (R .finish e g rl′ sl′) p
-    -- before the first line: nothing but the length, and two tests that go row by row
+    -- before the first line: nothing but the length, and two tests that go line by line
     pub early-iff : (text : List ℕ) (rl sl : ℕ) → (R .early text rl sl ≡ none) ↔ (R .Fits (length text) sl × R .Utf8 text × (R .Blank text → ⊥))
-    pub utf8-row : (r t : List ℕ) → closed r ≡ true → R .Utf8 (r ++ t) ↔ (R .Utf8 r × R .Utf8 t)
+    pub utf8-line : (r t : List ℕ) → closed r ≡ true → R .Utf8 (r ++ t) ↔ (R .Utf8 r × R .Utf8 t)
     pub utf8-nil : R .Utf8 []
-    pub blank-row : (r t : List ℕ) → closed r ≡ true → R .Blank (r ++ t) ↔ (R .Blank r × R .Blank t)
+    pub blank-line : (r t : List ℕ) → closed r ≡ true → R .Blank (r ++ t) ↔ (R .Blank r × R .Blank t)
     pub blank-nil : R .Blank []

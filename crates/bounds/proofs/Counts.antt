@@ -1,4 +1,4 @@
--- The counts of a part's five sections by its costs, and the length of its sections by its lines' bytes.
+-- The counts of a part's five sections by its weights, and the length of its sections by its lines' bytes.
 use Prim.Native.Nat.{ℕ, suc, _+_, _-_, _*_, _≤_}
 use mathlib.Core.Path.{_≡_, refl, ap}
 use mathlib.Core.List.{List, [], _∷_, map}
@@ -48,7 +48,7 @@ module _ (p : Weights) where
       let r = concat (map (λ (x : ℕ × Note). x .1 .pitches) xs) in
       omega (arith, pitches-weight xs, mul-suc (p .note) (length xs), length-append (x .1 .pitches) r, mul-add (p .pitch) (length (x .1 .pitches)) (length r), ap (λ (n : ℕ). p .pitch * n) (length-append (x .1 .pitches) r))
 
-  -- THE MEASURES' COST by the counts of the first three sections
+  -- THE MEASURES' WEIGHT by the counts of the first three sections
   pub counts-weight : (q : Part) → measuresWeight p (q .measures) ≡ p .measure * length (q .measures) + p .note * length (notesOf q) + p .pitch * length (pitchesOf q)
   unfolding notesOf pitchesOf
   counts-weight q = omega (arith, notes-weight (q .measures), pitches-weight (allNotes (q .measures)))
@@ -61,7 +61,7 @@ module _ (p : Weights) where
       let r = concat (map (λ (x : ℕ × Syllable). x .1 .text) ys) in
       omega (arith, texts-weight ys, mul-suc (p .syllable) (length ys), mul-add (p .text) (length (y .1 .text)) (length r), ap (λ (n : ℕ). p .text * n) (length-append (y .1 .text) r))
 
-  -- THE SYLLABLES' COST by the counts of the last two
+  -- THE SYLLABLES' WEIGHT by the counts of the last two
   pub lyric-counts : (q : Part) → sum (λ (x : ℕ × Syllable). syllableWeight p (x .1)) (lyrics q) ≡ p .syllable * length (lyrics q) + p .text * length (lyricText q)
   unfolding lyricText
   lyric-counts q = texts-weight (lyrics q)
@@ -69,15 +69,15 @@ module _ (p : Weights) where
   -- A PART BY ITS LINES' BYTES: its music, and its lyrics
   pub music-bound : Covered p → (header : Key) (is : List Item)
       → p .measure * length (build header is .measures) + p .note * length (notesOf (build header is)) + p .pitch * length (pitchesOf (build header is)) ≤ p .measure + p .byte * sum musicBytes is
-  music-bound paid header is = omega (arith, part-weight p paid header is, counts-weight (build header is))
+  music-bound enough header is = omega (arith, part-weight p enough header is, counts-weight (build header is))
 
   -- its lyrics
   pub lyric-bound : Covered p → (header : Key) (is : List Item)
       → p .syllable * length (lyrics (build header is)) + p .text * length (lyricText (build header is)) ≤ p .byte * sum lyricBytes is
   unfolding lyrics
-  lyric-bound paid header is =
+  lyric-bound enough header is =
       let q = build header is in
-      omega (arith, words-weight p paid header is, lyrics-weight p 0 (notesOf q) (q .words), lyric-counts q)
+      omega (arith, words-weight p enough header is, lyrics-weight p 0 (notesOf q) (q .words), lyric-counts q)
 
 -- THE SECTIONS OF A PART: 20 bytes of counts, its first measure, and 23 bytes for each byte of its lines
 section-covered : Covered sectionWeights

@@ -22,7 +22,7 @@ use Rattle.reader.specs.Records.{sections}
 use Rattle.reader.specs.Answer.{isMusic, built, parts, partBytes, encode, measureCount}
 use Rattle.bounds.specs.Weights.{itemBytes}
 use Rattle.bounds.proofs.Counts.{built-bound}
-use Rattle.bounds.proofs.RowWeights.{rows-length, rows-fed}
+use Rattle.bounds.proofs.LineWeights.{rows-length, rows-fed}
 use Rattle.bounds.proofs.ScanWeights.{Holds, holds-map, Silent, voiceCount, Enough, total, Headed, head-budget}
 
 -- EACH ITEM IS OF ONE PART
@@ -85,7 +85,7 @@ unfolding parts built measureCount emptyPart
 silent-parts e a zero q s = refl
 silent-parts e a (suc n) q s = rw (silent-mine q a s) (omega (arith, silent-parts e a n (suc q) s))
 
--- THE SCAN OF A TEXT: nothing is played, or its bytes pay for all
+-- THE SCAN OF A TEXT: nothing is played, or its bytes cover all
 total-is : (a : Items) → total 0 23 23 0 48 a ≡ 23 * sum (λ (x : ℕ × Item). itemBytes (x .1)) a
 total-is [] = refl
 total-is (x ∷ a) = omega (arith, total-is a)

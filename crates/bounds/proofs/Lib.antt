@@ -2,7 +2,7 @@ pub mod TokenWeights
 pub mod PartWeights
 pub mod LyricWeights
 pub mod Counts
-pub mod RowWeights
+pub mod LineWeights
 pub mod ScanWeights
 pub mod Length
 pub mod TokenRanges

@@ -1,4 +1,4 @@
--- The bytes of a part's lyric lines pay for its syllables and their text.
+-- The bytes of a part's lyric lines cover its syllables and their text.
 use Prim.Native.Nat.{ℕ, zero, suc, _+_, _-_, _*_, _≤_, zero-le}
 use mathlib.Core.Path.{_≡_, refl, ap, _∙_}
 use mathlib.Core.Bool.{Bool, true, false, cond, not, _&&_, false≢true}
@@ -61,7 +61,7 @@ module _ (p : Weights) where
   wordWeight hold = 0
   wordWeight (syllable c t) = p .syllable + p .text * length t
 
-  module _ (paid : Covered p) where
+  module _ (enough : Covered p) where
     -- a syllable of a byte at least
     syllable-covered : (x : List ℕ) → not (isNil x) ≡ true → p .syllable + p .text * length (syllableText x) ≤ p .byte * length x
     unfolding syllableText
@@ -70,7 +70,7 @@ module _ (p : Weights) where
         let n = length x in
         let s : suc n ≡ 1 + n = omega arith in
         rw (length-map {B = ℕ} x (λ c. cond (is "~" c) 32 c))
-        (omega (arith, mul-suc (p .text) n, mul-suc (p .byte) n, mul-le-left (p .text) (p .byte) n (omega (arith, paid .syllables)), paid .syllables))
+        (omega (arith, mul-suc (p .text) n, mul-suc (p .byte) n, mul-le-left (p .text) (p .byte) n (omega (arith, enough .syllables)), enough .syllables))
 
     -- the syllables of a word
     syllables-covered : (b a : Bool) (ps : List (List ℕ)) → All (λ x. not (isNil x) ≡ true) ps → sum wordWeight (syllables b a ps) ≤ p .byte * sum length ps
@@ -79,7 +79,7 @@ module _ (p : Weights) where
     syllables-covered b a (x ∷ []) h = omega (arith, syllable-covered x (h .0), mul-add (p .byte) (length x) 0)
     syllables-covered b a (x ∷ y ∷ ps) h = omega (arith, syllable-covered x (h .0), syllables-covered true a (y ∷ ps) (h .1), mul-add (p .byte) (length x) (sum length (y ∷ ps)))
 
-    -- a skip costs nothing
+    -- a skip adds nothing
     skip-covered : (ws : List Word) → sum wordWeight (orSkip ws) ≡ sum wordWeight ws
     unfolding orSkip wordWeight
     skip-covered [] = refl
@@ -105,7 +105,7 @@ module _ (p : Weights) where
     all-covered [] = zero-le
     all-covered (w ∷ ws) = omega (arith, sum-append wordWeight (wordOf w) (wordsOf ws), word-covered w, all-covered ws, mul-add (p .byte) (length w) (sum length ws))
 
-    -- A LYRIC LINE: its bytes pay for its words
+    -- A LYRIC LINE: its bytes cover its words
     pub lyric-covered : (t : List ℕ) → sum wordWeight (lyricWords t) ≤ p .byte * length t
     unfolding lyricWords
     lyric-covered t = omega (arith, all-covered (words whiteAt t), mul-le-right (p .byte) (sum length (words whiteAt t)) (length t) (words-length whiteAt t))
@@ -118,13 +118,13 @@ module _ (p : Weights) where
       by-test (ltb (y .verse) (x .verse)) (λ e. rw (e, put) (omega (arith, put-weight x ys)))
       (λ e. rw (e, put) (by-test (eqb (y .verse) (x .verse)) (λ f. rw (f, put) (omega arith)) (λ f. rw (f, put) (omega arith))))
 
-  -- a hold costs nothing
+  -- a hold adds nothing
   held-weight : (v : ℕ) (ys : List Syllable) → sum (syllableWeight p) (map (held v) ys) ≤ sum (syllableWeight p) ys + 0
   unfolding held syllableWeight
   held-weight v [] = zero-le
   held-weight v (y ∷ ys) = by-test (eqb (y .verse) v) (λ e. rw (e, held) (omega (arith, held-weight v ys))) (λ e. rw (e, held) (omega (arith, held-weight v ys)))
 
-  -- the words of a line cost what they are
+  -- the words of a line add what they weigh
   sing-weight : (start v i : ℕ) (ws : List Word) (notes : List (List Syllable)) → wordsWeight p (sing start v i ws notes) ≤ wordsWeight p notes + sum wordWeight ws
   unfolding sing wordWeight syllableWeight
   sing-weight start v i [] notes = omega arith
@@ -145,10 +145,10 @@ module _ (p : Weights) where
   -- all lyric lines
   sung-weight : Covered p → (ls : List Sung) (notes : List (List Syllable)) → wordsWeight p (sungBy ls notes) ≤ wordsWeight p notes + p .byte * sungBytes ls
   unfolding sungBy
-  sung-weight paid [] notes = omega arith
-  sung-weight paid (l ∷ ls) notes =
+  sung-weight enough [] notes = omega arith
+  sung-weight enough (l ∷ ls) notes =
       let m = sing (l .start) (l .verse) 0 (lyricWords (l .text)) notes in
-      omega (arith, sung-weight paid ls m, sing-weight (l .start) (l .verse) 0 (lyricWords (l .text)) notes, lyric-covered paid (l .text), mul-add (p .byte) (length (l .text)) (sungBytes ls))
+      omega (arith, sung-weight enough ls m, sing-weight (l .start) (l .verse) 0 (lyricWords (l .text)) notes, lyric-covered enough (l .text), mul-add (p .byte) (length (l .text)) (sungBytes ls))
 
   -- notes without syllables
   none-weight : (n : ℕ) → wordsWeight p (replicate n []) ≡ 0
@@ -226,15 +226,15 @@ items-lines header [] s = omega arith
 items-lines header (i ∷ is) s = omega (arith, items-lines header is (onItem header s i), item-lines header s i)
 
 module _ (p : Weights) where
-  -- THE SYLLABLES OF A FINISHED PART cost what its lyric lines' bytes pay
+  -- THE SYLLABLES OF A FINISHED PART are covered by its lyric lines' bytes
   pub words-weight : Covered p → (header : Key) (is : List Item) → wordsWeight p (build header is .words) ≤ p .byte * sum lyricBytes is
   unfolding build finished newPart
-  words-weight paid header is =
+  words-weight enough header is =
       let s = foldl (onItem header) newPart is in
       let e : linesBytes s ≡ sum lyricBytes is = omega (arith, items-lines header is newPart) in
       let r : sungBytes p (reverse (s .verses .lines)) ≡ linesBytes s = sum-reverse (λ (l : Sung). length (l .text)) (s .verses .lines) in
       let n : List (List Syllable) = replicate (s .verses .sounded) [] in
-      omega (arith, sung-weight p paid (reverse (s .verses .lines)) n, none-weight p (s .verses .sounded), ap (λ (x : ℕ). p .byte * x) (r ∙ e))
+      omega (arith, sung-weight p enough (reverse (s .verses .lines)) n, none-weight p (s .verses .sounded), ap (λ (x : ℕ). p .byte * x) (r ∙ e))
 
   -- they are written with the notes that sing them, no more of them than there are
   pub lyrics-weight : (i : ℕ) (xs : List (ℕ × Note)) (ws : List (List Syllable)) → sum (λ (x : ℕ × Syllable). syllableWeight p (x .1)) (lyricsOf i xs ws) ≤ wordsWeight p ws

@@ -1,4 +1,4 @@
--- What each token and item adds to a part, and what the part costs when it is finished.
+-- What each token and item adds to a part, and what the part weighs when it is finished.
 use Prim.Native.Nat.{ℕ, zero, suc, _+_, _-_, _*_, _≤_, _<_, zero-le}
 use mathlib.Core.Path.{_≡_, refl, ap, _∙_}
 use mathlib.Core.Bool.{Bool, true, false, cond}
@@ -72,7 +72,7 @@ module _ (p : Weights) where
       (λ e. rw (e, beamed))
 
   -- THE OPEN MEASURE
-  -- its voice o with other notes, which cost d more at most
+  -- its voice o with other notes, which weigh d more at most
   voice-weight : (o : ℕ) (v : List Note) (d : ℕ) (m : Measure) → voiceWeight p v ≤ voiceWeight p (getD (m .voices) o []) + d
       → measureWeight p (withVoices (alterAt o (λ old. v) (m .voices)) m) ≤ measureWeight p m + d
   unfolding measureWeight
@@ -84,13 +84,13 @@ module _ (p : Weights) where
   not-empty zero (v ∷ vs) x xs e = rw e refl
   not-empty (suc o) (v ∷ vs) x xs e = and-no-right (isNil v) (all isNil vs) (not-empty o vs x xs e)
 
-  -- what is kept back is the price for it at most
+  -- what is kept back is its weight at most
   back-most : (ms : List Measure) → keptBack p ms ≤ p .kept
   unfolding keptBack
   back-most [] = zero-le
   back-most (m ∷ ms) = by-test (isEmpty m) (λ e. rw (e, keptBack) zero-le) (λ e. rw (e, keptBack) (omega arith))
 
-  -- and that price, where the voice has a note
+  -- and that weight, where the voice has a note
   back-full : (o : ℕ) (ms : List Measure) (x : Note) (xs : List Note) → voiceIn o ms ≡ x ∷ xs → keptBack p ms ≡ p .kept
   unfolding keptBack voiceIn
   back-full o [] x xs e = absurd (nil≢cons e)
@@ -100,7 +100,7 @@ module _ (p : Weights) where
   abbrev pub openWeight : List Measure → ℕ
   openWeight ms = measuresWeight p ms + keptBack p ms
 
-  -- the voice being written with other notes, d dearer at most
+  -- the voice being written with other notes, d heavier at most
   set-weight : (v : List Note) (d : ℕ) (s : PartState) → voiceWeight p v ≤ voiceWeight p (voiceNow s) + d → measuresWeight p (setVoice v s .measures) ≤ measuresWeight p (s .measures) + d
   unfolding setVoice onOpen voiceNow voiceIn
   set-weight v d s h = at (s .line .overlay) (s .measures) h
@@ -201,7 +201,7 @@ module _ (p : Weights) where
   unfolding scopesWeight
   no-scopes = omega arith
 
-  -- BEFORE THE FIRST LINE of a part: the price of the measure that it will open
+  -- BEFORE THE FIRST LINE of a part: the weight of the measure that it will open
   unfoldable pub firstWeight : List Measure → ℕ
   firstWeight [] = p .measure
   firstWeight (m ∷ ms) = 0
@@ -221,12 +221,12 @@ module _ (p : Weights) where
   first-leaves f [] = refl
   first-leaves f (m ∷ ms) = refl
 
-  module _ (paid : Covered p) where
-    -- a measure that opens is paid by the barline and what the notes before it kept back
+  module _ (enough : Covered p) where
+    -- a measure that opens is covered by the barline and what the notes before it kept back
     opens-weight : (o : Bool) (b : Barline) (t : Meter) (m : Measure) (ms : List Measure) → isEmpty m ≡ false
         → openWeight (cond o (newMeasure t (leftOf b) ∷ withRight b m ∷ ms) (withRight b m ∷ ms)) ≤ openWeight (m ∷ ms) + p .byte
     unfolding measureWeight keptBack newMeasure
-    opens-weight true b t m ms e = rw (e, keptBack) (omega (arith, paid .measures))
+    opens-weight true b t m ms e = rw (e, keptBack) (omega (arith, enough .measures))
     opens-weight false b t m ms e = omega arith
 
     -- any barline
@@ -266,7 +266,7 @@ module _ (p : Weights) where
     tokens-step [] s = omega arith
     tokens-step (t ∷ ts) s = omega (arith, token-step s t, tokens-step ts (onToken s t))
 
-    -- A MUSIC LINE: its bytes pay, but for the part's first measure
+    -- A MUSIC LINE: its bytes cover it, but for the part's first measure
     opened-weight : (t : Meter) (ms : List Measure) → openWeight (opened t ms) ≤ openWeight ms + firstWeight ms
     unfolding opened measureWeight keptBack newMeasure firstWeight
     opened-weight t [] = omega arith
@@ -283,7 +283,7 @@ module _ (p : Weights) where
     line-step u t l s k =
         let b = lineBegins u t s in
         let e = foldl onToken b (tokens 0 l) in
-        omega (arith, begins-step u t s, tokens-step (tokens 0 l) b, line-covered p paid l, open-first (e .measures) (ready-after b (tokens 0 l) (ready-begins u t s (k .voices-kept) (k .scopes-kept)) .is-open))
+        omega (arith, begins-step u t s, tokens-step (tokens 0 l) b, line-covered p enough l, open-first (e .measures) (ready-after b (tokens 0 l) (ready-begins u t s (k .voices-kept) (k .scopes-kept)) .is-open))
 
     -- A K LINE
     key-step : (header k : Key) (ms : List Measure) (s : PartState) → paidFor (onKey header k ms s) ≤ paidFor s
@@ -317,7 +317,7 @@ module _ (p : Weights) where
     pub reading-weight : (header : Key) (is : List Item) → stateWeight p (foldl (onItem header) newPart is) ≤ p .measure + p .byte * sum musicBytes is
     reading-weight header is = omega (arith, items-covered header is)
 
-  -- THE END OF A PART costs nothing
+  -- THE END OF A PART adds nothing
   dropped-weight : (ms : List Measure) → measuresWeight p (dropped ms) ≤ measuresWeight p ms
   unfolding dropped
   dropped-weight [] = zero-le
@@ -349,10 +349,10 @@ module _ (p : Weights) where
   marked-weight h [] = refl
   marked-weight h (m ∷ ms) = ap (λ (x : ℕ). x + measuresWeight p ms) (mark-weight h m (m .key))
 
-  -- THE MEASURES OF A FINISHED PART: its first, and what its lines' bytes pay
+  -- THE MEASURES OF A FINISHED PART: its first, and what its lines' bytes cover
   pub part-weight : Covered p → (header : Key) (is : List Item) → measuresWeight p (build header is .measures) ≤ p .measure + p .byte * sum musicBytes is
   unfolding build finished closed stateWeight
-  part-weight paid header is =
+  part-weight enough header is =
       let s = foldl (onItem header) newPart is in
       let r = reverse (dropped (s .measures)) in
-      omega (arith, reading-weight paid header is, marked-weight header (close none (map inOrder r)), close-weight none (map inOrder r), sum-map inOrder (measureWeight p) r, sum-same (λ m. measureWeight p (inOrder m)) (measureWeight p) order-weight r, sum-reverse (measureWeight p) (dropped (s .measures)), dropped-weight (s .measures))
+      omega (arith, reading-weight enough header is, marked-weight header (close none (map inOrder r)), close-weight none (map inOrder r), sum-map inOrder (measureWeight p) r, sum-same (λ m. measureWeight p (inOrder m)) (measureWeight p) order-weight r, sum-reverse (measureWeight p) (dropped (s .measures)), dropped-weight (s .measures))

@@ -41,7 +41,7 @@ pub push-bytes : (c : ℕ) (ps : List (List ℕ)) → c < 256 → All Bytes ps �
 push-bytes c [] h k = ((h, tt), tt)
 push-bytes c (p ∷ ps) h k = ((h, k .0), k .1)
 
--- each row
+-- each line of a text
 pub rows-bytes : (t : List ℕ) → Bytes t → All Bytes (textLines t)
 unfolding textLines
 rows-bytes [] h = tt
@@ -236,19 +236,19 @@ act-out s (music hi es l) true h f = (record { meter-in = h .meter-in; voices-in
 act-out s (music true es l) false h f = tt
 act-out s (music false es l) false h f = play-out s es l (firstRefusal (s .notes) es) h f (first-fits (s .notes) es f)
 
--- a row
+-- a line of the text
 step-out : (s : ScanState) (r : TextLine) → ScanFits s → Bytes r → OutFits (step s r)
 unfolding step kindOf OutFits
 step-out s r h b =
     by-test (ltb (s .lines) mostLines) (λ e. rw e (act-out s (lineKind (clean r)) (s .env .inHeader) h (kind-range (clean r) (clean-bytes r b)))) (λ e. rw e tt)
 
--- THE ROWS
+-- THE LINES OF A TEXT
 first-out : (a : Items) (o : Out) → ItemsFit a → OutFits o → OutFits (first a o)
 unfolding OutFits
 first-out a (refuse n l) h f = f
 first-out a (on t b) h f = (f .0, All-append _ a b h (f .1))
 
--- any rows
+-- any lines
 run-out : (rs : List TextLine) (s : ScanState) → ScanFits s → All Bytes rs → OutFits (run step s rs)
 unfolding OutFits
 run-out [] s h b = (h, tt)

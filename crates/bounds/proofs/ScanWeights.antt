@@ -1,4 +1,4 @@
--- The scan: each row pays for its items and for the voice that it names; so many rows, so many items; voices up to 32.
+-- The scan: each line of the text covers its items and the voice that it names; so many lines, so many items; voices up to 32.
 use Prim.Native.Nat.{ℕ, suc, _+_, _-_, _*_, _≤_, _<_, max}
 use mathlib.Core.Path.{_≡_, refl, sym, ap, subst, _∙_}
 use mathlib.Core.Bool.{Bool, true, false}
@@ -20,7 +20,7 @@ use Rattle.reader.specs.Steps.{TextLine, refuse, on, run, first}
 use Rattle.reader.specs.Scan.{Item, ScanState, mostVoices, mostLines, withUnnamed, voicesBefore, playOn, voiceOn, unitOn, act, step, firstRefusal, Out, Items}
 use Rattle.reader.specs.Answer.{isMusic}
 use Rattle.bounds.specs.Weights.{musicBytes, lyricBytes, itemBytes}
-use Rattle.bounds.proofs.RowWeights.{Fed, KindFits, kind-fits, clean-length}
+use Rattle.bounds.proofs.LineWeights.{Fed, KindFits, kind-fits, clean-length}
 
 -- WHAT HOLDS OF A STEP that is not refused
 unfoldable pub Holds : (ScanState → Items → Type 0) → Out → Type 0
@@ -33,13 +33,13 @@ unfolding Holds
 holds-map P Q f (refuse n l) h = tt
 holds-map P Q f (on t a) h = f t a h
 
--- items of a row before those of the rows behind it
+-- items of a line before those of the lines behind it
 holds-first : (P Q : ScanState → Items → Type 0) (a : Items) → ((t : ScanState) (b : Items) → P t b → Q t (a ++ b)) → (o : Out) → Holds P o → Holds Q (first a o)
 unfolding Holds
 holds-first P Q a f (refuse n l) h = tt
 holds-first P Q a f (on t b) h = f t b h
 
--- a row, and the rows behind it
+-- a line, and the lines behind it
 pub holds-run : (P R : ScanState → Items → Type 0) (Q : ScanState → Items → ScanState → Items → Type 0) (s : ScanState) (r : TextLine) (rs : List TextLine)
     → Holds P (step s r) → ((t : ScanState) (a : Items) → P t a → Holds (Q t a) (run step t rs))
     → ((t : ScanState) (a : Items) (u : ScanState) (b : Items) → P t a → Q t a u b → R u (a ++ b)) → Holds R (run step s (r ∷ rs))
@@ -69,16 +69,16 @@ pub before-count : (s : ScanState) → max 1 (length (voicesBefore s)) ≡ voice
 unfolding voicesBefore
 before-count s = unnamed-count (s .opened) (s .env .voices)
 
--- THE BILL OF A ROW: an item's price and what a byte of its line costs, what a byte of the text pays, what is left to the line feed, what a voice costs
-module _ (item byte pays rest voiceWeight : ℕ) where
-  -- what each byte pays covers these prices
+-- THE WEIGHT OF A LINE: an item's, and that of a byte of the item's line; the budget of a byte of the text, and what is left to the line feed; a voice's
+module _ (item byte perByte rest voiceWeight : ℕ) where
+  -- each byte's budget covers these weights
   pub record Enough : Type 0 where
     -- a line of one byte, and its feed
-    pub bytes : byte ≤ pays
-    pub lines : item + byte ≤ pays + rest
-    pub feed : rest ≤ pays
+    pub bytes : byte ≤ perByte
+    pub lines : item + byte ≤ perByte + rest
+    pub feed : rest ≤ perByte
     -- a V line has three bytes, two items and a voice
-    pub voices : 2 * item + voiceWeight ≤ 3 * pays + rest
+    pub voices : 2 * item + voiceWeight ≤ 3 * perByte + rest
 
   -- an item with its line
   abbrev pub weight : Item → ℕ
@@ -88,22 +88,22 @@ module _ (item byte pays rest voiceWeight : ℕ) where
   abbrev pub total : Items → ℕ
   total a = sum (λ (x : ℕ × Item). weight (x .1)) a
 
-  -- n bytes pay for the items and for the voices that are new, but for what is left to the line feed
+  -- n bytes cover the items and the voices that are new, but for what is left to the line feed
   abbrev pub Budget : ScanState → ℕ → ScanState → Items → Type 0
-  Budget s n t a = total a + voiceWeight * voiceCount t ≤ voiceWeight * voiceCount s + pays * n + rest
+  Budget s n t a = total a + voiceWeight * voiceCount t ≤ voiceWeight * voiceCount s + perByte * n + rest
 
-  module _ (paid : Enough) where
-    -- a line of n bytes, of which m + 1 cost
-    line-weight : (m n : ℕ) → suc m ≤ n → item + byte * suc m ≤ pays * n + rest
-    line-weight m n h = omega (arith, mul-le-left byte pays m (paid .bytes), mul-suc byte m, mul-suc pays m, mul-le-right pays (suc m) n h, paid .lines)
+  module _ (enough : Enough) where
+    -- a line of n bytes, of which m + 1 weigh
+    line-weight : (m n : ℕ) → suc m ≤ n → item + byte * suc m ≤ perByte * n + rest
+    line-weight m n h = omega (arith, mul-le-left byte perByte m (enough .bytes), mul-suc byte m, mul-suc perByte m, mul-le-right perByte (suc m) n h, enough .lines)
 
     -- a line of two bytes
-    item-weight : (n : ℕ) → 2 ≤ n → item ≤ pays * n + rest
-    item-weight n h = omega (arith, mul-le-right pays 2 n h, paid .lines, paid .bytes)
+    item-weight : (n : ℕ) → 2 ≤ n → item ≤ perByte * n + rest
+    item-weight n h = omega (arith, mul-le-right perByte 2 n h, enough .lines, enough .bytes)
 
     -- three bytes
-    three : (n : ℕ) → 3 ≤ n → 3 * pays ≤ pays * n
-    three n h = omega (arith, mul-le-right pays 3 n h)
+    three : (n : ℕ) → 3 ≤ n → 3 * perByte ≤ perByte * n
+    three n h = omega (arith, mul-le-right perByte 3 n h)
 
     -- as many voices
     same-voices : (m n : ℕ) → m ≡ n → voiceWeight * m ≡ voiceWeight * n
@@ -121,7 +121,7 @@ module _ (item byte pays rest voiceWeight : ℕ) where
     voice-budget s v vs n e h false true mid = tt
     voice-budget s v vs n e h false false true = tt
     voice-budget s v vs n e h false false false =
-        omega (arith, same-voices (max 1 (length vs)) (voiceCount s) e, one-more (length vs), same-voices (max 1 (length (vs ++ (v ∷ [])))) (max 1 (length vs + 1)) (ap (max 1) (length-append vs (v ∷ []))), three n h, paid .voices)
+        omega (arith, same-voices (max 1 (length vs)) (voiceCount s) e, one-more (length vs), same-voices (max 1 (length (vs ++ (v ∷ [])))) (max 1 (length vs + 1)) (ap (max 1) (length-append vs (v ∷ []))), three n h, enough .voices)
 
     -- a music line
     play-budget : (s : ScanState) (es : List Effect) (l : List ℕ) (n : ℕ) → 1 ≤ length l → length l ≤ n → (o : Option ℕ) → Holds (Budget s n) (playOn s es l o)
@@ -157,28 +157,28 @@ module _ (item byte pays rest voiceWeight : ℕ) where
     act-budget s (music true es l) false n f = tt
     act-budget s (music false es l) false n f = play-budget s es l n (f .0) (f .1) (firstRefusal (s .notes) es)
 
-    -- a row, by its line
+    -- a line of the text, by its line cut and trimmed
     pub line-budget : (s : ScanState) (r : TextLine) → Holds (Budget s (length (clean r))) (step s r)
     unfolding step kindOf Holds
     line-budget s r =
         by-test (ltb (s .lines) mostLines) (λ e. rw e (act-budget s (lineKind (clean r)) (s .env .inHeader) (length (clean r)) (kind-fits (clean r)))) (λ e. rw e tt)
 
-    -- a line feed pays what is left to it
-    fed-row : (m n : ℕ) → m < n → pays * m + rest ≤ pays * n
-    fed-row m n h = omega (arith, mul-le-right pays (suc m) n h, mul-suc pays m, paid .feed)
+    -- a line feed covers what is left to it
+    fed-row : (m n : ℕ) → m < n → perByte * m + rest ≤ perByte * n
+    fed-row m n h = omega (arith, mul-le-right perByte (suc m) n h, mul-suc perByte m, enough .feed)
 
-    -- THE ROWS OF A TEXT
+    -- THE LINES OF A TEXT
     pub lines-budget : (rs : List TextLine) → Fed rs → (s : ScanState) → Holds (Budget s (sum length rs)) (run step s rs)
     unfolding Holds Fed
     lines-budget [] f s = omega arith
     lines-budget (r ∷ []) f s =
         holds-run (Budget s (length (clean r))) (Budget s (length r + 0)) (λ t a u b. (u ≡ t) × (b ≡ [])) s r [] (line-budget s r) (λ t a h. (refl, refl))
-        (λ t a u b h q. omega (arith, h, sum-append (λ (x : ℕ × Item). weight (x .1)) a b, ap total (q .1), ap (λ (x : ScanState). voiceWeight * voiceCount x) (q .0), mul-le-right pays (length (clean r)) (length r + 0) (omega (arith, clean-length r))))
+        (λ t a u b h q. omega (arith, h, sum-append (λ (x : ℕ × Item). weight (x .1)) a b, ap total (q .1), ap (λ (x : ScanState). voiceWeight * voiceCount x) (q .0), mul-le-right perByte (length (clean r)) (length r + 0) (omega (arith, clean-length r))))
     lines-budget (r ∷ q ∷ rs) f s =
         holds-run (Budget s (length (clean r))) (Budget s (sum length (r ∷ q ∷ rs))) (λ t a u b. Budget t (sum length (q ∷ rs)) u b) s r (q ∷ rs) (line-budget s r) (λ t a h. lines-budget (q ∷ rs) (f .1) t)
-        (λ t a u b h k. omega (arith, h, k, sum-append (λ (x : ℕ × Item). weight (x .1)) a b, fed-row (length (clean r)) (length r) (f .0), mul-add pays (length r) (sum length (q ∷ rs))))
+        (λ t a u b h k. omega (arith, h, k, sum-append (λ (x : ℕ × Item). weight (x .1)) a b, fed-row (length (clean r)) (length r) (f .0), mul-add perByte (length r) (sum length (q ∷ rs))))
 
-    -- IN THE HEADER no item is music. A row of it: the header goes on, or this is its K line, of two bytes or more
+    -- IN THE HEADER no item is music. A line of it: the header goes on, or this is its K line, of two bytes or more
     record Head (s : ScanState) (n : ℕ) (t : ScanState) (a : Items) : Type 0 where
       pub silent : Silent a
       pub budget : Budget s n t a
@@ -217,17 +217,17 @@ module _ (item byte pays rest voiceWeight : ℕ) where
         (λ q. rw q (subst (λ (h : Bool). Holds (Head s (length (clean r))) (act s (lineKind (clean r)) h)) (sym e) (act-head s (lineKind (clean r)) (length (clean r)) e (kind-fits (clean r)) (act-budget s (lineKind (clean r)) true (length (clean r)) (kind-fits (clean r))))))
         (λ q. rw q tt)
 
-    -- THE ROWS FROM THE HEADER ON: nothing is played, or the K line and its feed pay for `extra` too
-    module _ (extra : ℕ) (room : item + extra ≤ 3 * pays) where
-      -- what the rows from the header on come to
+    -- THE LINES FROM THE HEADER ON: nothing is played, or the K line and its feed cover `extra` too
+    module _ (extra : ℕ) (room : item + extra ≤ 3 * perByte) where
+      -- what the lines from the header on come to
       abbrev pub Headed : ScanState → ℕ → ScanState → Items → Type 0
-      Headed s n t a = Silent a ⊎ (total a + voiceWeight * voiceCount t + extra ≤ voiceWeight * voiceCount s + pays * n + rest)
+      Headed s n t a = Silent a ⊎ (total a + voiceWeight * voiceCount t + extra ≤ voiceWeight * voiceCount s + perByte * n + rest)
 
       -- a K line and its feed
-      three-bytes : (m n : ℕ) → 2 ≤ m → m < n → item + extra ≤ pays * n
-      three-bytes m n h l = omega (arith, room, mul-le-right pays 3 n (omega arith))
+      three-bytes : (m n : ℕ) → 2 ≤ m → m < n → item + extra ≤ perByte * n
+      three-bytes m n h l = omega (arith, room, mul-le-right perByte 3 n (omega arith))
 
-      -- so it is for any rows
+      -- so it is for any lines
       pub head-budget : (rs : List TextLine) → Fed rs → (s : ScanState) → s .env .inHeader ≡ true → Holds (Headed s (sum length rs)) (run step s rs)
       unfolding Holds Fed
       head-budget [] f s e = inl tt
@@ -239,7 +239,7 @@ module _ (item byte pays rest voiceWeight : ℕ) where
           holds-run (Head s (length (clean r))) (Headed s (length r + n)) (λ t a u b. Headed t n u b ⊎ (Budget t n u b × Key s (length (clean r)) t a)) s r (q ∷ rs) (row-head s r e)
           (λ t a h. behind (λ u i. head-budget (q ∷ rs) (f .1) u i) t a (h .line)) (λ t a u b h k. both t a u b h k)
         where
-          -- this row is the header's K line
+          -- this line is the header's K line
           Key : ScanState → ℕ → ScanState → Items → Type 0
           Key s n t a = (2 ≤ n) × ((total a ≡ item) × (voiceCount t ≡ voiceCount s))
 
@@ -252,6 +252,6 @@ module _ (item byte pays rest voiceWeight : ℕ) where
               → Headed t (sum length (q ∷ rs)) u b ⊎ (Budget t (sum length (q ∷ rs)) u b × Key s (length (clean r)) t a) → Headed s (length r + sum length (q ∷ rs)) u (a ++ b)
           both t a u b h (inl (inl k)) = inl (All-append _ a b (h .silent) k)
           both t a u b h (inl (inr k)) =
-              inr (omega (arith, h .budget, k, sum-append (λ (x : ℕ × Item). weight (x .1)) a b, fed-row (length (clean r)) (length r) (f .0), mul-add pays (length r) (sum length (q ∷ rs))))
+              inr (omega (arith, h .budget, k, sum-append (λ (x : ℕ × Item). weight (x .1)) a b, fed-row (length (clean r)) (length r) (f .0), mul-add perByte (length r) (sum length (q ∷ rs))))
           both t a u b h (inr (k, (two, (one, same)))) =
-              inr (omega (arith, k, one, sum-append (λ (x : ℕ × Item). weight (x .1)) a b, three-bytes (length (clean r)) (length r) two (f .0), mul-add pays (length r) (sum length (q ∷ rs)), same-voices (voiceCount t) (voiceCount s) same))
+              inr (omega (arith, k, one, sum-append (λ (x : ℕ × Item). weight (x .1)) a b, three-bytes (length (clean r)) (length r) two (f .0), mul-add perByte (length r) (sum length (q ∷ rs)), same-voices (voiceCount t) (voiceCount s) same))

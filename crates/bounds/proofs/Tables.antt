@@ -1,5 +1,5 @@
 -- WHAT A SCRATCH STORE MUST HOLD: each count of a part by its lines' bytes, and the tables of the line table and any one part by the text's bytes.
--- The prices stand in specs/Prices.
+-- The weights stand in specs/Weights.
 use Prim.Native.Nat.{ℕ, _+_, _-_, _*_, _≤_, zero-le}
 use mathlib.Core.Path.{_≡_, refl, ap, subst}
 use mathlib.Core.List.{List, [], _∷_, _++_}
@@ -25,7 +25,7 @@ use Rattle.bounds.specs.Weights.{Weights, Covered, tableWeights, itemRow
 use Rattle.bounds.proofs.TokenWeights.{line-covered}
 use Rattle.bounds.proofs.PartWeights.{tokens-step, begins-step, reading-weight, items-covered}
 use Rattle.bounds.proofs.Counts.{music-bound, lyric-bound, bytes-sum}
-use Rattle.bounds.proofs.RowWeights.{rows-length, rows-fed}
+use Rattle.bounds.proofs.LineWeights.{rows-length, rows-fed}
 use Rattle.bounds.proofs.ScanWeights.{Holds, Enough, total, Budget, lines-budget}
 
 -- EACH COUNT OF A PART
@@ -57,13 +57,13 @@ accidentals-most header is =
     omega (arith, reading-weight accidentalWeights (record { notes = lit≤ tt; measures = lit≤ tt; accidentals = lit≤ tt; syllables = lit≤ tt }) header is, sum-mul 1 length (s .scopes))
 
 -- WHILE A PART IS READ
-module _ (p : Weights) (paid : Covered p) where
+module _ (p : Weights) (enough : Covered p) where
   -- in a line, after any of its tokens: what came before, and the line's bytes
   pub within-line : (header : Key) (is : List Item) (u : ℕ) (m : Meter) (l : List ℕ) (ts us : List Token) → tokens 0 l ≡ ts ++ us
       → stateWeight p (foldl onToken (lineBegins u m (foldl (onItem header) newPart is)) ts) ≤ p .measure + p .byte * (sum musicBytes is + length l)
   within-line header is u m l ts us e =
       let s = foldl (onItem header) newPart is in
-      omega (arith, tokens-step p paid ts (lineBegins u m s), begins-step p paid u m s, items-covered p paid header is, line-covered p paid l, ap (sum (tokenWeight p)) e, sum-append (tokenWeight p) ts us, mul-add (p .byte) (sum musicBytes is) (length l))
+      omega (arith, tokens-step p enough ts (lineBegins u m s), begins-step p enough u m s, items-covered p enough header is, line-covered p enough l, ap (sum (tokenWeight p)) e, sum-append (tokenWeight p) ts us, mul-add (p .byte) (sum musicBytes is) (length l))
 
 -- ALL ITEMS
 item-covered : Enough 2 0 1 1 0
@@ -90,7 +90,7 @@ mine-bytes q (x ∷ a) = by-test (eqb (x .0) q) (λ e. rw e (omega (arith, mine-
 table-enough : Enough itemRowWidth (tableWeights .byte) scratchPerByte scratchPerLineFeed 0
 table-enough = record { bytes = lit≤ tt; lines = lit≤ tt; feed = lit≤ tt; voices = lit≤ tt }
 
--- the tables' prices are covered
+-- the tables' weights are covered
 table-covered : Covered tableWeights
 table-covered = record { notes = lit≤ tt; measures = lit≤ tt; accidentals = lit≤ tt; syllables = lit≤ tt }
 
@@ -99,7 +99,7 @@ table-total : (a : Items) → total itemRowWidth (tableWeights .byte) scratchPer
 table-total [] = refl
 table-total (x ∷ a) = omega (arith, table-total a)
 
--- the rows of the line table and all lines' bytes at the tables' price
+-- the rows of the line table and all lines' bytes at the tables' weight
 pub lines-most : (text : List ℕ) (t : ScanState) (a : Items) → scan (textLines text) ≡ on t a
     → itemRowWidth * length a + tableWeights .byte * sum (λ (x : ℕ × Item). itemBytes (x .1)) a ≤ scratchPerByte * length text + scratchPerLineFeed
 unfolding scan Holds

@@ -1,4 +1,4 @@
--- The bytes of a token pay for what it adds, so a line's bytes pay for all its tokens: the law of sizes/proofs/Weights, at one price for every byte.
+-- The bytes of a token cover what it adds, so a line's bytes cover all its tokens: the law of capacity's Weights, at one budget for every byte.
 use Prim.Native.Nat.{ℕ, zero, suc, _+_, _-_, _*_, pred, _≤_, zero-le}
 use mathlib.Core.Path.{_≡_}
 use mathlib.Core.Option.{Option, none, some}
@@ -17,23 +17,23 @@ use Rattle.capacity.specs.Covers.{signCount, signsIn, makes}
 use Rattle.capacity.proofs.Weights as weights
 use Rattle.bounds.specs.Weights.{Weights, Covered, markWeight, writtenWeight, tokenWeight}
 
--- a sum of one price
+-- a sum of one number
 same-weight : (b : ℕ) (l : List ℕ) → sum (λ c. b) l ≡ b * length l
 same-weight b [] = omega arith
 same-weight b (c ∷ l) = omega (arith, same-weight b l, mul-suc b (length l))
 
-module _ (p : Weights) (paid : Covered p) where
-  -- the same prices by byte: a note keeps back its share, a measure costs what a byte pays
-  abbrev by-byte : weights.Prices
+module _ (p : Weights) (enough : Covered p) where
+  -- the same weights by byte: a note keeps back its share, a measure weighs what a byte covers
+  abbrev by-byte : weights.Weights
   by-byte = record { measure = p .byte; note = p .note + p .kept; pitch = p .pitch; accidental = p .accidental; byte = λ c. p .byte }
 
   covered : weights.Covered by-byte
   covered =
       record {
-        letters = λ c e. omega (arith, paid .notes);
-        rests = λ c e. omega (arith, paid .notes);
+        letters = λ c e. omega (arith, enough .notes);
+        rests = λ c e. omega (arith, enough .notes);
         bars = λ c e. omega arith;
-        signs = λ c e. paid .accidentals;
+        signs = λ c e. enough .accidentals;
       }
 
   mark-same : (a : Option Accidental) → markWeight p a ≡ p .accidental * signCount a
@@ -47,8 +47,8 @@ module _ (p : Weights) (paid : Covered p) where
   written-same (w ∷ ws) =
       omega (arith, mark-same (w .sign), written-same ws, mul-suc (p .pitch) (length ws), mul-add (p .accidental) (signCount (w .sign)) (signsIn ws))
 
-  token-same : (t : Token) → tokenWeight p t ≤ weights.cost by-byte covered (makes t)
-  unfolding tokenWeight writtenWeight weights.cost
+  token-same : (t : Token) → tokenWeight p t ≤ weights.weight by-byte covered (makes t)
+  unfolding tokenWeight writtenWeight weights.weight
   token-same space = zero-le
   token-same overlay = zero-le
   token-same quoted = zero-le
@@ -71,7 +71,7 @@ module _ (p : Weights) (paid : Covered p) where
   token-same skipped = zero-le
   token-same (refused n) = zero-le
 
-  -- the bytes of a token pay for it
+  -- the bytes of a token cover it
   pub token-covered : (c : ℕ) (s : List ℕ) → tokenWeight p (tokenOf (c ∷ s) .token) ≤ p .byte * tokenOf (c ∷ s) .used
   token-covered c s =
       let t = tokenOf (c ∷ s) in
@@ -79,7 +79,7 @@ module _ (p : Weights) (paid : Covered p) where
       let n : length l ≤ t .used = simp length-take (omega arith) in
       omega (arith, token-same (t .token), weights.token-covered by-byte covered c s, same-weight (p .byte) l, mul-le-right (p .byte) (length l) (t .used) n)
 
-  -- THE BYTES OF A LINE PAY FOR ITS TOKENS; k of them belong to a token that is paid for
+  -- THE BYTES OF A LINE COVER ITS TOKENS; k of them belong to a token that is covered
   tokens-covered : (k : ℕ) (s : List ℕ) → sum (tokenWeight p) (tokens k s) ≤ p .byte * (length s - k)
   unfolding tokens
   tokens-covered k [] = zero-le

@@ -1,5 +1,5 @@
--- WHAT A PART COSTS: so many bytes for each measure, note, pitch, accidental in force, syllable, byte of lyric text and item, and so many that
--- each byte of the part's lines pays. The reading's sections and the tables of a scratch store are such prices; the laws hold for any that are covered.
+-- WEIGHTS, in bytes of a store: of each measure, note, pitch, accidental in force, syllable, byte of lyric text and item; and the budget of each byte
+-- of the part's lines, which covers them. The reading's sections and the tables of a scratch store are such weights; the laws hold for any that are covered.
 use Prim.Native.Nat.{ℕ, _+_, _*_, _≤_}
 use mathlib.Core.Bool.{cond}
 use mathlib.Core.Option.{Option, none, some}
@@ -14,7 +14,7 @@ use Rattle.reader.specs.State.{Note, Measure, PartState, isEmpty}
 use Rattle.reader.specs.Lyrics.{Syllable}
 use Rattle.reader.specs.Records.{measureWidth, noteWidth, pitchWidth, lyricWidth}
 
--- the prices
+-- the weights
 pub record Weights : Type 0 where
   pub measure : ℕ
   pub note : ℕ
@@ -22,19 +22,19 @@ pub record Weights : Type 0 where
   pub accidental : ℕ
   pub syllable : ℕ
   pub text : ℕ
-  -- what each byte of a line pays
+  -- the budget of each byte of a line
   pub byte : ℕ
   -- what a measure's notes keep back for the barline behind them: no measure opens behind one without notes
   pub kept : ℕ
 
--- what the bytes pay covers the prices: a note of one byte, a barline of one byte behind a note, a sign of one byte, a syllable of one byte
+-- the budget covers the weights: a note of one byte, a barline of one byte behind a note, a sign of one byte, a syllable of one byte
 pub record Covered (p : Weights) : Type 0 where
   pub notes : p .note + p .pitch + p .kept ≤ p .byte
   pub measures : p .measure ≤ p .byte + p .kept
   pub accidentals : p .accidental ≤ p .byte
   pub syllables : p .syllable + p .text ≤ p .byte
 
--- THE PRICES IN USE
+-- THE WEIGHTS IN USE
 -- the sections of a reading, by their records' widths: 23 bytes for each byte of a line
 abbrev pub sectionWeights : Weights
 sectionWeights =
@@ -48,11 +48,11 @@ tableWeights = record { measure = 28; note = 20; pitch = 5; accidental = 8; syll
 abbrev pub itemRowWidth : ℕ
 itemRowWidth = 16
 
--- what each byte of the text pays for the line table and one part's tables
+-- the budget of each byte of the text for the line table and one part's tables
 abbrev pub scratchPerByte : ℕ
 scratchPerByte = 32
 
--- what is left to a row's line feed
+-- what is left to a line's line feed
 abbrev pub scratchPerLineFeed : ℕ
 scratchPerLineFeed = 20
 
@@ -151,7 +151,7 @@ module _ (p : Weights) where
   tokenWeight skipped = 0
   tokenWeight (refused n) = 0
 
--- the bytes of an item's line that pay for music
+-- the bytes of an item's line that cover music
 unfoldable pub musicBytes : Item → ℕ
 musicBytes (voiceDeclared b) = 0
 musicBytes reset = 0

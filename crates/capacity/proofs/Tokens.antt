@@ -14,7 +14,7 @@ use Rattle.standard.specs.Pitches.{isLetter}
 use Rattle.reader.specs.Tokens.{tokenOf}
 use Rattle.capacity.specs.Sizes.{isBar, isRest, isSign, bars, letters, rests, signs, tones}
 use Rattle.capacity.specs.Covers.{Covers, CoversBoth}
-use Rattle.capacity.proofs.Weights.{Prices, Covered, cost, token-covered}
+use Rattle.capacity.proofs.Weights.{Weights, Covered, weight, token-covered}
 
 -- HOW MANY PASS A TEST, in both parts of a list
 pub count-both : (p : ℕ → Bool) (s t : List ℕ) → length (filter p (s ++ t)) ≡ length (filter p s) + length (filter p t)
@@ -82,16 +82,16 @@ count-two p q s = omega (arith, count-sum p s, count-sum q s, both s)
     both (c ∷ s) = omega (arith, both s)
 
 -- THE FOUR TABLES, a byte for a row
-abbrev for-heads : Prices
+abbrev for-heads : Weights
 for-heads = record { measure = 1; note = 0; pitch = 0; accidental = 0; byte = λ c. one (isBar c) }
 
-abbrev for-notes : Prices
+abbrev for-notes : Weights
 for-notes = record { measure = 0; note = 1; pitch = 0; accidental = 0; byte = λ c. one (isLetter c) + one (isRest c) }
 
-abbrev for-pitches : Prices
+abbrev for-pitches : Weights
 for-pitches = record { measure = 0; note = 0; pitch = 1; accidental = 0; byte = λ c. one (isLetter c) }
 
-abbrev for-scopes : Prices
+abbrev for-scopes : Weights
 for-scopes = record { measure = 0; note = 0; pitch = 0; accidental = 1; byte = λ c. one (isSign c) }
 
 heads-covered : Covered for-heads
@@ -113,7 +113,7 @@ scopes-covered : Covered for-scopes
 scopes-covered = record { letters = λ c e. zero-le; rests = λ c e. zero-le; bars = λ c e. zero-le; signs = λ c e. one-covered (isSign c) e }
 
 first-cover : (c : ℕ) (s : List ℕ) → Covers (tokenOf (c ∷ s) .token) (take (tokenOf (c ∷ s) .used) (c ∷ s))
-unfolding cost bars letters rests signs
+unfolding weight bars letters rests signs
 first-cover c s =
     let l = take (tokenOf (c ∷ s) .used) (c ∷ s) in
     record {
@@ -123,21 +123,21 @@ first-cover c s =
       signs-cover = omega (arith, token-covered for-scopes scopes-covered c s, count-sum isSign l);
     }
 
--- THE BYTES OF A TOKEN pay for it
+-- THE BYTES OF A TOKEN cover it
 pub token-cover : (s : List ℕ) → 0 < length s → Covers (tokenOf s .token) (take (tokenOf s .used) s)
 token-cover [] h = absurd (not-suc-le-zero h)
 token-cover (c ∷ s) h = first-cover c s
 
 -- at a position of a line
-pub token-spends : (s : List ℕ) (i : ℕ) → i < length s → CoversBoth (tokenOf (drop i s) .token) (drop i s) (drop (i + tokenOf (drop i s) .used) s)
-token-spends s i h =
+pub token-cover-at : (s : List ℕ) (i : ℕ) → i < length s → CoversBoth (tokenOf (drop i s) .token) (drop i s) (drop (i + tokenOf (drop i s) .used) s)
+token-cover-at s i h =
     let u = tokenOf (drop i s) .used in
     let l = drop i s in
-    let paid = token-cover l (omega (arith, length-drop i s)) in
+    let enough = token-cover l (omega (arith, length-drop i s)) in
     rw (← drop-drop u i s)
     (record {
-      bars-left = omega (arith, paid .bars-cover, bars-split u l);
-      tones-left = omega (arith, paid .tones-cover, tones-split u l);
-      letters-left = omega (arith, paid .letters-cover, letters-split u l);
-      signs-left = omega (arith, paid .signs-cover, signs-split u l);
+      bars-left = omega (arith, enough .bars-cover, bars-split u l);
+      tones-left = omega (arith, enough .tones-cover, tones-split u l);
+      letters-left = omega (arith, enough .letters-cover, letters-split u l);
+      signs-left = omega (arith, enough .signs-cover, signs-split u l);
     })

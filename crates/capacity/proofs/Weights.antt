@@ -1,5 +1,5 @@
--- WHAT EACH BYTE PAYS: where a letter pays for a note and a pitch, a rest's byte for a note, a barline's for a measure and a sign for an accidental, the bytes
--- that a token takes pay for what it makes.
+-- WHAT EACH BYTE COVERS: where a letter covers a note and a pitch, a rest's byte a note, a barline's a measure and a sign an accidental, the bytes
+-- that a token takes cover what it makes.
 use Prim.Native.Nat.{ℕ, zero, suc, _+_, _-_, _*_, _≤_, _<_, zero-le}
 use mathlib.Core.Path.{_≡_, refl, ap, sym, _∙_}
 use mathlib.Core.Bool.{Bool, true, false, cond, _&&_, _||_}
@@ -13,7 +13,7 @@ use lib.Seq.{take-add}
 use borrow.Author.Tests.{eqb-true}
 use Rattle.laws.specs.Lists.{countWhile, sum, All}
 use Rattle.laws.proofs.Bools.{by-test, or-left, or-right}
-use Rattle.laws.proofs.Lists.{sum-append}
+use Rattle.laws.proofs.Lists.{sum-append, sum-drop, sum-more}
 use Rattle.laws.proofs.Spans.{count-while-yes, count-while-no}
 use Rattle.standard.specs.Bytes.{is, isDigit, first}
 use Rattle.standard.specs.Bars.{Symbol, barSymbols, symbolAt}
@@ -32,17 +32,6 @@ use Rattle.reader.proofs.TokenBounds.{inChord, octave-in-chord, quarter-in-chor
 use Rattle.capacity.specs.Sizes.{isBar, isRest, isSign}
 use Rattle.capacity.specs.Covers.{signCount, signsIn, Rows, makes}
 use Rattle.capacity.proofs.Free.{Makes-nothing, closed-free, broken-free, tuplet-free, volta-free, field-free}
-
--- SUMS over a part of a list
-module _ {ℓ} {A : Type ℓ} (f : A → ℕ) where
-  pub sum-drop : (n : ℕ) (l : List A) → sum f (drop n l) ≤ sum f l
-  sum-drop n l = omega (arith, sym (sum-append f (take n l) (drop n l)) ∙ ap (sum f) (take-append-drop n l))
-
-  pub sum-more : (m n : ℕ) (l : List A) → m ≤ n → sum f (take m l) ≤ sum f (take n l)
-  sum-more zero n l h = zero-le
-  sum-more (suc m) zero l h = absurd (not-suc-le-zero h)
-  sum-more (suc m) (suc n) [] h = zero-le
-  sum-more (suc m) (suc n) (x ∷ l) h = omega (arith, sum-more m n l (omega arith))
 
 -- CLASSES: a barline's byte is `|` or `:`, a rest's one of four
 abbrev Begins : Class → ℕ → Type 0
@@ -72,57 +61,57 @@ unfolding classOf classes
 class-begins c =
     begins-in classes (λ c e. tt, (λ c e. tt, (λ c e. tt, (λ c e. tt, (λ c e. tt, (λ c e. tt, (λ c e. tt, (λ c e. tt, (λ c e. tt, (λ c e. tt, (λ c e. tt, (λ c e. tt, (λ c e. tt, (λ c e. tt, (λ c e. rw (eqb-true c 124 e), (λ c e. rw (eqb-true c 58 e), (λ c e. tt, (λ c e. rw (eqb-true c 122 e), (λ c e. rw (eqb-true c 120 e), (λ c e. rw (eqb-true c 90 e), (λ c e. rw (eqb-true c 88 e), tt))))))))))))))))))))) c
 
--- THE PRICES of the rows, and what each byte pays
-pub record Prices : Type 0 where
+-- THE WEIGHTS of the rows, and the budget of each byte
+pub record Weights : Type 0 where
   pub measure : ℕ
   pub note : ℕ
   pub pitch : ℕ
   pub accidental : ℕ
   pub byte : ℕ → ℕ
 
-pub record Covered (p : Prices) : Type 0 where
+pub record Covered (p : Weights) : Type 0 where
   pub letters : (c : ℕ) → isLetter c ≡ true → p .note + p .pitch ≤ p .byte c
   pub rests : (c : ℕ) → isRest c ≡ true → p .note ≤ p .byte c
   pub bars : (c : ℕ) → isBar c ≡ true → p .measure ≤ p .byte c
   pub signs : (c : ℕ) → isSign c ≡ true → p .accidental ≤ p .byte c
 
-module _ (p : Prices) (paid : Covered p) where
-  -- what a token's rows cost
-  unfoldable pub cost : Rows → ℕ
-  cost r = p .measure * r .heads + p .note * r .notes + p .pitch * r .pitches + p .accidental * r .scopes
+module _ (p : Weights) (enough : Covered p) where
+  -- what a token's rows weigh
+  unfoldable pub weight : Rows → ℕ
+  weight r = p .measure * r .heads + p .note * r .notes + p .pitch * r .pitches + p .accidental * r .scopes
 
-  -- what bytes pay
-  abbrev pub worth : List ℕ → ℕ
-  worth l = sum (p .byte) l
+  -- the budget of bytes
+  abbrev pub budget : List ℕ → ℕ
+  budget l = sum (p .byte) l
 
-  -- the bytes of a token pay for it
-  abbrev Fair : Taken → List ℕ → Type 0
-  Fair t s = cost (makes (t .token)) ≤ worth (take (t .used) s)
+  -- the bytes of a token cover it
+  abbrev CoveredBy : Taken → List ℕ → Type 0
+  CoveredBy t s = weight (makes (t .token)) ≤ budget (take (t .used) s)
 
-  free : (t : Taken) (s : List ℕ) → Makes-nothing t → Fair t s
-  unfolding cost
+  free : (t : Taken) (s : List ℕ) → Makes-nothing t → CoveredBy t s
+  unfolding weight
   free t s e = rw e (omega arith)
 
   -- a first byte, of a token
-  first-byte : (c : ℕ) (s : List ℕ) (n : ℕ) → 1 ≤ n → p .byte c ≤ worth (take n (c ∷ s))
+  first-byte : (c : ℕ) (s : List ℕ) (n : ℕ) → 1 ≤ n → p .byte c ≤ budget (take n (c ∷ s))
   first-byte c s n h = omega (arith, sum-more (p .byte) 1 n (c ∷ s) h)
 
   -- A CHORD'S PITCHES, if none is refused: each as a note with its accidental
-  unfoldable Costs : ℕ → Option (List Written) → Type 0
-  Costs n none = Unit {0}
-  Costs n (some ws) = p .note * length ws + p .pitch * length ws + p .accidental * signsIn ws ≤ n
+  unfoldable WeightWithin : ℕ → Option (List Written) → Type 0
+  WeightWithin n none = Unit {0}
+  WeightWithin n (some ws) = p .note * length ws + p .pitch * length ws + p .accidental * signsIn ws ≤ n
 
   abbrev mark-weight : Option Accidental → ℕ
   mark-weight a = p .accidental * signCount a
 
-  weights-more : (m n : ℕ) (o : Option (List Written)) → m ≤ n → Costs m o → Costs n o
-  unfolding Costs
+  weights-more : (m n : ℕ) (o : Option (List Written)) → m ≤ n → WeightWithin m o → WeightWithin n o
+  unfolding WeightWithin
   weights-more m n none h k = tt
   weights-more m n (some ws) h k = omega arith
 
   -- one pitch before the others
-  weights-cons : (c : ℕ) (a : Option Accidental) (o : Octave) (n : ℕ) (r : Option (List Written)) → Costs n r → Costs (p .note + p .pitch + mark-weight a + n) (consPitch c a o r)
-  unfolding Costs consPitch
+  weights-cons : (c : ℕ) (a : Option Accidental) (o : Octave) (n : ℕ) (r : Option (List Written)) → WeightWithin n r → WeightWithin (p .note + p .pitch + mark-weight a + n) (consPitch c a o r)
+  unfolding WeightWithin consPitch
   weights-cons c a o n none h = tt
   weights-cons c a o n (some ws) h =
       by-test (o .fine)
@@ -130,34 +119,34 @@ module _ (p : Prices) (paid : Covered p) where
       (omega (arith, mul-suc (p .note) (length ws), mul-suc (p .pitch) (length ws), mul-add (p .accidental) (signCount a) (signsIn ws))))
       (λ e. rw (e, consPitch) tt)
 
-  -- a sign pays for an accidental
+  -- a sign covers an accidental
   mark-covered : (c : ℕ) (a : Option Accidental) → isSign c ≡ true → mark-weight a ≤ p .byte c
   mark-covered c none e = omega arith
-  mark-covered c (some a) e = omega (arith, paid .signs c e)
+  mark-covered c (some a) e = omega (arith, enough .signs c e)
 
   -- the bytes up to the chord's end
   abbrev inside : List ℕ → List ℕ
   inside s = take (countWhile inChord s) s
 
-  -- what they pay when k of them are passed, and what is paid for the accidental that waits
+  -- their budget when k of them are passed, and the weight of the accidental that waits
   abbrev bound : ℕ → Option Accidental → List ℕ → ℕ
-  bound k a s = worth (drop k (inside s)) + mark-weight a
+  bound k a s = budget (drop k (inside s)) + mark-weight a
 
-  sign-bound : (k c : ℕ) (a b : Option Accidental) (s : List ℕ) → isSign c ≡ true → bound k b s ≤ p .byte c + worth (inside s) + mark-weight a
+  sign-bound : (k c : ℕ) (a b : Option Accidental) (s : List ℕ) → isSign c ≡ true → bound k b s ≤ p .byte c + budget (inside s) + mark-weight a
   sign-bound k c a b s e = omega (arith, mark-covered c b e, sum-drop (p .byte) k (inside s))
 
   letter-bound : (k c : ℕ) (a : Option Accidental) (s : List ℕ) → isLetter c ≡ true
-      → p .note + p .pitch + mark-weight a + bound k none s ≤ p .byte c + worth (inside s) + mark-weight a
-  letter-bound k c a s e = omega (arith, paid .letters c e, sum-drop (p .byte) k (inside s))
+      → p .note + p .pitch + mark-weight a + bound k none s ≤ p .byte c + budget (inside s) + mark-weight a
+  letter-bound k c a s e = omega (arith, enough .letters c e, sum-drop (p .byte) k (inside s))
 
-  -- the pitches up to the chord's end cost what the bytes up to it pay
-  chord-covered : (k : ℕ) (a : Option Accidental) (s : List ℕ) → k ≤ countWhile inChord s → Costs (bound k a s) (chordOf k a s)
-  unfolding Costs chordOf
+  -- the pitches up to the chord's end are covered by the bytes up to it
+  chord-covered : (k : ℕ) (a : Option Accidental) (s : List ℕ) → k ≤ countWhile inChord s → WeightWithin (bound k a s) (chordOf k a s)
+  unfolding WeightWithin chordOf
   chord-covered k a [] h = omega arith
   chord-covered zero a (c ∷ s) h =
       by-test (is "]" c) (λ e. rw (e, chordOf) (omega arith))
       (λ e. rw (count-while-yes inChord c s (rw e), e, chordOf)
-      (let most = p .byte c + worth (inside s) + mark-weight a in
+      (let most = p .byte c + budget (inside s) + mark-weight a in
       by-test (is "^" c || is "_" c)
       (λ f. rw (f, chordOf)
       (let y : isSign c ≡ true = or-left (is "^" c || is "_" c) (is "=" c) f in
@@ -189,37 +178,37 @@ module _ (p : Prices) (paid : Covered p) where
       (λ e. absurd (not-suc-le-zero (rw (count-while-no inChord c s e) at h)))
 
   -- A CHORD; its first byte is the `[`, and n bytes behind it reach to its end
-  sounds-covered : (u : ℕ) (r : List ℕ) (c : ℕ) (s : List ℕ) (n : ℕ) (o : Option (List Written)) → n < u → Costs (worth (take n s)) o → Fair (chordTaken u r o) (c ∷ s)
-  unfolding Costs chordTaken cost
+  sounds-covered : (u : ℕ) (r : List ℕ) (c : ℕ) (s : List ℕ) (n : ℕ) (o : Option (List Written)) → n < u → WeightWithin (budget (take n s)) o → CoveredBy (chordTaken u r o) (c ∷ s)
+  unfolding WeightWithin chordTaken weight
   sounds-covered u r c s n none h k = omega arith
   sounds-covered u r c s n (some []) h k = omega arith
   sounds-covered u r c s n (some (w ∷ ws)) h k =
       let l = lengthOf r in
       omega (arith, sum-more (p .byte) (suc n) (u + l .used + behind (drop (l .used) r) .used) (c ∷ s) (omega arith), mul-suc (p .note) (length ws))
 
-  chordAt-covered : (c : ℕ) (s : List ℕ) → Fair (chordAt s) (c ∷ s)
+  chordAt-covered : (c : ℕ) (s : List ℕ) → CoveredBy (chordAt s) (c ∷ s)
   unfolding chordAt
   chordAt-covered c s =
       let n = countWhile inChord s in
       sounds-covered (cond (ltb n (length s)) (2 + n) (1 + n)) (drop (suc n) s) c s n (chordOf 0 none s) (longer (ltb n (length s)) n)
-      (weights-more (bound 0 none s) (worth (take n s)) (chordOf 0 none s) (omega arith) (chord-covered 0 none s zero-le))
+      (weights-more (bound 0 none s) (budget (take n s)) (chordOf 0 none s) (omega arith) (chord-covered 0 none s zero-le))
     where
       longer : (b : Bool) (n : ℕ) → n < cond b (2 + n) (1 + n)
       longer true n = omega arith
       longer false n = omega arith
 
-  -- A NOTE'S ACCIDENTAL pays for itself
-  signs-covered : (up : Bool) (n c : ℕ) (s : List ℕ) → isSign c ≡ true → 1 ≤ n → mark-weight (signs up n (c ∷ s) .sign) ≤ worth (take (signs up n (c ∷ s) .used) (c ∷ s))
+  -- A NOTE'S ACCIDENTAL is covered by its sign
+  signs-covered : (up : Bool) (n c : ℕ) (s : List ℕ) → isSign c ≡ true → 1 ≤ n → mark-weight (signs up n (c ∷ s) .sign) ≤ budget (take (signs up n (c ∷ s) .used) (c ∷ s))
   unfolding signs
   signs-covered up n c s y h =
       by-test (eqb n 1 && is "/" (first (drop n (c ∷ s))))
-      (λ e. rw (e, signs) (omega (arith, paid .signs c y, first-byte c s 2 (omega arith))))
-      (λ e. rw (e, signs) (omega (arith, paid .signs c y, first-byte c s n h)))
+      (λ e. rw (e, signs) (omega (arith, enough .signs c y, first-byte c s 2 (omega arith))))
+      (λ e. rw (e, signs) (omega (arith, enough .signs c y, first-byte c s n h)))
 
   some-signs : (x : ℕ → Bool) (c : ℕ) (s : List ℕ) → x c ≡ true → 1 ≤ countWhile x (c ∷ s)
   some-signs x c s e = rw (count-while-yes x c s e) (omega arith)
 
-  accidental-covered : (c : ℕ) (s : List ℕ) → mark-weight (accidentalOf (c ∷ s) .sign) ≤ worth (take (accidentalOf (c ∷ s) .used) (c ∷ s))
+  accidental-covered : (c : ℕ) (s : List ℕ) → mark-weight (accidentalOf (c ∷ s) .sign) ≤ budget (take (accidentalOf (c ∷ s) .used) (c ∷ s))
   unfolding accidentalOf
   accidental-covered c s =
       by-test (is "^" c)
@@ -231,46 +220,46 @@ module _ (p : Prices) (paid : Covered p) where
       (signs-covered false (countWhile (is "_") (c ∷ s)) c s (or-left (is "^" c || is "_" c) (is "=" c) (or-right (is "^" c) (is "_" c) f)) (some-signs (is "_") c s f)))
       (λ f. rw (f, accidentalOf)
       (by-test (is "=" c)
-      (λ g. rw (g, accidentalOf) (omega (arith, paid .signs c (or-right (is "^" c || is "_" c) (is "=" c) g))))
+      (λ g. rw (g, accidentalOf) (omega (arith, enough .signs c (or-right (is "^" c || is "_" c) (is "=" c) g))))
       (λ g. rw (g, accidentalOf) (omega arith))))))
 
   -- A NOTE: the letter c stands behind n bytes of l
-  letter-byte : (n m c : ℕ) (s l : List ℕ) → drop n l ≡ c ∷ s → n < m → worth (take n l) + p .byte c ≤ worth (take m l)
+  letter-byte : (n m c : ℕ) (s l : List ℕ) → drop n l ≡ c ∷ s → n < m → budget (take n l) + p .byte c ≤ budget (take m l)
   letter-byte n m c s l e h =
-      let q : worth (take (n + 1) l) ≡ worth (take n l) + worth (take 1 (drop n l)) = ap worth (take-add n 1 l) ∙ sum-append (p .byte) (take n l) (take 1 (drop n l)) in
-      omega (arith, q, ap (λ (x : List ℕ). worth (take 1 x)) e, sum-more (p .byte) (n + 1) m l (omega arith))
+      let q : budget (take (n + 1) l) ≡ budget (take n l) + budget (take 1 (drop n l)) = ap budget (take-add n 1 l) ∙ sum-append (p .byte) (take n l) (take 1 (drop n l)) in
+      omega (arith, q, ap (λ (x : List ℕ). budget (take 1 x)) e, sum-more (p .byte) (n + 1) m l (omega arith))
 
-  noteAs-covered : (a : Before) (c : ℕ) (s l : List ℕ) → drop (a .used) l ≡ c ∷ s → isLetter c ≡ true → mark-weight (a .sign) ≤ worth (take (a .used) l) → Fair (noteAs a c s) l
-  unfolding noteAs cost
+  noteAs-covered : (a : Before) (c : ℕ) (s l : List ℕ) → drop (a .used) l ≡ c ∷ s → isLetter c ≡ true → mark-weight (a .sign) ≤ budget (take (a .used) l) → CoveredBy (noteAs a c s) l
+  unfolding noteAs weight
   noteAs-covered a c s l d i h =
       let o = octaveOf c s in
       let n = lengthOf (drop (o .used) s) in
       let b = behind (drop (o .used + n .used) s) in
       by-test (o .fine)
-      (λ e. rw (e, noteAs) (omega (arith, paid .letters c i, letter-byte (a .used) (a .used + 1 + o .used + n .used + b .used) c s l d (omega arith))))
+      (λ e. rw (e, noteAs) (omega (arith, enough .letters c i, letter-byte (a .used) (a .used + 1 + o .used + n .used + b .used) c s l d (omega arith))))
       (λ e. rw (e, noteAs) (omega arith))
 
-  noteAfter-covered : (a : Before) (r l : List ℕ) → drop (a .used) l ≡ r → mark-weight (a .sign) ≤ worth (take (a .used) l) → Fair (noteAfter a r) l
-  unfolding noteAfter cost
+  noteAfter-covered : (a : Before) (r l : List ℕ) → drop (a .used) l ≡ r → mark-weight (a .sign) ≤ budget (take (a .used) l) → CoveredBy (noteAfter a r) l
+  unfolding noteAfter weight
   noteAfter-covered a [] l d h = omega arith
   noteAfter-covered a (c ∷ r) l d h = by-test (isLetter c) (λ e. rw (e, noteAfter) (noteAs-covered a c r l d e h)) (λ e. rw (e, noteAfter) (omega arith))
 
-  note-covered : (c : ℕ) (s : List ℕ) → Fair (noteOf (c ∷ s)) (c ∷ s)
+  note-covered : (c : ℕ) (s : List ℕ) → CoveredBy (noteOf (c ∷ s)) (c ∷ s)
   unfolding noteOf
   note-covered c s = let a = accidentalOf (c ∷ s) in noteAfter-covered a (drop (a .used) (c ∷ s)) (c ∷ s) refl (accidental-covered c s)
 
   -- A BARLINE
-  barlineAs-covered : (c : ℕ) (s : List ℕ) (o : Option Symbol) → isBar c ≡ true → 0 < barlineAs (c ∷ s) o .used → Fair (barlineAs (c ∷ s) o) (c ∷ s)
-  unfolding barlineAs cost
+  barlineAs-covered : (c : ℕ) (s : List ℕ) (o : Option Symbol) → isBar c ≡ true → 0 < barlineAs (c ∷ s) o .used → CoveredBy (barlineAs (c ∷ s) o) (c ∷ s)
+  unfolding barlineAs weight
   barlineAs-covered c s none y h = omega arith
-  barlineAs-covered c s (some x) y h = omega (arith, paid .bars c y, first-byte c s (length (x .text)) h)
+  barlineAs-covered c s (some x) y h = omega (arith, enough .bars c y, first-byte c s (length (x .text)) h)
 
-  barline-covered : (c : ℕ) (s : List ℕ) → isBar c ≡ true → 0 < barlineOf (c ∷ s) .used → Fair (barlineOf (c ∷ s)) (c ∷ s)
+  barline-covered : (c : ℕ) (s : List ℕ) → isBar c ≡ true → 0 < barlineOf (c ∷ s) .used → CoveredBy (barlineOf (c ∷ s)) (c ∷ s)
   unfolding barlineOf
   barline-covered c s y h = barlineAs-covered c s (symbolAt barSymbols (c ∷ s)) y h
 
   -- what a `[` begins
-  bracket-covered : (c : ℕ) (s : List ℕ) → Fair (bracketOf s) (c ∷ s)
+  bracket-covered : (c : ℕ) (s : List ℕ) → CoveredBy (bracketOf s) (c ∷ s)
   unfolding bracketOf voltaOf inlineAt
   bracket-covered c s =
       let n = countWhile isPassByte s in
@@ -281,12 +270,12 @@ module _ (p : Prices) (paid : Covered p) where
       (by-test (isInline s) (λ f. rw (f, bracketOf) (free (inlineAt s) (c ∷ s) (field-free (inside s)))) (λ f. rw (f, bracketOf) (chordAt-covered c s))))
 
   -- A REST
-  rest-covered : (c : ℕ) (s : List ℕ) (n : ℕ) → isRest c ≡ true → p .note ≤ worth (take (suc n) (c ∷ s))
-  rest-covered c s n y = omega (arith, paid .rests c y)
+  rest-covered : (c : ℕ) (s : List ℕ) (n : ℕ) → isRest c ≡ true → p .note ≤ budget (take (suc n) (c ∷ s))
+  rest-covered c s n y = omega (arith, enough .rests c y)
 
   -- A TOKEN of any class
-  as-covered : (k : Class) (c : ℕ) (s : List ℕ) → Begins k c → Fair (tokenAs k (c ∷ s)) (c ∷ s)
-  unfolding tokenAs restAs cost
+  as-covered : (k : Class) (c : ℕ) (s : List ℕ) → Begins k c → CoveredBy (tokenAs k (c ∷ s)) (c ∷ s)
+  unfolding tokenAs restAs weight
   as-covered white c s y = omega arith
   as-covered ampersand c s y = omega arith
   as-covered quote c s y = free (tokenAs quote (c ∷ s)) (c ∷ s) (closed-free (is "\"") quoted s (taken quoted (suc (length s))) refl refl)
@@ -301,9 +290,9 @@ module _ (p : Prices) (paid : Covered p) where
   as-covered bracket c s y = bracket-covered c s
   as-covered pitched c s y = note-covered c s
   as-covered none-of-these c s y = omega arith
-  as-covered (resting k) c s y = omega (arith, paid .rests c y)
+  as-covered (resting k) c s y = omega (arith, enough .rests c y)
 
-  -- the bytes of a token pay for it
-  pub token-covered : (c : ℕ) (s : List ℕ) → cost (makes (tokenOf (c ∷ s) .token)) ≤ worth (take (tokenOf (c ∷ s) .used) (c ∷ s))
+  -- the bytes of a token cover it
+  pub token-covered : (c : ℕ) (s : List ℕ) → weight (makes (tokenOf (c ∷ s) .token)) ≤ budget (take (tokenOf (c ∷ s) .used) (c ∷ s))
   unfolding tokenOf
   token-covered c s = as-covered (classOf c) c s (class-begins c)

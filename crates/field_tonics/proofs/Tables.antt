@@ -5,6 +5,7 @@ use mathlib.Core.Bool.{Bool, true, false, not, _&&_}
 use mathlib.Core.Option.{none}
 use mathlib.Core.List.{List, [], _∷_}
 use native.Mathlib.Numerals.{add-one}
+use native.Mathlib.Omega.{arith}
 use lib.Dec.{eqb, leb}
 use lib.ListN.{length, getD, drop, drop-of-length-le}
 use lib.Seq.{drop-cons}
@@ -19,18 +20,21 @@ use Rattle.field_tonics.specs.declared.KeyName.{KeyName}
 use Rattle.field_tonics.specs.Names.{isName, majors, minors, lookupIn, lookedUp}
 
 -- A SEARCH at a place of a table: found there, further on, or at the end
-pub lookup-end : (ks : List KeyName) (f s i : ℕ) → length ks ≤ i → lookupIn (drop i ks) f s ≡ 128
+pub lookup-end : (ks : List KeyName) (f s i n : ℕ) → length ks ≡ n → n ≤ i → lookupIn (drop i ks) f s ≡ 128
 unfolding lookupIn
-lookup-end ks f s i h = rw (drop-of-length-le ks h)
+lookup-end ks f s i n l h = let past : length ks ≤ i = omega arith in rw (drop-of-length-le ks past)
 
-module _ (ks : List KeyName) (f s i : ℕ) (d : KeyName) (h : i < length ks) where
+module _ (ks : List KeyName) (f s i n : ℕ) (d : KeyName) (l : length ks ≡ n) (h : i < n) where
+  inside : i < length ks
+  inside = omega arith
+
   pub lookup-here : isName (getD ks i d) f s ≡ true → lookupIn (drop i ks) f s ≡ getD ks i d .fifths
   unfolding lookupIn
-  lookup-here e = rw (drop-cons ks i d h, e)
+  lookup-here e = rw (drop-cons ks i d inside, e)
 
   pub lookup-on : isName (getD ks i d) f s ≡ false → lookupIn (drop i ks) f s ≡ lookupIn (drop (i + 1) ks) f s
   unfolding lookupIn
-  lookup-on e = rw (add-one, drop-cons ks i d h, e)
+  lookup-on e = rw (add-one, drop-cons ks i d inside, e)
 
 -- no second byte of the table: no name of it
 other : (ks : List KeyName) (f s : ℕ) → all (λ (k : KeyName). not (eqb (k .second) s)) ks ≡ true → lookupIn ks f s ≡ 128

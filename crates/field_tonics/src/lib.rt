@@ -182,7 +182,7 @@ const MINOR: [KeyName; 15] = [
 pub fn with_byte(n: Name, c: u8) -> Name
     ensures { λ r. ⌜ r ≡ withByte n c ⌝ }
 {
-    let space = text_white::is_space(c);
+    let space = text_bytes::is_space(c);
     match n {
         Name::Empty => {
             if space {
@@ -231,12 +231,12 @@ fn is_name(k: KeyName, first: u8, second: u8) -> bool
     k.first == first && k.second == second
 }
 
-// The fifths of the major key of a name, none for a name that is none of the fifteen.
-fn major_fifths(first: u8, second: u8) -> u8
-    ensures { λ r. ⌜ r ≡ lookupIn majors first second ⌝ }
+// The fifths of a name in a table of fifteen, none for a name that is none of them.
+fn fifths_in(names: [KeyName; 15], first: u8, second: u8) -> u8
+    ensures { λ r. ⌜ r ≡ lookupIn names first second ⌝ }
 {
     for i in 0..15 {
-        let k = MAJOR[i];
+        let k = names[i];
         if is_name(k, first, second) {
             return k.fifths;
         }
@@ -244,27 +244,14 @@ fn major_fifths(first: u8, second: u8) -> u8
     128
 }
 
-// The same of the minor key.
-fn minor_fifths(first: u8, second: u8) -> u8
-    ensures { λ r. ⌜ r ≡ lookupIn minors first second ⌝ }
-{
-    for i in 0..15 {
-        let k = MINOR[i];
-        if is_name(k, first, second) {
-            return k.fifths;
-        }
-    }
-    128
-}
-
-// The fifths of a name in its table.
+// The fifths of a name in the table of its mode.
 fn looked_up(minor: bool, first: u8, second: u8) -> u8
     ensures { λ r. ⌜ r ≡ lookedUp minor first second ⌝ }
 {
     if minor {
-        return minor_fifths(first, second);
+        return fifths_in(MINOR, first, second);
     }
-    major_fifths(first, second)
+    fifths_in(MAJOR, first, second)
 }
 
 // The fifths of the key on a tonic.

@@ -27,7 +27,7 @@ use Rattle.text_numbers.specs.declared.Digits.{Digits}
 use Rattle.text_numbers.specs.Digits.{option}
 use Rattle.text_words.specs.declared.Part.{Part}
 use Rattle.text_words.specs.Words.{notSpace, notByte, Trimmed}
-use Rattle.text_words.proofs.Marks.{before-at, after-at, after-over}
+use Rattle.text_words.proofs.Finds.{before-at, after-at, after-over}
 use Rattle.text_words.proofs.WordLaws.{AtWord, at-word, words-from, words-over, words-at, words-next, next-word}
 use Rattle.field_values.specs.declared.UnitText.{UnitText}
 use Rattle.field_values.specs.declared.UnitText.the-variants.{Absent, Bad, Number}

@@ -125,7 +125,7 @@ pub fn parse_unit_line(line: &[u8], a: usize, b: usize) -> FieldUnit
 }
 
 // The unit that an inline L sets: what is no number sets nothing.
-pub fn parse_unit_inline(line: &[u8], a: usize, b: usize) -> FieldUnit
+fn parse_unit_inline(line: &[u8], a: usize, b: usize) -> FieldUnit
     requires { ⌜ (a ≤ b) × (b ≤ length (now line)) ⌝ }
     ensures { λ r. ⌜ unitAs r ≡ unitInline (between (now (line .entry)) a b) ⌝ }
 {

@@ -356,6 +356,19 @@ module _ {ℓ} {A : Type ℓ} where
   sum-mul n f [] = omega arith
   sum-mul n f (x ∷ xs) = omega (arith, sum-mul n f xs, mul-add n (f x) (sum f xs))
 
+  -- of what is left of a list
+  pub sum-drop : (f : A → ℕ) (n : ℕ) (l : List A) → sum f (drop n l) ≤ sum f l
+  sum-drop f zero l = omega arith
+  sum-drop f (suc n) [] = zero-le
+  sum-drop f (suc n) (x ∷ l) = omega (arith, sum-drop f n l)
+
+  -- of more elements of its front
+  pub sum-more : (f : A → ℕ) (m n : ℕ) (l : List A) → m ≤ n → sum f (take m l) ≤ sum f (take n l)
+  sum-more f zero n l h = zero-le
+  sum-more f (suc m) zero l h = absurd (not-suc-le-zero h)
+  sum-more f (suc m) (suc n) [] h = zero-le
+  sum-more f (suc m) (suc n) (x ∷ l) h = omega (arith, sum-more f m n l (omega arith))
+
   -- lists of one length, one after the other
   pub concat-length {κ} : {B : Type κ} (P : A → Type 0) (f : A → List B) (n : ℕ) → ((x : A) → P x → length (f x) ≡ n) → (xs : List A) → All P xs → length (concat (map f xs)) ≡ n * length xs
   concat-length P f n h [] p = omega arith

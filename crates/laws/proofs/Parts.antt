@@ -217,15 +217,15 @@ module _ (p : ℕ → Bool) (s : List ℕ) (i b : ℕ) where
       let k = countWhile p (between s i b) in
       rw (← getD-between s i b k h) (count-while-stops p (between s i b) 0 (rw (length-between s i b l) (omega arith)))
 
-  -- the text before their end: the first piece, where the kind is `no mark`; a word, where it is `no space`
+  -- the text before their end: the first piece, where the kind is `no separator`; a word, where it is `no space`
   pub run-between : i ≤ b → run p (between s i b) ≡ between s i (endIn p s i b)
   run-between h = take-between s i b (countWhile p (between s i b)) (endIn-le h)
 
-  -- the text from their end on: without white space at its front, where the kind is `space`; with the mark, behind a first piece
+  -- the text from their end on: without white space at its front, where the kind is `space`; with the separator, behind a first piece
   pub behind-between : drop (countWhile p (between s i b)) (between s i b) ≡ between s (endIn p s i b) b
   behind-between = drop-between s i b (countWhile p (between s i b))
 
-  -- the text behind the byte at their end: what stands after the mark
+  -- the text behind the byte at their end: what stands after the separator
   pub after-between : drop (countWhile p (between s i b) + 1) (between s i b) ≡ between s (endIn p s i b + 1) b
   after-between =
       let e : i + (countWhile p (between s i b) + 1) ≡ i + countWhile p (between s i b) + 1 = omega arith in

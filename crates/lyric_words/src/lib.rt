@@ -59,7 +59,7 @@ fn word_start(text: &[u8], at: usize, end: usize) -> usize
         if 127 < b {
             return past_white(text, i, end);
         }
-        if !text_white::is_space(b) {
+        if !text_bytes::is_space(b) {
             return i;
         }
         i += 1;

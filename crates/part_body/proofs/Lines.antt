@@ -15,7 +15,7 @@ use Rattle.part_layout.proofs.Lines.{InLine, in-line-begins, in-line-token, sta
 use Rattle.bounds.proofs.TokenRanges.{token-fits}
 use Rattle.capacity.specs.Sizes.{bars, letters, rests, tones, signs}
 use Rattle.capacity.specs.Covers.{makes, CoversBoth}
-use Rattle.capacity.proofs.Tokens.{token-spends}
+use Rattle.capacity.proofs.Tokens.{token-cover-at}
 use Rattle.part_rows.specs.Table.{Only}
 use Rattle.part_rows.proofs.Tables.{only-none, only-then}
 use Rattle.part_registers.specs.declared.Tables.{Tables}
@@ -131,7 +131,7 @@ module _ {line : List ℕ} {t : Tables} {s₀ s : List ℕ} {r₀ r : Registers}
   used = tokenOf (drop at line) .used
 
   pays : CoversBoth tok (drop at line) (drop (at + used) line)
-  pays = token-spends line at h
+  pays = token-cover-at line at h
 
   room : Room t (r .counts) (length s) (makes tok .heads) (makes tok .notes) (makes tok .pitches) (makes tok .scopes)
   room =

@@ -1,4 +1,4 @@
--- WHERE THE READER AND THE STANDARD AGREE: on the inputs that each law states, the reader's definition gives what crate standard says.
+-- WHERE THE READER AND THE STANDARD AGREE: on the inputs that each law states, the reader's definition gives what `standard` says.
 -- That ticks are 1024ths of a whole note is `ticks-fraction` (ValueLaws).
 use Prim.Native.Nat.{ℕ, zero, suc, _+_, _-_, _*_, _^_, _≤_, _<_, min}
 use mathlib.Core.Path.{_≡_, refl, sym, ap, _∙_}

@@ -1,13 +1,13 @@
 -- For examples: `unfolding all` opens every definition of this crate and of those below it. Written by tools/bundle.
 use Prim.Native.Nat.{ℕ}
-use Rattle.reader.specs.Text.{utf8Step, isBetween, isUtf8, whiteStep, isAllWhite, isBlank, textLines, cut, trim, clean, hasHigh}
+use Rattle.reader.specs.Text.{utf8Step, isUtf8, whiteStep, isBlank, textLines, cut, trim, clean, hasHigh}
 use Rattle.reader.specs.Pieces.{numeral, before, after, pieces, words, whiteAt, fieldWords, trimStart, consTrim, trimEnd, trimmed}
 use Rattle.reader.specs.Lengths.{number, denominator, lengthOf, notAbove, writtenAs, valueOf}
 use Rattle.reader.specs.Keys.{inTable, fifthsOf, named, clefs, isKeyWord, joined, keyText, consSome, beforeWord, endsInM, majorOf, minorOr, keyIn, keyOf}
 use Rattle.reader.specs.Fields.{orFour, meterNumber, meterBottom, meterOr, meterText, meterOf, unitText, unitNumber, orEight, lineUnit, unitOf, inlineUnit, unitInline, middleWord, firstWord, identifier}
 use Rattle.reader.specs.Pitches.{octaveFrom, octaveOf, signs, accidentalOf, added, isQuarter, consPitch, chordOf, remembered, orKey, soundBy, soundOf, scopeBy, scopeAfter, soundsOf, scopeAfterAll}
 use Rattle.reader.specs.Tuplets.{notZero, positive, orOneLess, normalFor, counted, withCount, withNormal, withActual, tupletOf, orSlur}
-use Rattle.reader.specs.Barlines.{leftOf, barlineAs, barlineOf}
+use Rattle.reader.specs.Barlines.{barlineAs, barlineOf}
 use Rattle.reader.specs.PassLists.{passNumber, single, range, itemOf, lastPass, inTurn, passList, voltaAs, voltaOf}
 use Rattle.reader.specs.Inline.{unitToken, keyToken, fieldToken, isInline, inlineAt}
 use Rattle.reader.specs.Sounds.{behind, chordTaken, chordAt, restAs, noteAs, noteAfter, noteOf}
@@ -18,7 +18,7 @@ use Rattle.reader.specs.State.{newMeasure, newLine, newPart, onOpen, voi
 use Rattle.reader.specs.Voltas.{isStart, starts, lastThere, endsAt, close, closed}
 use Rattle.reader.specs.Lyrics.{orSkip, wordOf, wordsOf, lyricWords, put, held, sing, sungBy}
 use Rattle.reader.specs.Part.{halvedNote, brokenNote, onBroken, afterHalf, beamed, runAfter, beamedAgain, onNothing, groupIn, grouped, oneFewer, countedIn, append, restNote, soundNote, onSound, leftSet, ended, onBarline, hears, onToken, opened, lineBegins, onLine, onLyric, onKey, firstKey, onItem, emptyPart, dropped, inOrder, markedBy, marked, finished, build}
-use Rattle.reader.specs.Codes.{barlineCode, voltaCode, modeCode, kindCode, beamCode, syllabicCode, bit}
+use Rattle.reader.specs.Codes.{voltaCode, modeCode, kindCode, beamCode, syllabicCode, bit}
 use Rattle.reader.specs.Records.{signed8, signed16, keyMarkBytes, passBits, noteCounts, measureBytes, isUnbeamed, flagByte, noteBytes, pitchBytes, lyricBytes, tagged, byVoice, allNotes, isSung, lyricsOf, section, notesOf, pitchesOf, lyrics, lyricText, sections}
 use Rattle.reader.specs.Answer.{scratchNeeded, refusedWith, early, isMusic, built, parts, partBytes, encode, measureCount, written, ended as Answer-ended, finish, scanned, unless, parseAbc, answerOf}
 use Rattle.reader.specs.Tally.{countsOf, tally}

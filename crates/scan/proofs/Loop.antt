@@ -17,7 +17,7 @@ use Rattle.reader.specs.Answer.{scratchNeeded}
 use Rattle.text_lines.specs.Lines.{LineEnd, CleanEnd, kindAs, classOf}
 use Rattle.text_lines.specs.declared.Class.{Class}
 use Rattle.text_lines.specs.declared.Class.the-variants as C
-use Rattle.text_lines.proofs.Rows.{rows-over}
+use Rattle.text_lines.proofs.LineEnds.{rows-over}
 use Rattle.text_lines.proofs.Classes.{row-long, row-kind}
 use Rattle.scan_table.specs.Rows.{voicesIn, itemsIn}
 use Rattle.scan_table.proofs.Rows.{voices-none, items-none}

@@ -20,21 +20,13 @@ use scan_states::State;
 use scan_states::Step;
 use scan_table::Row;
 
-// The line has a byte above 127.
-pub fn is_high(text: &[u8], from: usize, end: usize) -> bool
-    requires { ⌜ (from ≤ end) × (end ≤ length (now text)) ⌝ }
-    ensures { λ r. ⌜ r ≡ hasHigh (between (now (text .entry)) from end) ⌝ }
-{
-    text_lines::has_high(&text[from..end])
-}
-
 // A V line: refusals 6 and 8, then by its identifier.
 pub fn voice_line(text: &[u8], scratch: &mut [u8], st: State, from: usize, end: usize) -> Step
     requires { ⌜ Ready (length (now scratch)) st ⌝ }
     requires { ⌜ (from + 2 ≤ end) × (end ≤ length (now text)) × (length (now text) < 2 ^ 32) ⌝ }
     ensures { λ r. ⌜ Stepped (now (text .entry)) (now (scratch .entry)) st (act (held (now (text .entry)) (now (scratch .entry)) st) (kindAs (between (now (text .entry)) from end) Class.Voice) (st .in_header)) (now (scratch .exit)) r ⌝ }
 {
-    if is_high(text, from, end) {
+    if text_lines::is_high(text, from, end) {
         return scan_states::refuse(st, 6);
     }
     let id = field_values::voice_identifier(text, from + 2, end);
@@ -86,7 +78,7 @@ pub fn key_line(text: &[u8], scratch: &mut [u8], st: State, from: usize, end: us
     requires { ⌜ (from + 2 ≤ end) × (end ≤ length (now text)) × (length (now text) < 2 ^ 32) ⌝ }
     ensures { λ r. ⌜ Stepped (now (text .entry)) (now (scratch .entry)) st (act (held (now (text .entry)) (now (scratch .entry)) st) (kindAs (between (now (text .entry)) from end) Class.Key) (st .in_header)) (now (scratch .exit)) r ⌝ }
 {
-    if is_high(text, from, end) {
+    if text_lines::is_high(text, from, end) {
         return scan_states::refuse(st, 6);
     }
     if field_values::has_middle(text, from + 2, end) {
@@ -125,7 +117,7 @@ pub fn meter_line(text: &[u8], scratch: &mut [u8], st: State, from: usize, end: 
     requires { ⌜ (from + 2 ≤ end) × (end ≤ length (now text)) × (length (now text) < 2 ^ 32) ⌝ }
     ensures { λ r. ⌜ Stepped (now (text .entry)) (now (scratch .entry)) st (act (held (now (text .entry)) (now (scratch .entry)) st) (kindAs (between (now (text .entry)) from end) Class.Meter) (st .in_header)) (now (scratch .exit)) r ⌝ }
 {
-    if is_high(text, from, end) {
+    if text_lines::is_high(text, from, end) {
         return scan_states::refuse(st, 6);
     }
     let m = field_values::parse_meter(text, from + 2, end);
@@ -153,7 +145,7 @@ pub fn unit_line(text: &[u8], st: State, from: usize, end: usize) -> Step
     requires { ⌜ (from + 2 ≤ end) × (end ≤ length (now text)) ⌝ }
     ensures { λ r. ⌜ ((s : List ℕ) → Stepped (now (text .entry)) s st (act (held (now (text .entry)) s st) (kindAs (between (now (text .entry)) from end) Class.Unit) (st .in_header)) s r) ⌝ }
 {
-    if is_high(text, from, end) {
+    if text_lines::is_high(text, from, end) {
         return scan_states::refuse(st, 6);
     }
     let u = field_values::parse_unit_line(text, from + 2, end);

@@ -181,7 +181,7 @@ pub fn music_line(text: &[u8], scratch: &mut [u8], st: State, from: usize, end: 
     if st.in_header {
         return Step::On(scan_states::next_line(st));
     }
-    if scan_fields::is_high(text, from, end) {
+    if text_lines::is_high(text, from, end) {
         return scan_states::refuse(st, 6);
     }
     let p = Count {

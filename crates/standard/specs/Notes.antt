@@ -34,7 +34,7 @@ beams (suc (suc n)) = begins ∷ inside n
     inside zero = ends ∷ []
     inside (suc k) = continues ∷ inside k
 
--- 4.11, 4.12: a note's marks
+-- 4.11, 4.12: a note's flags
 pub record Flags : Type 0 where
   pub tieStart : Bool
   pub tieEnd : Bool
@@ -57,7 +57,7 @@ pub record Pending : Type 0 where
 abbrev pub nothingPending : Pending
 nothingPending = record { tie = false; slur = false; grace = false }
 
--- the marks of a note
+-- the flags of a note
 unfoldable pub flagsOf : Pending → Behind → Flags
 flagsOf p b = record { tieStart = b .tie; tieEnd = p .tie; slurStart = p .slur; slurEnd = b .slur; grace = p .grace }
 

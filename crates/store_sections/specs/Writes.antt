@@ -5,7 +5,7 @@ use mathlib.Core.Bool.{cond}
 use mathlib.Core.List.{List, _++_}
 use lib.Dec.{leb}
 use lib.ListN.{length}
-use Rattle.laws.specs.Bytes.{splice, le32, zeros}
+use Rattle.laws.specs.Bytes.{splice, zeros}
 use Rattle.store_sections.specs.declared.Wrote.{Wrote}
 use Rattle.store_sections.specs.declared.Wrote.the-variants.{To, NoRoom}
 
@@ -17,10 +17,6 @@ Says d bs e NoRoom = length d < length bs
 -- the same as a record, so that its laws find d, bs, e and r
 pub record WroteIs (d bs e : List ℕ) (r : Wrote) : Type 0 where
   pub says : Says d bs e r
-
--- bytes after their count
-unfoldable pub counted : List ℕ → List ℕ
-counted l = le32 (length l) ++ l
 
 -- where what was written ends: at the start, where there was no room
 abbrev pub reached : Wrote → ℕ

@@ -75,7 +75,7 @@ unfolding lineKind
 kind-long [] h = absurd (omega arith)
 kind-long (a ∷ l) h = rw (lt-ltb 1048576 (length (a ∷ l)) h)
 
--- of the line that `clean_end` found in a row
+-- of the line that `clean_end` found
 module _ (t : List ℕ) (from to e : ℕ) (c : CleanEnd t from to e) where
   pub row-long : 1048576 < length (between t from e) → kindOf (between t from to) ≡ refused 5
   unfolding kindOf

@@ -178,7 +178,7 @@ module _ (q : White) (end b at : ℕ) (l : List ℕ) where
       let none : isSpace b ≡ false = rw (le-leb 9 b (omega arith), lt-leb b 13 (omega arith), ne-eqb b 32 (λ e. omega arith)) in
       trim-past (ap isOther (plain q b high none)) (ap isOther (plain white b high none))
 
--- THE LINE is the front of its row
+-- THE LINE CUT AND TRIMMED is its front
 abbrev Front : List ℕ → List ℕ → Type 0
 Front m l = (length m ≤ length l) × (take (length m) l ≡ m)
 

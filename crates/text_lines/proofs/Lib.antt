@@ -1,4 +1,4 @@
-pub mod Rows
+pub mod LineEnds
 pub mod Finding
 pub mod Cleaning
 pub mod Classes

@@ -16,7 +16,7 @@ use Rattle.text_white.specs.States.{asWhite}
 use Rattle.text_lines.specs.declared.Class.{Class}
 use Rattle.text_lines.specs.declared.Class.the-variants as C
 
--- e is the end of the line at `at`: the rows from `at` on are that line and the rows from e on
+-- e is the end of the line at `at`: the lines from `at` on are that line and the lines from e on
 pub record LineEnd (text : List ℕ) (at e : ℕ) : Type 0 where
   pub past : at < e
   pub inside : e ≤ length text
@@ -32,7 +32,7 @@ pub record TrimEnd (text : List ℕ) (from to e : ℕ) : Type 0 where
   pub high : e ≤ to
   pub line : between text from e ≡ trim (between text from to)
 
--- e is the end of the row from `from` to `to` once it is cut and trimmed
+-- e is the end of the line from `from` to `to` once it is cut and trimmed
 pub record CleanEnd (text : List ℕ) (from to e : ℕ) : Type 0 where
   pub low : from ≤ e
   pub high : e ≤ to

@@ -123,7 +123,7 @@ fn trim_byte(t: Trim, b: u8, at: usize) -> Trim
     requires { ⌜ at < 18446744073709551615 ⌝ }
     ensures { λ r. ⌜ TrimOn (t .q) (t .end) b at (r .q) (r .end) ⌝ }
 {
-    if text_white::is_within(33, 127, b) {
+    if text_bytes::is_within(33, 127, b) {
         return Trim {
             q: text_white::White::White,
             end: at + 1,
@@ -172,7 +172,7 @@ fn trim_end(text: &[u8], from: usize, to: usize) -> usize
         if 127 < b {
             return trim_bytes(text, from, i);
         }
-        if !text_white::is_space(b) {
+        if !text_bytes::is_space(b) {
             return i;
         }
         i -= 1;
@@ -209,13 +209,12 @@ pub fn has_high(line: &[u8]) -> bool
     127 < most
 }
 
-fn is_letter(b: u8) -> bool
-    ensures { λ r. ⌜ r ≡ isLetter b ⌝ }
+// The same, of the line from `from` to `end`.
+pub fn is_high(text: &[u8], from: usize, end: usize) -> bool
+    requires { ⌜ (from ≤ end) × (end ≤ length (now text)) ⌝ }
+    ensures { λ r. ⌜ r ≡ hasHigh (between (now (text .entry)) from end) ⌝ }
 {
-    if text_white::is_within(b'A', b'Z', b) {
-        return true;
-    }
-    text_white::is_within(b'a', b'z', b)
+    has_high(&text[from..end])
 }
 
 // By the byte before a colon.
@@ -225,7 +224,7 @@ fn colon_class(b: u8) -> Class
     if b == b'w' {
         return Class::Lyric;
     }
-    if is_letter(b) {
+    if text_bytes::is_letter(b) {
         if b == b'V' {
             return Class::Voice;
         }

@@ -19,19 +19,6 @@ pub struct Read {
     pub next: usize,
 }
 
-// The byte at a position, 0 past the end.
-pub fn byte_at(line: &[u8], at: usize) -> u8
-    ensures { λ r. ⌜ r ≡ getD (now (line .entry)) at 0 ⌝ }
-{
-    if at < line.len() { line[at] } else { 0 }
-}
-
-pub fn is_digit(b: u8) -> bool
-    ensures { λ r. ⌜ r ≡ isDigit b ⌝ }
-{
-    48 <= b && b <= 57
-}
-
 // One digit more, up to 64 bits.
 fn with_digit(n: Digits, b: u8) -> Digits
     requires { ⌜ isDigit b ≡ true ⌝ }
@@ -54,20 +41,20 @@ fn with_digit(n: Digits, b: u8) -> Digits
 }
 
 // The digits at `at` as a number of up to 64 bits, and the position after them.
-pub fn read_digits(line: &[u8], at: usize) -> Read
+fn read_digits(line: &[u8], at: usize) -> Read
     ensures { λ r. ⌜ r ≡ numberAt most (now (line .entry)) at ⌝ }
 {
     let mut n = Digits::Nothing;
     let mut i = at;
-    while is_digit(byte_at(line, i)) {
-        n = with_digit(n, byte_at(line, i));
+    while text_bytes::is_digit(text_bytes::byte_at(line, i)) {
+        n = with_digit(n, text_bytes::byte_at(line, i));
         i += 1;
     }
     Read { digits: n, next: i }
 }
 
 // A number above `top` is past it.
-pub fn at_most(n: Digits, top: u64) -> Digits
+fn at_most(n: Digits, top: u64) -> Digits
     ensures { λ r. ⌜ r ≡ atMost top n ⌝ }
 {
     match n {
@@ -96,7 +83,7 @@ pub fn read_number(line: &[u8], at: usize, top: u64) -> Read
 }
 
 // The number of up to `top` that the text is, all of it digits.
-pub fn whole_number(text: &[u8], top: u64) -> Digits
+fn whole_number(text: &[u8], top: u64) -> Digits
     ensures { λ r. ⌜ option r ≡ digits top (now (text .entry)) ⌝ }
 {
     let read = read_number(text, 0, top);
@@ -112,7 +99,7 @@ pub fn whole_number(text: &[u8], top: u64) -> Digits
 pub fn parse_number(text: &[u8], top: u64) -> Digits
     ensures { λ r. ⌜ option r ≡ numeral top (now (text .entry)) ⌝ }
 {
-    if byte_at(text, 0) == b'+' {
+    if text_bytes::byte_at(text, 0) == b'+' {
         return whole_number(&text[1..], top);
     }
     whole_number(text, top)

@@ -32,7 +32,7 @@ fn utf8_first(b: u8) -> Utf8
     if b <= 0x7f {
         return Utf8::Between;
     }
-    if text_white::is_within(0xc2, 0xdf, b) {
+    if text_bytes::is_within(0xc2, 0xdf, b) {
         return Utf8::One;
     }
     if b == 0xe0 {
@@ -41,7 +41,7 @@ fn utf8_first(b: u8) -> Utf8
     if b == 0xed {
         return Utf8::AfterED;
     }
-    if text_white::is_within(0xe1, 0xef, b) {
+    if text_bytes::is_within(0xe1, 0xef, b) {
         return Utf8::Two;
     }
     if b == 0xf0 {
@@ -50,7 +50,7 @@ fn utf8_first(b: u8) -> Utf8
     if b == 0xf4 {
         return Utf8::AfterF4;
     }
-    utf8_on(text_white::is_within(0xf1, 0xf3, b), Utf8::Three)
+    utf8_on(text_bytes::is_within(0xf1, 0xf3, b), Utf8::Three)
 }
 
 // One byte more.
@@ -59,13 +59,13 @@ fn utf8_step(q: Utf8, b: u8) -> Utf8
 {
     match q {
         Utf8::Between => utf8_first(b),
-        Utf8::One => utf8_on(text_white::is_within(0x80, 0xbf, b), Utf8::Between),
-        Utf8::Two => utf8_on(text_white::is_within(0x80, 0xbf, b), Utf8::One),
-        Utf8::Three => utf8_on(text_white::is_within(0x80, 0xbf, b), Utf8::Two),
-        Utf8::AfterE0 => utf8_on(text_white::is_within(0xa0, 0xbf, b), Utf8::One),
-        Utf8::AfterED => utf8_on(text_white::is_within(0x80, 0x9f, b), Utf8::One),
-        Utf8::AfterF0 => utf8_on(text_white::is_within(0x90, 0xbf, b), Utf8::Two),
-        Utf8::AfterF4 => utf8_on(text_white::is_within(0x80, 0x8f, b), Utf8::Two),
+        Utf8::One => utf8_on(text_bytes::is_within(0x80, 0xbf, b), Utf8::Between),
+        Utf8::Two => utf8_on(text_bytes::is_within(0x80, 0xbf, b), Utf8::One),
+        Utf8::Three => utf8_on(text_bytes::is_within(0x80, 0xbf, b), Utf8::Two),
+        Utf8::AfterE0 => utf8_on(text_bytes::is_within(0xa0, 0xbf, b), Utf8::One),
+        Utf8::AfterED => utf8_on(text_bytes::is_within(0x80, 0x9f, b), Utf8::One),
+        Utf8::AfterF0 => utf8_on(text_bytes::is_within(0x90, 0xbf, b), Utf8::Two),
+        Utf8::AfterF4 => utf8_on(text_bytes::is_within(0x80, 0x8f, b), Utf8::Two),
         Utf8::Invalid => Utf8::Invalid,
     }
 }

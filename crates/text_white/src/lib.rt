@@ -22,23 +22,6 @@ pub enum White {
     Other,
 }
 
-// A byte from `low` to `high`.
-pub fn is_within(low: u8, high: u8, b: u8) -> bool
-    ensures { λ r. ⌜ r ≡ within low high b ⌝ }
-{
-    low <= b && b <= high
-}
-
-// ASCII's white space.
-pub fn is_space(b: u8) -> bool
-    ensures { λ r. ⌜ r ≡ isSpace b ⌝ }
-{
-    if is_within(9, 13, b) {
-        return true;
-    }
-    b == 32
-}
-
 // The last byte of U+0085 or U+00A0.
 fn ends_c2(b: u8) -> bool
     ensures { λ r. ⌜ r ≡ endsC2 b ⌝ }
@@ -53,7 +36,7 @@ fn ends_c2(b: u8) -> bool
 fn ends_e280(b: u8) -> bool
     ensures { λ r. ⌜ r ≡ endsE280 b ⌝ }
 {
-    if is_within(0x80, 0x8a, b) {
+    if text_bytes::is_within(0x80, 0x8a, b) {
         return true;
     }
     if b == 0xa8 {
@@ -76,7 +59,7 @@ fn white_on(right: bool, q: White) -> White
 fn white_first(b: u8) -> White
     ensures { λ r. ⌜ asWhite r ≡ whiteStep white b ⌝ }
 {
-    if is_space(b) {
+    if text_bytes::is_space(b) {
         return White::White;
     }
     if b == 0xc2 {
@@ -175,15 +158,15 @@ fn white_len(text: &[u8], at: usize, end: usize) -> usize
     ensures { λ r. ⌜ r ≡ whiteAt (between (now (text .entry)) at end) ⌝ }
 {
     let part = &text[at..end];
-    let one = white_step(White::White, text_numbers::byte_at(part, 0));
+    let one = white_step(White::White, text_bytes::byte_at(part, 0));
     if is_all_white(one) {
         return 1;
     }
-    let two = white_step(one, text_numbers::byte_at(part, 1));
+    let two = white_step(one, text_bytes::byte_at(part, 1));
     if is_all_white(two) {
         return 2;
     }
-    let three = white_step(two, text_numbers::byte_at(part, 2));
+    let three = white_step(two, text_bytes::byte_at(part, 2));
     if is_all_white(three) {
         return 3;
     }
@@ -199,7 +182,7 @@ pub fn white_at(text: &[u8], at: usize, end: usize) -> usize
     if 127 < b {
         return white_len(text, at, end);
     }
-    if is_space(b) {
+    if text_bytes::is_space(b) {
         return 1;
     }
     0

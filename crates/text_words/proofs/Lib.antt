@@ -1,4 +1,4 @@
 pub mod Stands
 pub mod Trims
-pub mod Marks
+pub mod Finds
 pub mod WordLaws

@@ -1,4 +1,4 @@
-// Words, trimming and marks in a part of a line. Fields are ASCII, so white space is ASCII's. A part is given by two positions: the bytes from the first up to the second.
+// Words, trimming and separators in a part of a line. Fields are ASCII, so white space is ASCII's. A part is given by two positions: the bytes from the first up to the second.
 ghost use mathlib.Core.Path.{_≡_};
 ghost use mathlib.Core.Bool.{_&&_};
 ghost use Prim.Native.Nat.{_≤_, _-_};
@@ -19,7 +19,7 @@ fn space_at(line: &[u8], i: usize, b: usize) -> bool
     ensures { λ r. ⌜ r ≡ standsAt isSpace (now (line .entry)) i b ⌝ }
 {
     if i < b {
-        text_white::is_space(line[i])
+        text_bytes::is_space(line[i])
     } else {
         false
     }
@@ -31,7 +31,7 @@ fn word_at(line: &[u8], i: usize, b: usize) -> bool
     ensures { λ r. ⌜ r ≡ standsAt notSpace (now (line .entry)) i b ⌝ }
 {
     if i < b {
-        !text_white::is_space(line[i])
+        !text_bytes::is_space(line[i])
     } else {
         false
     }
@@ -51,7 +51,7 @@ fn space_before(line: &[u8], a: usize, e: usize) -> bool
     ensures { λ r. ⌜ r ≡ standsBefore isSpace (now (line .entry)) a e ⌝ }
 {
     if a < e {
-        text_white::is_space(line[e - 1])
+        text_bytes::is_space(line[e - 1])
     } else {
         false
     }
@@ -94,7 +94,7 @@ pub fn find_byte(line: &[u8], a: usize, b: usize, c: u8) -> usize
 }
 
 // Where the part ends without white space at its end.
-pub fn trim_end(line: &[u8], a: usize, b: usize) -> usize
+fn trim_end(line: &[u8], a: usize, b: usize) -> usize
     requires { ⌜ (a ≤ b) × (b ≤ length (now line)) ⌝ }
     ensures { λ r. ⌜ r ≡ trimmedEnd (now (line .entry)) a b ⌝ }
 {

@@ -23,7 +23,7 @@ fn is_inline(line: &[u8], from: usize, close: usize) -> bool
     if line.len() <= close {
         return false;
     }
-    if text_numbers::byte_at(line, from) == b'"' {
+    if text_bytes::byte_at(line, from) == b'"' {
         return false;
     }
     text_runs::find(line, from, close, b':') < close
@@ -107,7 +107,7 @@ pub fn bracket(line: &[u8], at: usize) -> Cut
     ensures { λ r. ⌜ r ≡ cutFor at (tokenAs bracket (drop at (now (line .entry)))) ⌝ }
 {
     let from = at + 1;
-    if text_numbers::is_digit(text_numbers::byte_at(line, from)) {
+    if text_bytes::is_digit(text_bytes::byte_at(line, from)) {
         return token_lexemes::volta(line, at);
     }
     let close = text_runs::find(line, from, line.len(), b']');

@@ -34,14 +34,14 @@ enum Best {
 fn number_or(line: &[u8], at: usize, other: u32) -> Number
     ensures { λ r. ⌜ r ≡ numberOr other (now (line .entry)) at ⌝ }
 {
-    let first = text_numbers::byte_at(line, at);
-    if !text_numbers::is_digit(first) {
+    let first = text_bytes::byte_at(line, at);
+    if !text_bytes::is_digit(first) {
         return Number {
             value: other,
             next: at,
         };
     }
-    if !text_numbers::is_digit(text_numbers::byte_at(line, at + 1)) {
+    if !text_bytes::is_digit(text_bytes::byte_at(line, at + 1)) {
         return Number {
             value: (first - 48) as u32,
             next: at + 1,
@@ -66,7 +66,7 @@ pub fn parse_duration_suffix(line: &[u8], at: usize) -> Suffix
 {
     let num = number_or(line, at, 1);
     let slash = num.next;
-    if text_numbers::byte_at(line, slash) != b'/' {
+    if text_bytes::byte_at(line, slash) != b'/' {
         return Suffix {
             num: num.value,
             den: 1,

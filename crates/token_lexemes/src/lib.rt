@@ -180,7 +180,7 @@ pub fn bar_line(line: &[u8], at: usize) -> Cut
             next: at + 1,
         };
     };
-    let opens = text_numbers::byte_at(line, next) != b']';
+    let opens = text_bytes::byte_at(line, next) != b']';
     Cut {
         lexeme: Lexeme::Barline { right, left, opens },
         next,
@@ -237,7 +237,7 @@ fn note_from_letter(line: &[u8], at: usize, sign: Sign) -> Cut
     ensures { λ r. ⌜ r ≡ cutFor at (noteAs (record { sign = signOf sign; used = 0 }) (getD (now (line .entry)) at 0) (drop (at + 1) (now (line .entry)))) ⌝ }
 {
     let letter = token_pitches::abc_note_char(line[at]);
-    if is_plain(text_numbers::byte_at(line, at + 1)) {
+    if is_plain(text_bytes::byte_at(line, at + 1)) {
         return Cut {
             lexeme: Lexeme::Note {
                 pitch: Pitch {

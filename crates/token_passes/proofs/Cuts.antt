@@ -1,4 +1,4 @@
--- A run of bytes cut at its marks, by position: the first piece ends at the first mark, and what stands behind that is cut in the same way.
+-- A run of bytes cut at its separators, by position: the first piece ends at the first separator, and what stands behind that is cut in the same way.
 use Prim.Native.Nat.{ℕ, suc, _+_, _≤_, _<_}
 use mathlib.Core.Path.{_≡_, refl, sym, ap, _∙_}
 use mathlib.Core.Bool.{Bool, true, false, _||_}
@@ -15,7 +15,7 @@ use Rattle.laws.proofs.Lists.{drop-next}
 use Rattle.reader.specs.Text.{push}
 use Rattle.reader.specs.Pieces.{pieces, separator}
 
--- a byte of the run, P, is one of a piece, D, or a mark, x
+-- a byte of the run, P, is one of a piece, D, or a separator, x
 module _ (P D x : ℕ → Bool) (agree : (c : ℕ) → P c ≡ (D c || x c)) (apart : (c : ℕ) → x c ≡ true → D c ≡ false) (none : x 0 ≡ false) where
   -- the pieces behind the first one, which ends before s
   unfoldable others : List ℕ → List (List ℕ)
@@ -72,7 +72,7 @@ module _ (P D x : ℕ → Bool) (agree : (c : ℕ) → P c ≡ (D c || x c)) (ap
     there : drop (countWhile D (drop i line)) (drop i line) ≡ drop e line
     there = drop-drop (countWhile D (drop i line)) i line ∙ ap (λ n. drop n line) (sym k)
 
-    -- a mark stands there
+    -- a separator stands there
     module _ (m : x (getD line e 0) ≡ true) where
       here : drop e line ≡ getD line e 0 ∷ drop (e + 1) line
       here = drop-next line e 0 (run-within x none line e m)
@@ -87,7 +87,7 @@ module _ (P D x : ℕ → Bool) (agree : (c : ℕ) → P c ≡ (D c || x c)) (ap
           let q : more (drop (countWhile D (drop i line)) (drop i line)) ≡ suc (countWhile P (drop (e + 1) line)) = ap more (there ∙ here) ∙ rw (m, more) in
           omega (arith, count-run (drop i line), q, k)
 
-    -- no mark stands there
+    -- no separator stands there
     module _ (m : x (getD line e 0) ≡ false) where
       no-others : others (drop e line) ≡ []
       unfolding others

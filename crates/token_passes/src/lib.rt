@@ -30,7 +30,7 @@ pub enum Passes {
 fn pass_number(line: &[u8], at: usize) -> Number
     ensures { λ r. ⌜ r ≡ passFor (endOf isDigit (now (line .entry)) at) (passNumber (run isDigit (drop at (now (line .entry))))) ⌝ }
 {
-    if text_numbers::byte_at(line, at) == b'0' {
+    if text_bytes::byte_at(line, at) == b'0' {
         return Number::Nothing;
     }
     let read = text_numbers::read_number(line, at, 32);
@@ -60,7 +60,7 @@ fn pass_item(line: &[u8], at: usize, low: u8) -> Item
     if from <= low {
         return Item::Nothing;
     }
-    if text_numbers::byte_at(line, after_first) != b'-' {
+    if text_bytes::byte_at(line, after_first) != b'-' {
         return Item::Passes {
             from,
             to: from,
@@ -73,7 +73,7 @@ fn pass_item(line: &[u8], at: usize, low: u8) -> Item
     if to <= from {
         return Item::Nothing;
     }
-    if text_numbers::byte_at(line, next) == b'-' {
+    if text_bytes::byte_at(line, next) == b'-' {
         return Item::Nothing;
     }
     Item::Passes { from, to, next }
@@ -110,7 +110,7 @@ pub fn parse_passes(line: &[u8], at: usize) -> Passes
         };
         first = first_of(first, from);
         bits += range_bits(from, to);
-        if text_numbers::byte_at(line, next) != b',' {
+        if text_bytes::byte_at(line, next) != b',' {
             return Passes::Read {
                 first,
                 bits: bits as u32,

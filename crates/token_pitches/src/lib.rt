@@ -110,7 +110,7 @@ fn signs(line: &[u8], at: usize, up: bool, b: u8) -> Before
 {
     let end = text_runs::run_end(line, at, b);
     let n = end - at;
-    if n == 1 && text_numbers::byte_at(line, end) == b'/' {
+    if n == 1 && text_bytes::byte_at(line, end) == b'/' {
         return Before {
             sign: quarter_tone(up),
             next: end + 1,
@@ -129,7 +129,7 @@ fn signs(line: &[u8], at: usize, up: bool, b: u8) -> Before
 pub fn accidental_before(line: &[u8], at: usize) -> Before
     ensures { λ r. ⌜ r ≡ beforeFor at (written.accidentalOf (drop at (now (line .entry)))) ⌝ }
 {
-    let first = text_numbers::byte_at(line, at);
+    let first = text_bytes::byte_at(line, at);
     if first == b'^' {
         return signs(line, at, true, b'^');
     }
@@ -155,7 +155,7 @@ pub fn accidental_before(line: &[u8], at: usize) -> Before
 pub fn octave_marks(line: &[u8], at: usize, start: u8) -> Octave
     ensures { λ r. ⌜ r ≡ octaveFor at (written.octaveFrom start (drop at (now (line .entry)))) ⌝ }
 {
-    if b',' < text_numbers::byte_at(line, at) {
+    if b',' < text_bytes::byte_at(line, at) {
         return Octave::At {
             octave: start,
             next: at,
@@ -184,7 +184,7 @@ fn chord_sign(line: &[u8], at: usize, up: bool, waits: Sign) -> Before
 {
     match waits {
         Sign::Nothing => {
-            if text_numbers::byte_at(line, at + 1) == b'/' {
+            if text_bytes::byte_at(line, at + 1) == b'/' {
                 return Before {
                     sign: quarter_tone(up),
                     next: at + 2,

@@ -189,7 +189,7 @@ pub fn parse_barline(line: &[u8], at: usize) -> Bar
     ensures { λ r. ⌜ r ≡ barFor at (symbolAt barSymbols (drop at (now (line .entry)))) ⌝ }
 {
     let first = line[at];
-    let second = text_numbers::byte_at(line, at + 1);
+    let second = text_bytes::byte_at(line, at + 1);
     match first {
         b'|' => match second {
             b':' => read_bar(Barline::RepeatStart, at + 2),
@@ -254,7 +254,7 @@ pub fn parse_abc_tuplet(line: &[u8], at: usize) -> Tuplet
         return Tuplet::Nothing;
     }
     let actual = p as u8;
-    if text_numbers::byte_at(line, after_actual) != b':' {
+    if text_bytes::byte_at(line, after_actual) != b':' {
         return Tuplet::Read {
             actual,
             normal: usual_normal(actual),
@@ -270,7 +270,7 @@ pub fn parse_abc_tuplet(line: &[u8], at: usize) -> Tuplet
         return Tuplet::Nothing;
     };
     let normal = q as u8;
-    if text_numbers::byte_at(line, after_normal) != b':' {
+    if text_bytes::byte_at(line, after_normal) != b':' {
         return Tuplet::Read {
             actual,
             normal,

@@ -1,4 +1,4 @@
--- The pitches of a chord token are those that `next_chord_pitch` reads behind its `[`, one by one (`next-pitch` of crate pitches).
+-- The pitches of a chord token are those that `next_chord_pitch` reads behind its `[`, one by one (`next-pitch` in token_pitches).
 use Prim.Native.Nat.{ℕ, suc, _+_}
 use mathlib.Core.Path.{_≡_, refl, sym, ap, _∙_}
 use mathlib.Core.Bool.{Bool, true, false, not}

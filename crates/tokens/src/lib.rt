@@ -313,7 +313,7 @@ fn letter_effect(line: &[u8], at: usize) -> Effected
     requires { ⌜ at < length (now line) ⌝ }
     ensures { λ r. ⌜ r ≡ effectedFor at (noteAs (record { sign = none; used = 0 }) (getD (now (line .entry)) at 0) (drop (at + 1) (now (line .entry)))) ⌝ }
 {
-    if token_lexemes::is_plain(text_numbers::byte_at(line, at + 1)) {
+    if token_lexemes::is_plain(text_bytes::byte_at(line, at + 1)) {
         return Effected {
             effect: Effect::Counts,
             next: at + 1,

@@ -5,34 +5,13 @@ use borrow.Author.Needs.{needs}
 use Rattle.field_keys.proofs.ended_else.Statement.{statement}
 use Rattle.field_keys.proofs.ended_else.Tie as tie
 
-enum-known-ended : tie.Need-enum-known-ended
-enum-known-ended c = search needs
-
-first-of-requires : tie.Need-first-of-requires
-first-of-requires c κs = search needs
-
-major-else-requires : tie.Need-major-else-requires
-major-else-requires c κs = search needs
-
 returns : tie.Need-returns
 unfolding endedElse
 returns c = rw (c .before .before .before .before .ended .given .1, ← c .before .before .first-of .ensures, lt-leb _ _ (c .before .if1 .taken)) (c .major-else .ensures)
 
-key-named-requires : tie.Need-key-named-requires
-key-named-requires c κs = search needs
-
 returns-2 : tie.Need-returns-2
 unfolding endedElse
 returns-2 c = rw (c .before .before .before .before .before .ended .given .1, ← c .before .before .before .first-of .ensures, le-leb _ _ (c .before .before .if1 .left), le-leb _ _ (c .before .if2 .taken)) (c .key-named .ensures)
-
-major-else-requires-2 : tie.Need-major-else-requires-2
-major-else-requires-2 c κs = search needs
-
-enum-told : tie.Need-enum-told
-enum-told c = search needs
-
-major-else-requires-3 : tie.Need-major-else-requires-3
-major-else-requires-3 c κs = search needs
 
 returns-3 : tie.Need-returns-3
 unfolding endedElse
@@ -46,14 +25,14 @@ pub ended-else-spec : {M : Type 1} → statement M
 ended-else-spec =
     tie.close
     (tie.spec
-    enum-known-ended
-    first-of-requires
-    major-else-requires
+    (λ c. search needs)
+    (λ c κs. search needs)
+    (λ c κs. search needs)
     returns
-    key-named-requires
+    (λ c κs. search needs)
     returns-2
-    major-else-requires-2
-    enum-told
-    major-else-requires-3
+    (λ c κs. search needs)
+    (λ c. search needs)
+    (λ c κs. search needs)
     returns-3
     returns-4)

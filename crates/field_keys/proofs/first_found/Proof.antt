@@ -4,12 +4,6 @@ use borrow.Author.Needs.{needs}
 use Rattle.field_keys.proofs.first_found.Statement.{statement}
 use Rattle.field_keys.proofs.first_found.Tie as tie
 
-enum-known-f : tie.Need-enum-known-f
-enum-known-f c = search needs
-
-enum-told : tie.Need-enum-told
-enum-told c = search needs
-
 returns : tie.Need-returns
 unfolding firstFound
 returns c = rw (c .before .enum-told .given .1, c .if1 .taken)
@@ -23,4 +17,4 @@ unfolding firstFound
 returns-3 c = rw (c .before .enum-told .given .1, c .if1 .left)
 
 pub first-found-spec : {M : Type 1} → statement M
-first-found-spec = tie.close (tie.spec enum-known-f enum-told returns returns-2 returns-3)
+first-found-spec = tie.close (tie.spec (λ c. search needs) (λ c. search needs) returns returns-2 returns-3)

@@ -4,18 +4,6 @@ use borrow.Author.Needs.{needs}
 use Rattle.field_keys.proofs.key_by.Statement.{statement}
 use Rattle.field_keys.proofs.key_by.Tie as tie
 
-enum-known-minor : tie.Need-enum-known-minor
-enum-known-minor c = search needs
-
-key-named-requires : tie.Need-key-named-requires
-key-named-requires c κs = search needs
-
-enum-told : tie.Need-enum-told
-enum-told c = search needs
-
-ended-else-requires : tie.Need-ended-else-requires
-ended-else-requires c κs = search needs
-
 returns : tie.Need-returns
 unfolding keyBy keyElse
 returns c = rw (c .before .before .minor .given .1) (c .key-named .ensures)
@@ -27,4 +15,4 @@ returns-2 c = rw (c .before .enum-told .given .1) (c .ended-else .ensures)
 pub key-by-spec : {M : Type 1} → statement M
 key-by-spec =
     tie.close
-    (tie.spec enum-known-minor key-named-requires enum-told ended-else-requires returns returns-2)
+    (tie.spec (λ c. search needs) (λ c κs. search needs) (λ c. search needs) (λ c κs. search needs) returns returns-2)

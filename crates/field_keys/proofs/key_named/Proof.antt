@@ -4,12 +4,9 @@ use borrow.Author.Needs.{needs}
 use Rattle.field_keys.proofs.key_named.Statement.{statement}
 use Rattle.field_keys.proofs.key_named.Tie as tie
 
-fifths-of-requires : tie.Need-fifths-of-requires
-fifths-of-requires c κs = search needs
-
 returns : tie.Need-returns
 unfolding keyNamed
 returns c = rw (← c .fifths-of .ensures)
 
 pub key-named-spec : {M : Type 1} → statement M
-key-named-spec = tie.close (tie.spec fifths-of-requires returns)
+key-named-spec = tie.close (tie.spec (λ c κs. search needs) returns)

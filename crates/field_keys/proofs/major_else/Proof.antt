@@ -4,18 +4,6 @@ use borrow.Author.Needs.{needs}
 use Rattle.field_keys.proofs.major_else.Statement.{statement}
 use Rattle.field_keys.proofs.major_else.Tie as tie
 
-enum-known-major : tie.Need-enum-known-major
-enum-known-major c = search needs
-
-key-named-requires : tie.Need-key-named-requires
-key-named-requires c κs = search needs
-
-enum-told : tie.Need-enum-told
-enum-told c = search needs
-
-key-named-requires-2 : tie.Need-key-named-requires-2
-key-named-requires-2 c κs = search needs
-
 returns : tie.Need-returns
 unfolding majorElse
 returns c = rw (c .before .before .major .given .1) (c .key-named .ensures)
@@ -27,4 +15,4 @@ returns-2 c = rw (c .before .enum-told .given .1) (c .key-named2 .ensures)
 pub major-else-spec : {M : Type 1} → statement M
 major-else-spec =
     tie.close
-    (tie.spec enum-known-major key-named-requires enum-told key-named-requires-2 returns returns-2)
+    (tie.spec (λ c. search needs) (λ c κs. search needs) (λ c. search needs) (λ c κs. search needs) returns returns-2)

@@ -46,9 +46,6 @@ loop-again c =
     rw (c .word-start2 .ensures, c .before .pass-key-word .ensures, c .before .before .word-end .ensures)
     (walking-on _ _ _ _ _ (c .before .before .before .before .before .before .before .pre .1) (c .before .before .before .before .loop .inv) (c .before .before .before .loop-test .taken))
 
-key-by-requires : tie.Need-key-by-requires Inv-loop μ-loop
-key-by-requires c κs = search needs
-
 returns : tie.Need-returns Inv-loop μ-loop
 returns c =
     let over : c .before .before .before .before .before .args .b ≤ c .before .before .loop .i = omega arith in
@@ -67,5 +64,5 @@ parse-key-spec =
     word-start-requires-2
     loop-less
     loop-again
-    key-by-requires
+    (λ c κs. search needs)
     returns)

@@ -4,18 +4,6 @@ use borrow.Author.Needs.{needs}
 use Rattle.field_keys.proofs.pass_byte.Statement.{statement}
 use Rattle.field_keys.proofs.pass_byte.Tie as tie
 
-with-byte-requires : tie.Need-with-byte-requires
-with-byte-requires c κs = search needs
-
-first-found-requires : tie.Need-first-found-requires
-first-found-requires c κs = search needs
-
-first-found-requires-2 : tie.Need-first-found-requires-2
-first-found-requires-2 c κs = search needs
-
-first-found-requires-3 : tie.Need-first-found-requires-3
-first-found-requires-3 c κs = search needs
-
 returns : tie.Need-returns
 unfolding passByte
 returns c = rw (← c .before .before .before .with-byte .ensures, ← c .before .before .first-found .ensures, ← c .before .first-found2 .ensures, ← c .first-found3 .ensures)
@@ -24,8 +12,8 @@ pub pass-byte-spec : {M : Type 1} → statement M
 pass-byte-spec =
     tie.close
     (tie.spec
-    with-byte-requires
-    first-found-requires
-    first-found-requires-2
-    first-found-requires-3
+    (λ c κs. search needs)
+    (λ c κs. search needs)
+    (λ c κs. search needs)
+    (λ c κs. search needs)
     returns)

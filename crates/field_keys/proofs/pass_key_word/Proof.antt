@@ -5,12 +5,6 @@ use borrow.Author.Needs.{needs}
 use Rattle.field_keys.proofs.pass_key_word.Statement.{statement}
 use Rattle.field_keys.proofs.pass_key_word.Tie as tie
 
-is-key-word-requires : tie.Need-is-key-word-requires
-is-key-word-requires c κs = search needs
-
-pass-word-requires : tie.Need-pass-word-requires
-pass-word-requires c κs = search needs
-
 returns : tie.Need-returns
 unfolding passKept
 returns c = rw (sym (c .before .before .is-key-word .ensures) ∙ c .before .if1 .taken) (c .pass-word .ensures)
@@ -20,4 +14,4 @@ unfolding passKept
 returns-2 c = rw (sym (c .before .is-key-word .ensures) ∙ c .if1 .left)
 
 pub pass-key-word-spec : {M : Type 1} → statement M
-pass-key-word-spec = tie.close (tie.spec is-key-word-requires pass-word-requires returns returns-2)
+pass-key-word-spec = tie.close (tie.spec (λ c κs. search needs) (λ c κs. search needs) returns returns-2)

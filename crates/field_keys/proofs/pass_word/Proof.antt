@@ -15,35 +15,8 @@ Inv-loop line i e q₀ k₀ t9 t10 q k = (k ≤ e) × (passText q (between line 
 abbrev μ-loop : tie.MeasureT-loop
 μ-loop line i e q₀ k₀ t9 t10 q k = e - k
 
-pass-byte-requires : tie.Need-pass-byte-requires Inv-loop μ-loop
-pass-byte-requires c κs = search needs
-
 loop-holds : tie.Need-loop-holds Inv-loop μ-loop
 loop-holds c = (c .before .before .pre .0, refl)
-
-slice-aggregate-says : tie.Need-slice-aggregate-says Inv-loop μ-loop
-slice-aggregate-says c = search needs
-
-says-requires : tie.Need-says-requires Inv-loop μ-loop
-says-requires c κs = search needs
-
-slice-aggregate-says-2 : tie.Need-slice-aggregate-says-2 Inv-loop μ-loop
-slice-aggregate-says-2 c = search needs
-
-says-requires-2 : tie.Need-says-requires-2 Inv-loop μ-loop
-says-requires-2 c κs = search needs
-
-shared-slice-read-pass-byte : tie.Need-shared-slice-read-pass-byte Inv-loop μ-loop
-shared-slice-read-pass-byte c = search needs
-
-pass-byte-requires-2 : tie.Need-pass-byte-requires-2 Inv-loop μ-loop
-pass-byte-requires-2 c κs = search needs
-
-add-k : tie.Need-add-k Inv-loop μ-loop
-add-k c = search needs
-
-loop-less : tie.Need-loop-less Inv-loop μ-loop
-loop-less c = search needs
 
 loop-again : tie.Need-loop-again Inv-loop μ-loop
 loop-again c = (
@@ -63,15 +36,15 @@ pass-word-spec =
     (tie.spec
     Inv-loop
     μ-loop
-    pass-byte-requires
+    (λ c κs. search needs)
     loop-holds
-    slice-aggregate-says
-    says-requires
-    slice-aggregate-says-2
-    says-requires-2
-    shared-slice-read-pass-byte
-    pass-byte-requires-2
-    add-k
-    loop-less
+    (λ c. search needs)
+    (λ c κs. search needs)
+    (λ c. search needs)
+    (λ c κs. search needs)
+    (λ c. search needs)
+    (λ c κs. search needs)
+    (λ c. search needs)
+    (λ c. search needs)
     loop-again
     returns)

@@ -9,33 +9,9 @@ use borrow.Author.Needs.{needs}
 use Rattle.field_tonics.proofs.fifths_of.Statement.{statement}
 use Rattle.field_tonics.proofs.fifths_of.Tie as tie
 
-enum-told : tie.Need-enum-told
-enum-told c = search needs
-
-enum-known-n : tie.Need-enum-known-n
-enum-known-n c = search needs
-
-looked-up-requires : tie.Need-looked-up-requires
-looked-up-requires c κs = search needs
-
-enum-known-n-2 : tie.Need-enum-known-n-2
-enum-known-n-2 c = search needs
-
-looked-up-requires-2 : tie.Need-looked-up-requires-2
-looked-up-requires-2 c κs = search needs
-
-enum-known-n-3 : tie.Need-enum-known-n-3
-enum-known-n-3 c = search needs
-
 returns : tie.Need-returns
 unfolding tonicIn
 returns c = rw (c .before .before .n3 .given .1, c .if1 .taken) (sym (zero-second _ _))
-
-looked-up-requires-3 : tie.Need-looked-up-requires-3
-looked-up-requires-3 c κs = search needs
-
-enum-told-2 : tie.Need-enum-told-2
-enum-told-2 c = search needs
 
 returns-2 : tie.Need-returns-2
 unfolding tonicIn fifthsOf
@@ -67,15 +43,15 @@ pub fifths-of-spec : {M : Type 1} → statement M
 fifths-of-spec =
     tie.close
     (tie.spec
-    enum-told
-    enum-known-n
-    looked-up-requires
-    enum-known-n-2
-    looked-up-requires-2
-    enum-known-n-3
+    (λ c. search needs)
+    (λ c. search needs)
+    (λ c κs. search needs)
+    (λ c. search needs)
+    (λ c κs. search needs)
+    (λ c. search needs)
     returns
-    looked-up-requires-3
-    enum-told-2
+    (λ c κs. search needs)
+    (λ c. search needs)
     returns-2
     returns-3
     returns-4

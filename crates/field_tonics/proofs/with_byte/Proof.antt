@@ -5,39 +5,21 @@ use borrow.Author.Needs.{needs}
 use Rattle.field_tonics.proofs.with_byte.Statement.{statement}
 use Rattle.field_tonics.proofs.with_byte.Tie as tie
 
-is-space-requires : tie.Need-is-space-requires
-is-space-requires c κs = search needs
-
-enum-told : tie.Need-enum-told
-enum-told c = search needs
-
 returns : tie.Need-returns
 unfolding withByte
 returns c = rw (c .before .enum-told .given .1, sym (c .before .before .before .is-space .ensures) ∙ c .if1 .taken)
-
-enum-known-n : tie.Need-enum-known-n
-enum-known-n c = search needs
 
 returns-2 : tie.Need-returns-2
 unfolding withByte
 returns-2 c = rw (c .before .before .n .given .1, sym (c .before .before .before .before .is-space .ensures) ∙ c .if2 .taken)
 
-enum-known-n-2 : tie.Need-enum-known-n-2
-enum-known-n-2 c = search needs
-
 returns-3 : tie.Need-returns-3
 unfolding withByte
 returns-3 c = rw (c .before .before .n2 .given .1, sym (c .before .before .before .before .is-space .ensures) ∙ c .if3 .taken)
 
-enum-known-n-3 : tie.Need-enum-known-n-3
-enum-known-n-3 c = search needs
-
 returns-4 : tie.Need-returns-4
 unfolding withByte
 returns-4 c = rw (c .before .before .n3 .given .1, sym (c .before .before .before .before .is-space .ensures) ∙ c .if4 .taken)
-
-enum-known-n-4 : tie.Need-enum-known-n-4
-enum-known-n-4 c = search needs
 
 returns-5 : tie.Need-returns-5
 unfolding withByte
@@ -63,16 +45,16 @@ pub with-byte-spec : {M : Type 1} → statement M
 with-byte-spec =
     tie.close
     (tie.spec
-    is-space-requires
-    enum-told
+    (λ c κs. search needs)
+    (λ c. search needs)
     returns
-    enum-known-n
+    (λ c. search needs)
     returns-2
-    enum-known-n-2
+    (λ c. search needs)
     returns-3
-    enum-known-n-3
+    (λ c. search needs)
     returns-4
-    enum-known-n-4
+    (λ c. search needs)
     returns-5
     returns-6
     returns-7

@@ -23,9 +23,6 @@ loop-holds c = rw (c .word-start .ensures) (seeking-start _ _ _ (c .before .befo
 word-end-requires : tie.Need-word-end-requires Inv-loop μ-loop
 word-end-requires c κs = c .before .before .before .before .pre .1
 
-slice-aggregate-starts-with : tie.Need-slice-aggregate-starts-with Inv-loop μ-loop
-slice-aggregate-starts-with c = search needs
-
 starts-with-requires : tie.Need-starts-with-requires Inv-loop μ-loop
 starts-with-requires c κs =
     let w = c .before .before .before .loop .inv .at in
@@ -70,7 +67,7 @@ has-middle-spec =
     word-start-requires
     loop-holds
     word-end-requires
-    slice-aggregate-starts-with
+    (λ c. search needs)
     starts-with-requires
     returns
     word-start-requires-2

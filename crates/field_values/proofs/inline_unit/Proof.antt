@@ -6,15 +6,6 @@ use borrow.Author.Needs.{needs}
 use Rattle.field_values.proofs.inline_unit.Statement.{statement}
 use Rattle.field_values.proofs.inline_unit.Tie as tie
 
-parse-unit-inline-requires : tie.Need-parse-unit-inline-requires
-parse-unit-inline-requires c κs = search needs
-
-enum-told : tie.Need-enum-told
-enum-told c = search needs
-
-enum-known-u : tie.Need-enum-known-u
-enum-known-u c = search needs
-
 returns : tie.Need-returns
 unfolding unitToken
 returns c = sym (ap unitToken (sym (c .before .before .parse-unit-inline .ensures) ∙ ap unitAs (c .enum-told .given .1)))
@@ -25,4 +16,4 @@ returns-2 c = sym (ap unitToken (sym (c .before .before .before .parse-unit-inli
 
 pub inline-unit-spec : {M : Type 1} → statement M
 inline-unit-spec =
-    tie.close (tie.spec parse-unit-inline-requires enum-told enum-known-u returns returns-2)
+    tie.close (tie.spec (λ c κs. search needs) (λ c. search needs) (λ c. search needs) returns returns-2)

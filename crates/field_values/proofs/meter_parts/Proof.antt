@@ -9,9 +9,6 @@ use borrow.Author.Needs.{needs}
 use Rattle.field_values.proofs.meter_parts.Statement.{statement}
 use Rattle.field_values.proofs.meter_parts.Tie as tie
 
-find-byte-requires : tie.Need-find-byte-requires
-find-byte-requires c κs = search needs
-
 meter-number-requires : tie.Need-meter-number-requires
 meter-number-requires c κs =
     let a = c .before .before .args in
@@ -19,12 +16,6 @@ meter-number-requires c κs =
     let le : c .find-byte .result ≤ a .b = rw (c .find-byte .ensures) (endIn-le (notByte 47) (a .line .now) (a .a) (a .b) (p .0)) in
     let ge : a .a ≤ c .find-byte .result = rw (c .find-byte .ensures) (endIn-ge (notByte 47) (a .line .now) (a .a) (a .b)) in
     (ge, omega (arith, p .1))
-
-add-meter-number : tie.Need-add-meter-number
-add-meter-number c = search needs
-
-meter-number-requires-2 : tie.Need-meter-number-requires-2
-meter-number-requires-2 c κs = search needs
 
 returns : tie.Need-returns
 returns c =
@@ -40,9 +31,9 @@ pub meter-parts-spec : {M : Type 1} → statement M
 meter-parts-spec =
     tie.close
     (tie.spec
-    find-byte-requires
+    (λ c κs. search needs)
     meter-number-requires
-    add-meter-number
-    meter-number-requires-2
+    (λ c. search needs)
+    (λ c κs. search needs)
     returns
     returns-2)

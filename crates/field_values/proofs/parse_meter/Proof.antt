@@ -6,24 +6,9 @@ use borrow.Author.Needs.{needs}
 use Rattle.field_values.proofs.parse_meter.Statement.{statement}
 use Rattle.field_values.proofs.parse_meter.Tie as tie
 
-trim-requires : tie.Need-trim-requires
-trim-requires c κs = search needs
-
-slice-aggregate-is-text : tie.Need-slice-aggregate-is-text
-slice-aggregate-is-text c = search needs
-
-is-text-requires : tie.Need-is-text-requires
-is-text-requires c κs = search needs
-
 returns : tie.Need-returns
 unfolding meterOf
 returns c = rw (← c .before .before .before .trim .ensures .text) (sym (meter-common _ (sym (c .before .is-text .ensures) ∙ c .if1 .taken)))
-
-slice-aggregate-is-text-2 : tie.Need-slice-aggregate-is-text-2
-slice-aggregate-is-text-2 c = search needs
-
-is-text-requires-2 : tie.Need-is-text-requires-2
-is-text-requires-2 c κs = search needs
 
 returns-2 : tie.Need-returns-2
 unfolding meterOf
@@ -31,20 +16,11 @@ returns-2 c =
     rw (← c .before .before .before .before .before .before .trim .ensures .text)
     (sym (meter-cut _ (sym (c .before .before .before .before .is-text .ensures) ∙ c .before .before .before .if1 .left) (sym (c .before .is-text2 .ensures) ∙ c .if2 .taken)))
 
-slice-aggregate-is-text-3 : tie.Need-slice-aggregate-is-text-3
-slice-aggregate-is-text-3 c = search needs
-
-is-text-requires-3 : tie.Need-is-text-requires-3
-is-text-requires-3 c κs = search needs
-
 returns-3 : tie.Need-returns-3
 unfolding meterOf
 returns-3 c =
     rw (← c .before .before .before .before .before .before .before .before .before .trim .ensures .text)
     (sym (meter-small _ (sym (c .before .before .before .before .before .before .before .is-text .ensures) ∙ c .before .before .before .before .before .before .if1 .left) (sym (c .before .before .before .before .is-text2 .ensures) ∙ c .before .before .before .if2 .left) (sym (c .before .is-text3 .ensures) ∙ c .if3 .taken)))
-
-meter-parts-requires : tie.Need-meter-parts-requires
-meter-parts-requires c κs = search needs
 
 returns-4 : tie.Need-returns-4
 unfolding meterOf
@@ -56,15 +32,15 @@ pub parse-meter-spec : {M : Type 1} → statement M
 parse-meter-spec =
     tie.close
     (tie.spec
-    trim-requires
-    slice-aggregate-is-text
-    is-text-requires
+    (λ c κs. search needs)
+    (λ c. search needs)
+    (λ c κs. search needs)
     returns
-    slice-aggregate-is-text-2
-    is-text-requires-2
+    (λ c. search needs)
+    (λ c κs. search needs)
     returns-2
-    slice-aggregate-is-text-3
-    is-text-requires-3
+    (λ c. search needs)
+    (λ c κs. search needs)
     returns-3
-    meter-parts-requires
+    (λ c κs. search needs)
     returns-4)

@@ -12,26 +12,8 @@ use borrow.Author.Needs.{needs}
 use Rattle.field_values.proofs.unit_text.Statement.{statement}
 use Rattle.field_values.proofs.unit_text.Tie as tie
 
-trim-requires : tie.Need-trim-requires
-trim-requires c κs = search needs
-
-find-byte-requires : tie.Need-find-byte-requires
-find-byte-requires c κs = search needs
-
 returns : tie.Need-returns
 returns c = sym (unit-absent _ _ _ _ (c .before .before .trim .ensures) (c .before .before .before .before .pre .1) _ (c .before .find-byte .ensures) (c .if1 .taken))
-
-add-i : tie.Need-add-i
-add-i c = search needs
-
-find-byte-requires-2 : tie.Need-find-byte-requires-2
-find-byte-requires-2 c κs = search needs
-
-sub-parse-number : tie.Need-sub-parse-number
-sub-parse-number c = search needs
-
-part-parse-number-start : tie.Need-part-parse-number-start
-part-parse-number-start c = search needs
 
 part-parse-number-end : tie.Need-part-parse-number-end
 part-parse-number-end c =
@@ -41,22 +23,10 @@ part-parse-number-end c =
     let le : c .find-byte2 .result ≤ t .result .end = rw (c .find-byte2 .ensures) (endIn-le (notByte 47) (a .line .now) (k + 1) (t .result .end) (omega arith)) in
     omega (arith, t .ensures .high, c .before .before .before .before .before .pre .1)
 
-parse-number-requires : tie.Need-parse-number-requires
-parse-number-requires c κs = search needs
-
-enum-known-n : tie.Need-enum-known-n
-enum-known-n c = search needs
-
 cast-t18 : tie.Need-cast-t18
 cast-t18 c =
     let h : c .before .n .given .0 .0 ≤ 4294967295 = numeral-le 4294967295 _ _ (sym (c .before .before .before .parse-number .ensures) ∙ ap option (c .before .n .given .1)) in
     omega arith
-
-enum-told : tie.Need-enum-told
-enum-told c = search needs
-
-enum-told-2 : tie.Need-enum-told-2
-enum-told-2 c = search needs
 
 returns-2 : tie.Need-returns-2
 unfolding numbered
@@ -74,19 +44,19 @@ pub unit-text-spec : {M : Type 1} → statement M
 unit-text-spec =
     tie.close
     (tie.spec
-    trim-requires
-    find-byte-requires
+    (λ c κs. search needs)
+    (λ c κs. search needs)
     returns
-    add-i
-    find-byte-requires-2
-    sub-parse-number
-    part-parse-number-start
+    (λ c. search needs)
+    (λ c κs. search needs)
+    (λ c. search needs)
+    (λ c. search needs)
     part-parse-number-end
-    parse-number-requires
-    enum-known-n
+    (λ c κs. search needs)
+    (λ c. search needs)
     cast-t18
-    enum-told
-    enum-told-2
+    (λ c. search needs)
+    (λ c. search needs)
     returns-2
     returns-3
     returns-4)

@@ -4,16 +4,10 @@ use borrow.Author.Needs.{needs}
 use Rattle.field_values.proofs.voice_identifier.Statement.{statement}
 use Rattle.field_values.proofs.voice_identifier.Tie as tie
 
-word-start-requires : tie.Need-word-start-requires
-word-start-requires c κs = search needs
-
-word-end-requires : tie.Need-word-end-requires
-word-end-requires c κs = search needs
-
 returns : tie.Need-returns
 returns c =
     let p = c .before .before .before .pre in
     identifier-at _ _ _ (p .0) (p .1) _ (c .before .word-start .ensures) (rw (← c .before .word-start .ensures) (c .word-end .ensures))
 
 pub voice-identifier-spec : {M : Type 1} → statement M
-voice-identifier-spec = tie.close (tie.spec word-start-requires word-end-requires returns)
+voice-identifier-spec = tie.close (tie.spec (λ c κs. search needs) (λ c κs. search needs) returns)

@@ -8,9 +8,6 @@ use Rattle.text_lines.proofs.colon_class.Tie as tie
 returns : tie.Need-returns
 returns c = rw (eq-eqb _ _ (c .if1 .taken))
 
-is-letter-requires : tie.Need-is-letter-requires
-is-letter-requires c κs = search needs
-
 returns-2 : tie.Need-returns-2
 returns-2 c = rw (ne-eqb _ _ (c .before .before .before .if1 .left), sym (c .before .before .is-letter .ensures) ∙ c .before .if2 .taken, eq-eqb _ _ (c .if3 .taken))
 
@@ -37,7 +34,7 @@ colon-class-spec =
     tie.close
     (tie.spec
     returns
-    is-letter-requires
+    (λ c κs. search needs)
     returns-2
     returns-3
     returns-4

@@ -1,6 +1,6 @@
 -- `text_lines::greater` meets its contract.
 use borrow.Author.Needs.{needs}
-use Rattle.text_lines.proofs.Rows.{high-second, high-first}
+use Rattle.text_lines.proofs.LineEnds.{high-second, high-first}
 use Rattle.text_lines.proofs.greater.Statement.{statement}
 use Rattle.text_lines.proofs.greater.Tie as tie
 

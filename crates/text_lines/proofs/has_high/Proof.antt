@@ -6,7 +6,7 @@ use Prim.Native.Nat.{_-_}
 use lib.Dec.{ltb}
 use lib.ListN.{length, drop}
 use Rattle.reader.specs.Text.{hasHigh}
-use Rattle.text_lines.proofs.Rows.{high-next, high-over}
+use Rattle.text_lines.proofs.LineEnds.{high-next, high-over}
 use Rattle.text_lines.proofs.has_high.Statement.{statement}
 use Rattle.text_lines.proofs.has_high.Tie as tie
 
@@ -18,18 +18,6 @@ abbrev μ-loop : tie.MeasureT-loop
 
 loop-holds : tie.Need-loop-holds Inv-loop μ-loop
 loop-holds c = refl
-
-shared-slice-read-greater : tie.Need-shared-slice-read-greater Inv-loop μ-loop
-shared-slice-read-greater c = search needs
-
-greater-requires : tie.Need-greater-requires Inv-loop μ-loop
-greater-requires c κs = search needs
-
-add-i : tie.Need-add-i Inv-loop μ-loop
-add-i c = search needs
-
-loop-less : tie.Need-loop-less Inv-loop μ-loop
-loop-less c = search needs
 
 loop-again : tie.Need-loop-again Inv-loop μ-loop
 loop-again c = high-next _ _ (c .before .before .before .loop .most) (c .greater .result) (c .before .before .loop-test .taken) (c .greater .ensures) (c .before .before .before .loop .inv)
@@ -44,9 +32,9 @@ has-high-spec =
     Inv-loop
     μ-loop
     loop-holds
-    shared-slice-read-greater
-    greater-requires
-    add-i
-    loop-less
+    (λ c. search needs)
+    (λ c κs. search needs)
+    (λ c. search needs)
+    (λ c. search needs)
     loop-again
     returns)

@@ -15,15 +15,6 @@ returns c = class-blank (c .before .before .args .line .now) (c .if1 .taken)
 returns-2 : tie.Need-returns-2
 returns-2 c = class-one (c .before .before .before .args .line .now) (c .if2 .taken)
 
-shared-slice-read-if3 : tie.Need-shared-slice-read-if3
-shared-slice-read-if3 c = search needs
-
-shared-slice-read-colon-class : tie.Need-shared-slice-read-colon-class
-shared-slice-read-colon-class c = search needs
-
-colon-class-requires : tie.Need-colon-class-requires
-colon-class-requires c κs = search needs
-
 returns-3 : tie.Need-returns-3
 returns-3 c =
     let b = c .before .before .before .before in
@@ -44,8 +35,8 @@ line-class-spec =
     (tie.spec
     returns
     returns-2
-    shared-slice-read-if3
-    shared-slice-read-colon-class
-    colon-class-requires
+    (λ c. search needs)
+    (λ c. search needs)
+    (λ c κs. search needs)
     returns-3
     returns-4)

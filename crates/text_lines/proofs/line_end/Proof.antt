@@ -1,6 +1,6 @@
 -- `text_lines::line_end` meets its contract.
 use borrow.Author.Needs.{needs}
-use Rattle.text_lines.proofs.Rows.{row-fed, row-last}
+use Rattle.text_lines.proofs.LineEnds.{row-fed, row-last}
 use Rattle.text_lines.proofs.line_end.Statement.{statement}
 use Rattle.text_lines.proofs.line_end.Tie as tie
 

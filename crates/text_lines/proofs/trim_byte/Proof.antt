@@ -6,22 +6,13 @@ use borrow.Author.Needs.{needs}
 use Rattle.text_lines.proofs.trim_byte.Statement.{statement}
 use Rattle.text_lines.proofs.trim_byte.Tie as tie
 
-is-within-requires : tie.Need-is-within-requires
-is-within-requires c κs = search needs
-
-add-t6 : tie.Need-add-t6
-add-t6 c = search needs
-
 returns : tie.Need-returns
 returns c =
     let a = c .before .before .args in
     λ l. trim-plain (asWhite (a .t .q)) (a .t .end) (a .b) (a .at) l (sym (c .before .is-within .ensures) ∙ c .if1 .taken)
 
-trim-step-requires : tie.Need-trim-step-requires
-trim-step-requires c κs = search needs
-
 returns-2 : tie.Need-returns-2
 returns-2 c = c .trim-step .ensures
 
 pub trim-byte-spec : {M : Type 1} → statement M
-trim-byte-spec = tie.close (tie.spec is-within-requires add-t6 returns trim-step-requires returns-2)
+trim-byte-spec = tie.close (tie.spec (λ c κs. search needs) (λ c. search needs) returns (λ c κs. search needs) returns-2)

@@ -6,9 +6,6 @@ use borrow.Author.Needs.{needs}
 use Rattle.text_lines.proofs.trim_done.Statement.{statement}
 use Rattle.text_lines.proofs.trim_done.Tie as tie
 
-is-all-white-requires : tie.Need-is-all-white-requires
-is-all-white-requires c κs = search needs
-
 returns : tie.Need-returns
 returns c =
     let a = c .before .before .args in
@@ -20,4 +17,4 @@ returns-2 c =
     end-other (asWhite (a .t .q)) (a .t .end) (a .at) (sym (c .before .is-all-white .ensures) ∙ c .if1 .left)
 
 pub trim-done-spec : {M : Type 1} → statement M
-trim-done-spec = tie.close (tie.spec is-all-white-requires returns returns-2)
+trim-done-spec = tie.close (tie.spec (λ c κs. search needs) returns returns-2)

@@ -10,24 +10,9 @@ use borrow.Author.Needs.{needs}
 use Rattle.text_lines.proofs.trim_step.Statement.{statement}
 use Rattle.text_lines.proofs.trim_step.Tie as tie
 
-white-step-requires : tie.Need-white-step-requires
-white-step-requires c κs = search needs
-
-is-other-requires : tie.Need-is-other-requires
-is-other-requires c κs = search needs
-
 -- the reading fails
 fails : (c : tie.Then1) → isOther (whiteStep (asWhite (c .before .before .before .args .t .q)) (c .before .before .before .args .b)) ≡ true
 fails c = ap isOther (sym (c .before .before .white-step .ensures)) ∙ sym (c .before .is-other .ensures) ∙ c .if1 .taken
-
-white-step-requires-2 : tie.Need-white-step-requires-2
-white-step-requires-2 c κs = search needs
-
-is-other-requires-2 : tie.Need-is-other-requires-2
-is-other-requires-2 c κs = search needs
-
-add-t12 : tie.Need-add-t12
-add-t12 c = search needs
 
 returns : tie.Need-returns
 returns c =
@@ -51,11 +36,11 @@ pub trim-step-spec : {M : Type 1} → statement M
 trim-step-spec =
     tie.close
     (tie.spec
-    white-step-requires
-    is-other-requires
-    white-step-requires-2
-    is-other-requires-2
-    add-t12
+    (λ c κs. search needs)
+    (λ c κs. search needs)
+    (λ c κs. search needs)
+    (λ c κs. search needs)
+    (λ c. search needs)
     returns
     returns-2
     returns-3)

@@ -11,18 +11,12 @@ use borrow.Author.Needs.{needs}
 use Rattle.text_names.proofs.is_named.Statement.{statement}
 use Rattle.text_names.proofs.is_named.Tie as tie
 
-sub-if1 : tie.Need-sub-if1
-sub-if1 c = search needs
-
 returns : tie.Need-returns
 returns c =
     let text = map lower (between (c .before .before .before .args .line .now) (c .before .before .before .args .i) (c .before .before .before .args .e)) in
     let name = c .before .before .before .args .name .now in
     let n : length name ≡ length text → ⊥ = λ e. omega (arith, length-lower (c .before .before .before .args .line .now) (c .before .before .before .args .i) (c .before .before .before .args .e) (c .before .before .before .pre .1)) in
     sym (eqText-length name text n)
-
-says-requires : tie.Need-says-requires
-says-requires c κs = search needs
 
 returns-2 : tie.Need-returns-2
 returns-2 c =
@@ -32,4 +26,4 @@ returns-2 c =
     c .says .ensures ∙ starts-whole name text same
 
 pub is-named-spec : {M : Type 1} → statement M
-is-named-spec = tie.close (tie.spec sub-if1 returns says-requires returns-2)
+is-named-spec = tie.close (tie.spec (λ c. search needs) returns (λ c κs. search needs) returns-2)

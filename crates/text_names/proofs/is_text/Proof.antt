@@ -10,18 +10,12 @@ use borrow.Author.Needs.{needs}
 use Rattle.text_names.proofs.is_text.Statement.{statement}
 use Rattle.text_names.proofs.is_text.Tie as tie
 
-sub-if1 : tie.Need-sub-if1
-sub-if1 c = search needs
-
 returns : tie.Need-returns
 returns c =
     let text = between (c .before .before .before .args .line .now) (c .before .before .before .args .a) (c .before .before .before .args .b) in
     let name = c .before .before .before .args .name .now in
     let n : length text ≡ length name → ⊥ = λ e. omega (arith, length-between (c .before .before .before .args .line .now) (c .before .before .before .args .a) (c .before .before .before .args .b) (c .before .before .before .pre .1)) in
     sym (eqText-length text name n)
-
-starts-with-requires : tie.Need-starts-with-requires
-starts-with-requires c κs = search needs
 
 returns-2 : tie.Need-returns-2
 returns-2 c =
@@ -31,4 +25,4 @@ returns-2 c =
     c .starts-with .ensures ∙ starts-whole name text same ∙ eqText-sym name text
 
 pub is-text-spec : {M : Type 1} → statement M
-is-text-spec = tie.close (tie.spec sub-if1 returns starts-with-requires returns-2)
+is-text-spec = tie.close (tie.spec (λ c. search needs) returns (λ c κs. search needs) returns-2)

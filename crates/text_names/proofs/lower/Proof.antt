@@ -9,9 +9,6 @@ returns : tie.Need-returns
 unfolding lowered
 returns c = rw (lt-leb _ _ (c .if1 .taken))
 
-add-result : tie.Need-add-result
-add-result c = search needs
-
 returns-2 : tie.Need-returns-2
 unfolding lowered
 returns-2 c = rw (le-leb _ _ (c .before .if1 .left), le-leb _ _ (c .if2 .taken))
@@ -21,4 +18,4 @@ unfolding lowered
 returns-3 c = rw (le-leb _ _ (c .before .if1 .left), lt-leb _ _ (c .if2 .left))
 
 pub lower-spec : {M : Type 1} → statement M
-lower-spec = tie.close (tie.spec returns add-result returns-2 returns-3)
+lower-spec = tie.close (tie.spec returns (λ c. search needs) returns-2 returns-3)

@@ -19,38 +19,17 @@ Inv-loop line i e name j₀ j = (j ≤ length name) × (startsWith (drop j name)
 abbrev μ-loop : tie.MeasureT-loop
 μ-loop line i e name j₀ j = length name - j
 
-sub-if1 : tie.Need-sub-if1 Inv-loop μ-loop
-sub-if1 c = search needs
-
 returns : tie.Need-returns Inv-loop μ-loop
 returns c = sym (starts-short (c .before .before .before .args .name .now) (map lower (between (c .before .before .before .args .line .now) (c .before .before .before .args .i) (c .before .before .before .args .e))) (omega (arith, length-lower (c .before .before .before .args .line .now) (c .before .before .before .args .i) (c .before .before .before .args .e) (c .before .before .before .pre .1))))
 
 loop-holds : tie.Need-loop-holds Inv-loop μ-loop
 loop-holds c = (omega arith, refl)
 
-shared-slice-read-if2 : tie.Need-shared-slice-read-if2 Inv-loop μ-loop
-shared-slice-read-if2 c = search needs
-
-add-lower : tie.Need-add-lower Inv-loop μ-loop
-add-lower c = search needs
-
-shared-slice-read-lower : tie.Need-shared-slice-read-lower Inv-loop μ-loop
-shared-slice-read-lower c = search needs
-
-lower-requires : tie.Need-lower-requires Inv-loop μ-loop
-lower-requires c κs = search needs
-
 returns-2 : tie.Need-returns-2 Inv-loop μ-loop
 returns-2 c =
     let h : length (c .before .before .before .before .before .before .before .before .before .args .name .now) ≤ length (map lower (between (c .before .before .before .before .before .before .before .before .before .args .line .now) (c .before .before .before .before .before .before .before .before .before .args .i) (c .before .before .before .before .before .before .before .before .before .args .e))) = omega (arith, length-lower (c .before .before .before .before .before .before .before .before .before .args .line .now) (c .before .before .before .before .before .before .before .before .before .args .i) (c .before .before .before .before .before .before .before .before .before .args .e) (c .before .before .before .before .before .before .before .before .before .pre .1)) in
     let l : c .before .before .before .before .before .loop .j < length (c .before .before .before .before .before .before .before .before .before .args .name .now) = omega arith in
     sym (starts-off _ _ _ h l (λ e. c .if2 .taken (e ∙ part-lower (c .before .before .before .before .before .before .before .before .before .args .line .now) (c .before .before .before .before .before .before .before .before .before .args .i) (c .before .before .before .before .before .before .before .before .before .args .e) (c .before .before .before .before .before .loop .j) (omega arith) ∙ sym (c .before .lower .ensures)))) ∙ c .before .before .before .before .before .loop .inv .1
-
-add-j : tie.Need-add-j Inv-loop μ-loop
-add-j c = search needs
-
-loop-less : tie.Need-loop-less Inv-loop μ-loop
-loop-less c = search needs
 
 loop-again : tie.Need-loop-again Inv-loop μ-loop
 loop-again c =
@@ -70,15 +49,15 @@ says-spec =
     (tie.spec
     Inv-loop
     μ-loop
-    sub-if1
+    (λ c. search needs)
     returns
     loop-holds
-    shared-slice-read-if2
-    add-lower
-    shared-slice-read-lower
-    lower-requires
+    (λ c. search needs)
+    (λ c. search needs)
+    (λ c. search needs)
+    (λ c κs. search needs)
     returns-2
-    add-j
-    loop-less
+    (λ c. search needs)
+    (λ c. search needs)
     loop-again
     returns-3)

@@ -18,35 +18,17 @@ Inv-loop line a b name k₀ k = (k ≤ length name) × (startsWith (drop k name)
 abbrev μ-loop : tie.MeasureT-loop
 μ-loop line a b name k₀ k = length name - k
 
-sub-if1 : tie.Need-sub-if1 Inv-loop μ-loop
-sub-if1 c = search needs
-
 returns : tie.Need-returns Inv-loop μ-loop
 returns c = sym (starts-short (c .before .args .name .now) (between (c .before .args .line .now) (c .before .args .a) (c .before .args .b)) (omega (arith, length-between (c .before .args .line .now) (c .before .args .a) (c .before .args .b) (c .before .pre .1))))
 
 loop-holds : tie.Need-loop-holds Inv-loop μ-loop
 loop-holds c = (omega arith, refl)
 
-shared-slice-read-if2 : tie.Need-shared-slice-read-if2 Inv-loop μ-loop
-shared-slice-read-if2 c = search needs
-
-add-if2 : tie.Need-add-if2 Inv-loop μ-loop
-add-if2 c = search needs
-
-shared-slice-read-if2-2 : tie.Need-shared-slice-read-if2-2 Inv-loop μ-loop
-shared-slice-read-if2-2 c = search needs
-
 returns-2 : tie.Need-returns-2 Inv-loop μ-loop
 returns-2 c =
     let h : length (c .before .before .before .before .before .before .args .name .now) ≤ length (between (c .before .before .before .before .before .before .args .line .now) (c .before .before .before .before .before .before .args .a) (c .before .before .before .before .before .before .args .b)) = omega (arith, length-between (c .before .before .before .before .before .before .args .line .now) (c .before .before .before .before .before .before .args .a) (c .before .before .before .before .before .before .args .b) (c .before .before .before .before .before .before .pre .1)) in
     let l : c .before .before .before .before .loop .k < length (c .before .before .before .before .before .before .args .name .now) = omega arith in
     sym (starts-off _ _ _ h l (λ e. c .if2 .taken (e ∙ part-byte (c .before .before .before .before .before .before .args .line .now) (c .before .before .before .before .before .before .args .a) (c .before .before .before .before .before .before .args .b) (c .before .before .before .before .loop .k) (omega arith)))) ∙ c .before .before .before .before .loop .inv .1
-
-add-k : tie.Need-add-k Inv-loop μ-loop
-add-k c = search needs
-
-loop-less : tie.Need-loop-less Inv-loop μ-loop
-loop-less c = search needs
 
 loop-again : tie.Need-loop-again Inv-loop μ-loop
 loop-again c =
@@ -66,14 +48,14 @@ starts-with-spec =
     (tie.spec
     Inv-loop
     μ-loop
-    sub-if1
+    (λ c. search needs)
     returns
     loop-holds
-    shared-slice-read-if2
-    add-if2
-    shared-slice-read-if2-2
+    (λ c. search needs)
+    (λ c. search needs)
+    (λ c. search needs)
     returns-2
-    add-k
-    loop-less
+    (λ c. search needs)
+    (λ c. search needs)
     loop-again
     returns-3)

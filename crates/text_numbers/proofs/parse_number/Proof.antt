@@ -8,9 +8,6 @@ use borrow.Author.Needs.{needs}
 use Rattle.text_numbers.proofs.parse_number.Statement.{statement}
 use Rattle.text_numbers.proofs.parse_number.Tie as tie
 
-byte-at-requires : tie.Need-byte-at-requires
-byte-at-requires c κs = search needs
-
 -- a plus sign
 plus : (c : tie.Then1) → getD (c .before .before .before .args .text .now) 0 0 ≡ 43
 plus c = sym (c .before .byte-at .ensures) ∙ c .if1 .taken
@@ -24,19 +21,10 @@ sub-whole-number c = within c
 part-whole-number-start : tie.Need-part-whole-number-start
 part-whole-number-start c = let h : 1 ≤ length (c .before .before .before .args .text .now) = within c in search needs
 
-part-whole-number-end : tie.Need-part-whole-number-end
-part-whole-number-end c = search needs
-
-whole-number-requires : tie.Need-whole-number-requires
-whole-number-requires c κs = search needs
-
 returns : tie.Need-returns
 returns c =
     let s = c .before .before .before .before .before .args .text .now in
     c .whole-number .ensures ∙ ap (digits _) (plus-rest s) ∙ sym (numeral-plus _ s (plus (c .before .before)))
-
-whole-number-requires-2 : tie.Need-whole-number-requires-2
-whole-number-requires-2 c κs = search needs
 
 returns-2 : tie.Need-returns-2
 returns-2 c = c .whole-number2 .ensures ∙ sym (numeral-plain _ _ (λ e. c .before .if1 .left (c .before .before .byte-at .ensures ∙ e)))
@@ -45,11 +33,11 @@ pub parse-number-spec : {M : Type 1} → statement M
 parse-number-spec =
     tie.close
     (tie.spec
-    byte-at-requires
+    (λ c κs. search needs)
     sub-whole-number
     part-whole-number-start
-    part-whole-number-end
-    whole-number-requires
+    (λ c. search needs)
+    (λ c κs. search needs)
     returns
-    whole-number-requires-2
+    (λ c κs. search needs)
     returns-2)

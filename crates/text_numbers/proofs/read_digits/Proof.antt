@@ -22,12 +22,6 @@ abbrev μ-loop : tie.MeasureT-loop
 loop-holds : tie.Need-loop-holds Inv-loop μ-loop
 loop-holds c = reading-start _ _
 
-byte-at-requires : tie.Need-byte-at-requires Inv-loop μ-loop
-byte-at-requires c κs = search needs
-
-is-digit-requires : tie.Need-is-digit-requires Inv-loop μ-loop
-is-digit-requires c κs = search needs
-
 -- the line and the byte at i, seen from the loop's head: the byte is a digit in a turn, and is not after the loop
 abbrev text : tie.At-loop Inv-loop μ-loop → List ℕ
 text l = l .before .before .args .line .now
@@ -43,9 +37,6 @@ within c = run-within isDigit refl (text (c .before .before .before)) _ (on c)
 
 off : (c : tie.Else1 Inv-loop μ-loop) → isDigit (byte (c .before .before .before)) ≡ false
 off c = rw (← c .before .before .byte-at .ensures) (sym (c .before .is-digit .ensures) ∙ c .if1 .left)
-
-byte-at-requires-2 : tie.Need-byte-at-requires-2 Inv-loop μ-loop
-byte-at-requires-2 c κs = search needs
 
 with-digit-requires : tie.Need-with-digit-requires Inv-loop μ-loop
 with-digit-requires c κs = rw (c .byte-at2 .ensures) (on (c .before))
@@ -74,9 +65,9 @@ read-digits-spec =
     Inv-loop
     μ-loop
     loop-holds
-    byte-at-requires
-    is-digit-requires
-    byte-at-requires-2
+    (λ c κs. search needs)
+    (λ c κs. search needs)
+    (λ c κs. search needs)
     with-digit-requires
     add-i
     loop-less

@@ -5,14 +5,8 @@ use borrow.Author.Needs.{needs}
 use Rattle.text_numbers.proofs.read_number.Statement.{statement}
 use Rattle.text_numbers.proofs.read_number.Tie as tie
 
-read-digits-requires : tie.Need-read-digits-requires
-read-digits-requires c κs = search needs
-
-at-most-requires : tie.Need-at-most-requires
-at-most-requires c κs = search needs
-
 returns : tie.Need-returns
 returns c = rw (c .at-most .ensures, c .before .read-digits .ensures) (atMost-at _ _ _ (omega arith))
 
 pub read-number-spec : {M : Type 1} → statement M
-read-number-spec = tie.close (tie.spec read-digits-requires at-most-requires returns)
+read-number-spec = tie.close (tie.spec (λ c κs. search needs) (λ c κs. search needs) returns)

@@ -8,9 +8,6 @@ use borrow.Author.Needs.{needs}
 use Rattle.text_numbers.proofs.whole_number.Statement.{statement}
 use Rattle.text_numbers.proofs.whole_number.Tie as tie
 
-read-number-requires : tie.Need-read-number-requires
-read-number-requires c κs = search needs
-
 returns : tie.Need-returns
 returns c =
     let b = c .before in
@@ -24,4 +21,4 @@ returns-2 c =
     whole-all _ _ _ (b .read-number .ensures) h
 
 pub whole-number-spec : {M : Type 1} → statement M
-whole-number-spec = tie.close (tie.spec read-number-requires returns returns-2)
+whole-number-spec = tie.close (tie.spec (λ c κs. search needs) returns returns-2)

@@ -12,18 +12,6 @@ use Rattle.text_numbers.proofs.with_digit.Tie as tie
 sub-d : tie.Need-sub-d
 sub-d c = digit-low _ (c .pre)
 
-cast-d : tie.Need-cast-d
-cast-d c = search needs
-
-enum-told : tie.Need-enum-told
-enum-told c = search needs
-
-enum-told-2 : tie.Need-enum-told-2
-enum-told-2 c = search needs
-
-enum-known-n : tie.Need-enum-known-n
-enum-known-n c = search needs
-
 returns : tie.Need-returns
 unfolding withDigit
 returns c =
@@ -31,24 +19,12 @@ returns c =
     let far : most < g .0 .0 * 10 + (c .before .before .before .before .args .b - 48) = omega arith in
     rw (g .1, lt-leb _ _ far)
 
-sub-if2 : tie.Need-sub-if2
-sub-if2 c = search needs
-
-mul-if2 : tie.Need-mul-if2
-mul-if2 c = search needs
-
 returns-2 : tie.Need-returns-2
 unfolding withDigit
 returns-2 c =
     let g = c .before .before .before .n .given in
     let far : most < g .0 .0 * 10 + (c .before .before .before .before .before .args .b - 48) = omega arith in
     rw (g .1, lt-leb _ _ far)
-
-mul-t8 : tie.Need-mul-t8
-mul-t8 c = search needs
-
-add-t9 : tie.Need-add-t9
-add-t9 c = search needs
 
 returns-3 : tie.Need-returns-3
 unfolding withDigit
@@ -74,16 +50,16 @@ with-digit-spec =
     tie.close
     (tie.spec
     sub-d
-    cast-d
-    enum-told
-    enum-told-2
-    enum-known-n
+    (λ c. search needs)
+    (λ c. search needs)
+    (λ c. search needs)
+    (λ c. search needs)
     returns
-    sub-if2
-    mul-if2
+    (λ c. search needs)
+    (λ c. search needs)
     returns-2
-    mul-t8
-    add-t9
+    (λ c. search needs)
+    (λ c. search needs)
     returns-3
     returns-4
     returns-5)

@@ -15,23 +15,8 @@ abbrev μ-loop : tie.MeasureT-loop
 loop-holds : tie.Need-loop-holds Inv-loop μ-loop
 loop-holds c = marking-start _ _
 
-shared-slice-read-marker : tie.Need-shared-slice-read-marker Inv-loop μ-loop
-shared-slice-read-marker c = search needs
-
-add-cursor : tie.Need-add-cursor Inv-loop μ-loop
-add-cursor c = search needs
-
-loop-less : tie.Need-loop-less Inv-loop μ-loop
-loop-less c = search needs
-
 loop-again : tie.Need-loop-again Inv-loop μ-loop
 loop-again c = marking-tie _ _ _ _ _ (c .before .before .before .loop .inv) (c .before .before .loop-test .taken) (c .if1 .taken)
-
-add-cursor-2 : tie.Need-add-cursor-2 Inv-loop μ-loop
-add-cursor-2 c = search needs
-
-loop-less-2 : tie.Need-loop-less-2 Inv-loop μ-loop
-loop-less-2 c = search needs
 
 loop-again-2 : tie.Need-loop-again-2 Inv-loop μ-loop
 loop-again-2 c = marking-slur _ _ _ _ _ (c .before .before .before .before .loop .inv) (c .before .before .before .loop-test .taken) (c .if2 .taken)
@@ -49,12 +34,12 @@ apply-abc-note-annotations-spec =
     Inv-loop
     μ-loop
     loop-holds
-    shared-slice-read-marker
-    add-cursor
-    loop-less
+    (λ c. search needs)
+    (λ c. search needs)
+    (λ c. search needs)
     loop-again
-    add-cursor-2
-    loop-less-2
+    (λ c. search needs)
+    (λ c. search needs)
     loop-again-2
     returns
     returns-2)

@@ -5,12 +5,6 @@ use Rattle.text_utf8.proofs.Ascii.{ascii-is-utf8}
 use Rattle.text_utf8.proofs.is_utf8.Statement.{statement}
 use Rattle.text_utf8.proofs.is_utf8.Tie as tie
 
-has-high-requires : tie.Need-has-high-requires
-has-high-requires c κs = search needs
-
-reads-utf8-requires : tie.Need-reads-utf8-requires
-reads-utf8-requires c κs = search needs
-
 returns : tie.Need-returns
 returns c = c .reads-utf8 .ensures
 
@@ -18,4 +12,4 @@ returns-2 : tie.Need-returns-2
 returns-2 c = sym (ascii-is-utf8 _ (sym (c .before .has-high .ensures) ∙ c .if1 .left))
 
 pub is-utf8-spec : {M : Type 1} → statement M
-is-utf8-spec = tie.close (tie.spec has-high-requires reads-utf8-requires returns returns-2)
+is-utf8-spec = tie.close (tie.spec (λ c κs. search needs) (λ c κs. search needs) returns returns-2)

@@ -19,25 +19,10 @@ abbrev μ-loop : tie.MeasureT-loop
 loop-holds : tie.Need-loop-holds Inv-loop μ-loop
 loop-holds c = refl
 
-shared-slice-read-utf8-step : tie.Need-shared-slice-read-utf8-step Inv-loop μ-loop
-shared-slice-read-utf8-step c = search needs
-
-utf8-step-requires : tie.Need-utf8-step-requires Inv-loop μ-loop
-utf8-step-requires c κs = search needs
-
-add-i : tie.Need-add-i Inv-loop μ-loop
-add-i c = search needs
-
-loop-less : tie.Need-loop-less Inv-loop μ-loop
-loop-less c = search needs
-
 loop-again : tie.Need-loop-again Inv-loop μ-loop
 loop-again c =
     let l = c .before .before .before in
     rw (c .utf8-step .ensures) (sym (foldl-at utf8Step _ _ _ 0 (c .before .before .loop-test .taken)) ∙ l .loop .inv)
-
-is-between-requires : tie.Need-is-between-requires Inv-loop μ-loop
-is-between-requires c κs = search needs
 
 returns : tie.Need-returns Inv-loop μ-loop
 unfolding isUtf8
@@ -50,10 +35,10 @@ reads-utf8-spec =
     Inv-loop
     μ-loop
     loop-holds
-    shared-slice-read-utf8-step
-    utf8-step-requires
-    add-i
-    loop-less
+    (λ c. search needs)
+    (λ c κs. search needs)
+    (λ c. search needs)
+    (λ c. search needs)
     loop-again
-    is-between-requires
+    (λ c κs. search needs)
     returns)

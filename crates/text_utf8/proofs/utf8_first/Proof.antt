@@ -10,9 +10,6 @@ returns : tie.Need-returns
 unfolding utf8Step
 returns c = rw (le-leb _ _ (c .if1 .taken))
 
-is-within-requires : tie.Need-is-within-requires
-is-within-requires c κs = search needs
-
 returns-2 : tie.Need-returns-2
 unfolding utf8Step
 returns-2 c = rw (lt-leb _ _ (c .before .before .if1 .left), sym (c .before .is-within .ensures) ∙ c .if2 .taken)
@@ -24,9 +21,6 @@ returns-3 c = rw (lt-leb _ _ (c .before .before .before .if1 .left), sym (c .bef
 returns-4 : tie.Need-returns-4
 unfolding utf8Step
 returns-4 c = rw (lt-leb _ _ (c .before .before .before .before .if1 .left), sym (c .before .before .before .is-within .ensures) ∙ c .before .before .if2 .left, ne-eqb _ _ (c .before .if3 .left), eq-eqb _ _ (c .if4 .taken))
-
-is-within-requires-2 : tie.Need-is-within-requires-2
-is-within-requires-2 c κs = search needs
 
 returns-5 : tie.Need-returns-5
 unfolding utf8Step
@@ -40,12 +34,6 @@ returns-7 : tie.Need-returns-7
 unfolding utf8Step
 returns-7 c = rw (lt-leb _ _ (c .before .before .before .before .before .before .before .before .if1 .left), sym (c .before .before .before .before .before .before .before .is-within .ensures) ∙ c .before .before .before .before .before .before .if2 .left, ne-eqb _ _ (c .before .before .before .before .before .if3 .left), ne-eqb _ _ (c .before .before .before .before .if4 .left), sym (c .before .before .before .is-within2 .ensures) ∙ c .before .before .if5 .left, ne-eqb _ _ (c .before .if6 .left), eq-eqb _ _ (c .if7 .taken))
 
-is-within-requires-3 : tie.Need-is-within-requires-3
-is-within-requires-3 c κs = search needs
-
-utf8-on-requires : tie.Need-utf8-on-requires
-utf8-on-requires c κs = search needs
-
 returns-8 : tie.Need-returns-8
 unfolding utf8Step
 returns-8 c = rw (lt-leb _ _ (c .before .before .before .before .before .before .before .before .before .before .if1 .left), sym (c .before .before .before .before .before .before .before .before .before .is-within .ensures) ∙ c .before .before .before .before .before .before .before .before .if2 .left, ne-eqb _ _ (c .before .before .before .before .before .before .before .if3 .left), ne-eqb _ _ (c .before .before .before .before .before .before .if4 .left), sym (c .before .before .before .before .before .is-within2 .ensures) ∙ c .before .before .before .before .if5 .left, ne-eqb _ _ (c .before .before .before .if6 .left), ne-eqb _ _ (c .before .before .if7 .left), c .utf8-on .ensures, c .before .is-within3 .ensures)
@@ -55,14 +43,14 @@ utf8-first-spec =
     tie.close
     (tie.spec
     returns
-    is-within-requires
+    (λ c κs. search needs)
     returns-2
     returns-3
     returns-4
-    is-within-requires-2
+    (λ c κs. search needs)
     returns-5
     returns-6
     returns-7
-    is-within-requires-3
-    utf8-on-requires
+    (λ c κs. search needs)
+    (λ c κs. search needs)
     returns-8)

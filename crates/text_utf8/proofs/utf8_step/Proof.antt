@@ -4,78 +4,6 @@ use borrow.Author.Needs.{needs}
 use Rattle.text_utf8.proofs.utf8_step.Statement.{statement}
 use Rattle.text_utf8.proofs.utf8_step.Tie as tie
 
-enum-told : tie.Need-enum-told
-enum-told c = search needs
-
-utf8-first-requires : tie.Need-utf8-first-requires
-utf8-first-requires c κs = search needs
-
-enum-told-2 : tie.Need-enum-told-2
-enum-told-2 c = search needs
-
-is-within-requires : tie.Need-is-within-requires
-is-within-requires c κs = search needs
-
-utf8-on-requires : tie.Need-utf8-on-requires
-utf8-on-requires c κs = search needs
-
-enum-told-3 : tie.Need-enum-told-3
-enum-told-3 c = search needs
-
-is-within-requires-2 : tie.Need-is-within-requires-2
-is-within-requires-2 c κs = search needs
-
-utf8-on-requires-2 : tie.Need-utf8-on-requires-2
-utf8-on-requires-2 c κs = search needs
-
-enum-told-4 : tie.Need-enum-told-4
-enum-told-4 c = search needs
-
-is-within-requires-3 : tie.Need-is-within-requires-3
-is-within-requires-3 c κs = search needs
-
-utf8-on-requires-3 : tie.Need-utf8-on-requires-3
-utf8-on-requires-3 c κs = search needs
-
-enum-told-5 : tie.Need-enum-told-5
-enum-told-5 c = search needs
-
-is-within-requires-4 : tie.Need-is-within-requires-4
-is-within-requires-4 c κs = search needs
-
-utf8-on-requires-4 : tie.Need-utf8-on-requires-4
-utf8-on-requires-4 c κs = search needs
-
-enum-told-6 : tie.Need-enum-told-6
-enum-told-6 c = search needs
-
-is-within-requires-5 : tie.Need-is-within-requires-5
-is-within-requires-5 c κs = search needs
-
-utf8-on-requires-5 : tie.Need-utf8-on-requires-5
-utf8-on-requires-5 c κs = search needs
-
-enum-told-7 : tie.Need-enum-told-7
-enum-told-7 c = search needs
-
-is-within-requires-6 : tie.Need-is-within-requires-6
-is-within-requires-6 c κs = search needs
-
-utf8-on-requires-6 : tie.Need-utf8-on-requires-6
-utf8-on-requires-6 c κs = search needs
-
-enum-told-8 : tie.Need-enum-told-8
-enum-told-8 c = search needs
-
-is-within-requires-7 : tie.Need-is-within-requires-7
-is-within-requires-7 c κs = search needs
-
-utf8-on-requires-7 : tie.Need-utf8-on-requires-7
-utf8-on-requires-7 c κs = search needs
-
-enum-told-9 : tie.Need-enum-told-9
-enum-told-9 c = search needs
-
 returns : tie.Need-returns
 unfolding utf8Step
 returns c = rw (c .utf8-first .ensures, c .before .enum-told .given .1)
@@ -116,30 +44,30 @@ pub utf8-step-spec : {M : Type 1} → statement M
 utf8-step-spec =
     tie.close
     (tie.spec
-    enum-told
-    utf8-first-requires
-    enum-told-2
-    is-within-requires
-    utf8-on-requires
-    enum-told-3
-    is-within-requires-2
-    utf8-on-requires-2
-    enum-told-4
-    is-within-requires-3
-    utf8-on-requires-3
-    enum-told-5
-    is-within-requires-4
-    utf8-on-requires-4
-    enum-told-6
-    is-within-requires-5
-    utf8-on-requires-5
-    enum-told-7
-    is-within-requires-6
-    utf8-on-requires-6
-    enum-told-8
-    is-within-requires-7
-    utf8-on-requires-7
-    enum-told-9
+    (λ c. search needs)
+    (λ c κs. search needs)
+    (λ c. search needs)
+    (λ c κs. search needs)
+    (λ c κs. search needs)
+    (λ c. search needs)
+    (λ c κs. search needs)
+    (λ c κs. search needs)
+    (λ c. search needs)
+    (λ c κs. search needs)
+    (λ c κs. search needs)
+    (λ c. search needs)
+    (λ c κs. search needs)
+    (λ c κs. search needs)
+    (λ c. search needs)
+    (λ c κs. search needs)
+    (λ c κs. search needs)
+    (λ c. search needs)
+    (λ c κs. search needs)
+    (λ c κs. search needs)
+    (λ c. search needs)
+    (λ c κs. search needs)
+    (λ c κs. search needs)
+    (λ c. search needs)
     returns
     returns-2
     returns-3

@@ -5,9 +5,6 @@ use borrow.Author.Needs.{needs}
 use Rattle.text_white.proofs.ends_e280.Statement.{statement}
 use Rattle.text_white.proofs.ends_e280.Tie as tie
 
-is-within-requires : tie.Need-is-within-requires
-is-within-requires c κs = search needs
-
 returns : tie.Need-returns
 returns c = rw (sym (c .before .is-within .ensures) ∙ c .if1 .taken)
 
@@ -21,4 +18,4 @@ returns-4 : tie.Need-returns-4
 returns-4 c = rw (sym (c .before .before .before .is-within .ensures) ∙ c .before .before .if1 .left, ne-eqb _ _ (c .before .if2 .left), ne-eqb _ _ (c .if3 .left))
 
 pub ends-e280-spec : {M : Type 1} → statement M
-ends-e280-spec = tie.close (tie.spec is-within-requires returns returns-2 returns-3 returns-4)
+ends-e280-spec = tie.close (tie.spec (λ c κs. search needs) returns returns-2 returns-3 returns-4)

@@ -20,35 +20,17 @@ abbrev μ-loop : tie.MeasureT-loop
 loop-holds : tie.Need-loop-holds Inv-loop μ-loop
 loop-holds c = refl
 
-shared-slice-read-white-step : tie.Need-shared-slice-read-white-step Inv-loop μ-loop
-shared-slice-read-white-step c = search needs
-
-white-step-requires : tie.Need-white-step-requires Inv-loop μ-loop
-white-step-requires c κs = search needs
-
-is-other-requires : tie.Need-is-other-requires Inv-loop μ-loop
-is-other-requires c κs = search needs
-
 returns : tie.Need-returns Inv-loop μ-loop
 returns c =
     let w = c .before .before in
     other-is-not-blank _ _ (asWhite (w .before .before .before .loop .q)) (w .before .before .loop-test .taken) (w .before .before .before .loop .inv)
     (ap isOther (sym (w .white-step .ensures)) ∙ sym (c .before .is-other .ensures) ∙ c .if1 .taken)
 
-add-i : tie.Need-add-i Inv-loop μ-loop
-add-i c = search needs
-
-loop-less : tie.Need-loop-less Inv-loop μ-loop
-loop-less c = search needs
-
 loop-again : tie.Need-loop-again Inv-loop μ-loop
 loop-again c =
     let w = c .before .before in
     let l = w .before .before .before in
     rw (w .white-step .ensures) (sym (foldl-at whiteStep _ _ _ 0 (w .before .before .loop-test .taken)) ∙ l .loop .inv)
-
-is-all-white-requires : tie.Need-is-all-white-requires Inv-loop μ-loop
-is-all-white-requires c κs = search needs
 
 returns-2 : tie.Need-returns-2 Inv-loop μ-loop
 unfolding isBlank
@@ -61,12 +43,12 @@ is-blank-spec =
     Inv-loop
     μ-loop
     loop-holds
-    shared-slice-read-white-step
-    white-step-requires
-    is-other-requires
+    (λ c. search needs)
+    (λ c κs. search needs)
+    (λ c κs. search needs)
     returns
-    add-i
-    loop-less
+    (λ c. search needs)
+    (λ c. search needs)
     loop-again
-    is-all-white-requires
+    (λ c κs. search needs)
     returns-2)

@@ -6,9 +6,6 @@ use borrow.Author.Needs.{needs}
 use Rattle.text_white.proofs.white_first.Statement.{statement}
 use Rattle.text_white.proofs.white_first.Tie as tie
 
-is-space-requires : tie.Need-is-space-requires
-is-space-requires c κs = search needs
-
 returns : tie.Need-returns
 unfolding whiteStep
 returns c = rw (sym (c .before .is-space .ensures) ∙ c .if1 .taken)
@@ -36,4 +33,4 @@ returns-6 c = rw (sym (c .before .before .before .before .before .is-space .ensu
 pub white-first-spec : {M : Type 1} → statement M
 white-first-spec =
     tie.close
-    (tie.spec is-space-requires returns returns-2 returns-3 returns-4 returns-5 returns-6)
+    (tie.spec (λ c κs. search needs) returns returns-2 returns-3 returns-4 returns-5 returns-6)

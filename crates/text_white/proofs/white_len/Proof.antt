@@ -14,15 +14,6 @@ use borrow.Author.Needs.{needs}
 use Rattle.text_white.proofs.white_len.Statement.{statement}
 use Rattle.text_white.proofs.white_len.Tie as tie
 
-sub-part : tie.Need-sub-part
-sub-part c = search needs
-
-part-part-start : tie.Need-part-part-start
-part-part-start c = search needs
-
-part-part-end : tie.Need-part-part-end
-part-part-end c = search needs
-
 -- the text from `at` to `end`; it is not empty
 abbrev text : tie.After-part → List ℕ
 text p = take (p .before .before .args .end - p .before .before .args .at) (drop (p .before .before .args .at) (p .before .before .args .text .now))
@@ -33,18 +24,9 @@ some-text p =
     let a = p .before .before .args in
     omega (arith, length-part (a .text .now) (a .at) (a .end - a .at) (omega arith))
 
-byte-at-requires : tie.Need-byte-at-requires
-byte-at-requires c κs = search needs
-
-white-step-requires : tie.Need-white-step-requires
-white-step-requires c κs = search needs
-
 -- the states after one, two and three bytes
 one : (c : tie.After-white-step) → asWhite (c .white-step .result) ≡ after1 (text (c .before .before))
 one c = c .white-step .ensures ∙ ap (whiteStep white) (c .before .byte-at .ensures)
-
-is-all-white-requires : tie.Need-is-all-white-requires
-is-all-white-requires c κs = search needs
 
 not-one : (c : tie.Else1) → isAllWhite (after1 (text (c .before .before .before .before))) ≡ false
 not-one c = ap isAllWhite (sym (one (c .before .before))) ∙ sym (c .before .is-all-white .ensures) ∙ c .if1 .left
@@ -53,18 +35,9 @@ returns : tie.Need-returns
 unfolding part
 returns c = width-one (text (c .before .before .before .before)) (some-text (c .before .before .before .before)) (ap isAllWhite (sym (one (c .before .before))) ∙ sym (c .before .is-all-white .ensures) ∙ c .if1 .taken)
 
-byte-at-requires-2 : tie.Need-byte-at-requires-2
-byte-at-requires-2 c κs = search needs
-
-white-step-requires-2 : tie.Need-white-step-requires-2
-white-step-requires-2 c κs = search needs
-
 two : (c : tie.After-white-step2) → asWhite (c .white-step2 .result) ≡ after2 (text (c .before .before .before .before .before .before))
 two c =
     rw (c .white-step2 .ensures, one (c .before .before .before .before), c .before .byte-at2 .ensures)
-
-is-all-white-requires-2 : tie.Need-is-all-white-requires-2
-is-all-white-requires-2 c κs = search needs
 
 not-two : (c : tie.Else2) → isAllWhite (after2 (text (c .before .before .before .before .before .before .before .before))) ≡ false
 not-two c = ap isAllWhite (sym (two (c .before .before))) ∙ sym (c .before .is-all-white2 .ensures) ∙ c .if2 .left
@@ -76,18 +49,9 @@ returns-2 c =
     let p = e .before .before .before .before in
     width-two (text p) (some-text p) (not-one e) (ap isAllWhite (sym (two (c .before .before))) ∙ sym (c .before .is-all-white2 .ensures) ∙ c .if2 .taken)
 
-byte-at-requires-3 : tie.Need-byte-at-requires-3
-byte-at-requires-3 c κs = search needs
-
-white-step-requires-3 : tie.Need-white-step-requires-3
-white-step-requires-3 c κs = search needs
-
 three : (c : tie.After-white-step3) → asWhite (c .white-step3 .result) ≡ after3 (text (c .before .before .before .before .before .before .before .before .before .before))
 three c =
     rw (c .white-step3 .ensures, two (c .before .before .before .before), c .before .byte-at3 .ensures)
-
-is-all-white-requires-3 : tie.Need-is-all-white-requires-3
-is-all-white-requires-3 c κs = search needs
 
 returns-3 : tie.Need-returns-3
 unfolding part
@@ -109,19 +73,19 @@ pub white-len-spec : {M : Type 1} → statement M
 white-len-spec =
     tie.close
     (tie.spec
-    sub-part
-    part-part-start
-    part-part-end
-    byte-at-requires
-    white-step-requires
-    is-all-white-requires
+    (λ c. search needs)
+    (λ c. search needs)
+    (λ c. search needs)
+    (λ c κs. search needs)
+    (λ c κs. search needs)
+    (λ c κs. search needs)
     returns
-    byte-at-requires-2
-    white-step-requires-2
-    is-all-white-requires-2
+    (λ c κs. search needs)
+    (λ c κs. search needs)
+    (λ c κs. search needs)
     returns-2
-    byte-at-requires-3
-    white-step-requires-3
-    is-all-white-requires-3
+    (λ c κs. search needs)
+    (λ c κs. search needs)
+    (λ c κs. search needs)
     returns-3
     returns-4)

@@ -5,72 +5,9 @@ use borrow.Author.Needs.{needs}
 use Rattle.text_white.proofs.white_step.Statement.{statement}
 use Rattle.text_white.proofs.white_step.Tie as tie
 
-enum-told : tie.Need-enum-told
-enum-told c = search needs
-
-white-first-requires : tie.Need-white-first-requires
-white-first-requires c κs = search needs
-
-enum-told-2 : tie.Need-enum-told-2
-enum-told-2 c = search needs
-
-ends-c2-requires : tie.Need-ends-c2-requires
-ends-c2-requires c κs = search needs
-
-white-on-requires : tie.Need-white-on-requires
-white-on-requires c κs = search needs
-
-enum-told-3 : tie.Need-enum-told-3
-enum-told-3 c = search needs
-
-white-on-requires-2 : tie.Need-white-on-requires-2
-white-on-requires-2 c κs = search needs
-
-enum-told-4 : tie.Need-enum-told-4
-enum-told-4 c = search needs
-
-white-on-requires-3 : tie.Need-white-on-requires-3
-white-on-requires-3 c κs = search needs
-
-enum-told-5 : tie.Need-enum-told-5
-enum-told-5 c = search needs
-
 returns : tie.Need-returns
 unfolding whiteStep
 returns c = rw (c .before .enum-told5 .given .1, eq-eqb _ _ (c .if1 .taken))
-
-white-on-requires-4 : tie.Need-white-on-requires-4
-white-on-requires-4 c κs = search needs
-
-enum-told-6 : tie.Need-enum-told-6
-enum-told-6 c = search needs
-
-ends-e280-requires : tie.Need-ends-e280-requires
-ends-e280-requires c κs = search needs
-
-white-on-requires-5 : tie.Need-white-on-requires-5
-white-on-requires-5 c κs = search needs
-
-enum-told-7 : tie.Need-enum-told-7
-enum-told-7 c = search needs
-
-white-on-requires-6 : tie.Need-white-on-requires-6
-white-on-requires-6 c κs = search needs
-
-enum-told-8 : tie.Need-enum-told-8
-enum-told-8 c = search needs
-
-white-on-requires-7 : tie.Need-white-on-requires-7
-white-on-requires-7 c κs = search needs
-
-enum-told-9 : tie.Need-enum-told-9
-enum-told-9 c = search needs
-
-white-on-requires-8 : tie.Need-white-on-requires-8
-white-on-requires-8 c κs = search needs
-
-enum-told-10 : tie.Need-enum-told-10
-enum-told-10 c = search needs
 
 returns-2 : tie.Need-returns-2
 unfolding whiteStep
@@ -116,28 +53,28 @@ pub white-step-spec : {M : Type 1} → statement M
 white-step-spec =
     tie.close
     (tie.spec
-    enum-told
-    white-first-requires
-    enum-told-2
-    ends-c2-requires
-    white-on-requires
-    enum-told-3
-    white-on-requires-2
-    enum-told-4
-    white-on-requires-3
-    enum-told-5
+    (λ c. search needs)
+    (λ c κs. search needs)
+    (λ c. search needs)
+    (λ c κs. search needs)
+    (λ c κs. search needs)
+    (λ c. search needs)
+    (λ c κs. search needs)
+    (λ c. search needs)
+    (λ c κs. search needs)
+    (λ c. search needs)
     returns
-    white-on-requires-4
-    enum-told-6
-    ends-e280-requires
-    white-on-requires-5
-    enum-told-7
-    white-on-requires-6
-    enum-told-8
-    white-on-requires-7
-    enum-told-9
-    white-on-requires-8
-    enum-told-10
+    (λ c κs. search needs)
+    (λ c. search needs)
+    (λ c κs. search needs)
+    (λ c κs. search needs)
+    (λ c. search needs)
+    (λ c κs. search needs)
+    (λ c. search needs)
+    (λ c κs. search needs)
+    (λ c. search needs)
+    (λ c κs. search needs)
+    (λ c. search needs)
     returns-2
     returns-3
     returns-4

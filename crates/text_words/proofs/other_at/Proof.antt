@@ -5,9 +5,6 @@ use borrow.Author.Needs.{needs}
 use Rattle.text_words.proofs.other_at.Statement.{statement}
 use Rattle.text_words.proofs.other_at.Tie as tie
 
-shared-slice-read-result : tie.Need-shared-slice-read-result
-shared-slice-read-result c = search needs
-
 returns : tie.Need-returns
 unfolding standsAt
 returns c = rw (lt-ltb _ _ (c .before .if1 .taken))
@@ -17,4 +14,4 @@ unfolding standsAt
 returns-2 c = rw (le-ltb _ _ (c .if1 .left))
 
 pub other-at-spec : {M : Type 1} → statement M
-other-at-spec = tie.close (tie.spec shared-slice-read-result returns returns-2)
+other-at-spec = tie.close (tie.spec (λ c. search needs) returns returns-2)

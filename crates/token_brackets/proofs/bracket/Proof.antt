@@ -14,18 +14,6 @@ use borrow.Author.Needs.{needs}
 use Rattle.token_brackets.proofs.bracket.Statement.{statement}
 use Rattle.token_brackets.proofs.bracket.Tie as tie
 
-add-from : tie.Need-add-from
-add-from c = search needs
-
-byte-at-requires : tie.Need-byte-at-requires
-byte-at-requires c κs = search needs
-
-is-digit-requires : tie.Need-is-digit-requires
-is-digit-requires c κs = search needs
-
-volta-requires : tie.Need-volta-requires
-volta-requires c κs = search needs
-
 -- the byte behind the `[`
 digit : (c : tie.After-is-digit) → isDigit (getD (c .before .before .before .args .line .now) (c .before .before .before .args .at + 1) 0) ≡ c .is-digit .result
 digit c = ap isDigit (sym (c .before .byte-at .ensures)) ∙ sym (c .is-digit .ensures)
@@ -42,9 +30,6 @@ returns c =
     let d = c .before .before in
     let s = d .before .before .before in
     c .volta .ensures ∙ ap (cutFor (s .args .at)) (is-ending (s .args .line .now) (s .args .at) (digit d ∙ c .before .if1 .taken))
-
-find-requires : tie.Need-find-requires
-find-requires c κs = search needs
 
 is-inline-requires : tie.Need-is-inline-requires
 is-inline-requires c κs =
@@ -83,12 +68,12 @@ pub bracket-spec : {M : Type 1} → statement M
 bracket-spec =
     tie.close
     (tie.spec
-    add-from
-    byte-at-requires
-    is-digit-requires
-    volta-requires
+    (λ c. search needs)
+    (λ c κs. search needs)
+    (λ c κs. search needs)
+    (λ c κs. search needs)
     returns
-    find-requires
+    (λ c κs. search needs)
     is-inline-requires
     inline-field-requires
     returns-2

@@ -10,27 +10,15 @@ use borrow.Author.Needs.{needs}
 use Rattle.token_brackets.proofs.chord.Statement.{statement}
 use Rattle.token_brackets.proofs.chord.Tie as tie
 
-add-parse-abc-chord : tie.Need-add-parse-abc-chord
-add-parse-abc-chord c = search needs
-
 parse-abc-chord-requires : tie.Need-parse-abc-chord-requires
 parse-abc-chord-requires c κs =
     let s = c .before in
     omega (arith, s .pre .1, end-le (λ x. not (eqb x 93)) (s .args .line .now) (s .args .at + 1) (omega (arith, s .pre .0)))
 
-enum-known-count : tie.Need-enum-known-count
-enum-known-count c = search needs
-
-enum-told : tie.Need-enum-told
-enum-told c = search needs
-
 returns : tie.Need-returns
 returns c =
     let s = c .before .before .before .before in
     chord-refused (s .args .line .now) (s .args .at) (s .args .close) (s .pre .0) (s .pre .1) (sym (c .before .before .parse-abc-chord .ensures) ∙ c .enum-told .given .1)
-
-parse-duration-suffix-requires : tie.Need-parse-duration-suffix-requires
-parse-duration-suffix-requires c κs = search needs
 
 returns-2 : tie.Need-returns-2
 returns-2 c =
@@ -38,12 +26,6 @@ returns-2 c =
     let s = k .before .before .before .before in
     chord-empty (s .args .line .now) (s .args .at) (s .args .close) (s .pre .0) (s .pre .1) (k .count .given .0 .1 .0) (c .before .parse-duration-suffix .result) (c .before .parse-duration-suffix .ensures)
     (rw (c .if1 .taken) at (sym (k .before .before .parse-abc-chord .ensures) ∙ k .count .given .1))
-
-apply-abc-note-annotations-requires : tie.Need-apply-abc-note-annotations-requires
-apply-abc-note-annotations-requires c κs = search needs
-
-add-t10 : tie.Need-add-t10
-add-t10 c = search needs
 
 returns-3 : tie.Need-returns-3
 returns-3 c =
@@ -56,13 +38,13 @@ pub chord-spec : {M : Type 1} → statement M
 chord-spec =
     tie.close
     (tie.spec
-    add-parse-abc-chord
+    (λ c. search needs)
     parse-abc-chord-requires
-    enum-known-count
-    enum-told
+    (λ c. search needs)
+    (λ c. search needs)
     returns
-    parse-duration-suffix-requires
+    (λ c κs. search needs)
     returns-2
-    apply-abc-note-annotations-requires
-    add-t10
+    (λ c κs. search needs)
+    (λ c. search needs)
     returns-3)

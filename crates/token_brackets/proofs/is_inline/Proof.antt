@@ -10,16 +10,10 @@ returns c =
     let s = c .before .before in
     no-close (s .args .line .now) (s .args .from) (s .args .close) (s .pre .0) (s .pre .1) (c .if1 .taken)
 
-byte-at-requires : tie.Need-byte-at-requires
-byte-at-requires c κs = search needs
-
 returns-2 : tie.Need-returns-2
 returns-2 c =
     let s = c .before .before .before .before in
     quote-first (s .args .line .now) (s .args .from) (s .args .close) (s .pre .0) (s .pre .1) (c .before .before .if1 .left) (sym (c .before .byte-at .ensures) ∙ c .if2 .taken)
-
-find-requires : tie.Need-find-requires
-find-requires c κs = search needs
 
 returns-3 : tie.Need-returns-3
 returns-3 c =
@@ -27,4 +21,4 @@ returns-3 c =
     colon-inside (s .args .line .now) (s .args .from) (s .args .close) (s .pre .0) (s .pre .1) (c .before .before .before .if1 .left) (λ k. c .before .if2 .left (c .before .before .byte-at .ensures ∙ k)) (c .find .result) (c .find .ensures)
 
 pub is-inline-spec : {M : Type 1} → statement M
-is-inline-spec = tie.close (tie.spec returns byte-at-requires returns-2 find-requires returns-3)
+is-inline-spec = tie.close (tie.spec returns (λ c κs. search needs) returns-2 (λ c κs. search needs) returns-3)

@@ -11,27 +11,6 @@ use Rattle.token_lengths.proofs.Common.{common-is}
 use Rattle.token_lengths.proofs.abc_note_value.Statement.{statement}
 use Rattle.token_lengths.proofs.abc_note_value.Tie as tie
 
-at-least-one-requires : tie.Need-at-least-one-requires
-at-least-one-requires c κs = search needs
-
-product-requires : tie.Need-product-requires
-product-requires c κs = search needs
-
-bounded-requires : tie.Need-bounded-requires
-bounded-requires c κs = search needs
-
-common-value-requires : tie.Need-common-value-requires
-common-value-requires c κs = search needs
-
-enum-known-value : tie.Need-enum-known-value
-enum-known-value c = search needs
-
-enum-told : tie.Need-enum-told
-enum-told c = search needs
-
-search-value-requires : tie.Need-search-value-requires
-search-value-requires c κs = search needs
-
 -- the length over the bounded parts is the contract's
 length-is : (c : tie.After-bounded)
     → writtenAs (fraction (c .before .before .before .args .num) (c .bounded .result))
@@ -54,12 +33,12 @@ pub abc-note-value-spec : {M : Type 1} → statement M
 abc-note-value-spec =
     tie.close
     (tie.spec
-    at-least-one-requires
-    product-requires
-    bounded-requires
-    common-value-requires
-    enum-known-value
-    enum-told
-    search-value-requires
+    (λ c κs. search needs)
+    (λ c κs. search needs)
+    (λ c κs. search needs)
+    (λ c κs. search needs)
+    (λ c. search needs)
+    (λ c. search needs)
+    (λ c κs. search needs)
     returns
     returns-2)

@@ -5,24 +5,9 @@ use borrow.Author.Needs.{needs}
 use Rattle.token_lengths.proofs.apply_abc_broken_rhythm.Statement.{statement}
 use Rattle.token_lengths.proofs.apply_abc_broken_rhythm.Tie as tie
 
-enum-known-length : tie.Need-enum-known-length
-enum-known-length c = search needs
-
-sum-up-to-requires : tie.Need-sum-up-to-requires
-sum-up-to-requires c κs = search needs
-
 returns : tie.Need-returns
 unfolding brokenLength dotted
 returns c = rw (c .sum-up-to .ensures, c .before .before .before .length .given .1, c .before .if1 .taken)
-
-sum-up-to-requires-2 : tie.Need-sum-up-to-requires-2
-sum-up-to-requires-2 c κs = search needs
-
-enum-known-length-2 : tie.Need-enum-known-length-2
-enum-known-length-2 c = search needs
-
-sum-up-to-requires-3 : tie.Need-sum-up-to-requires-3
-sum-up-to-requires-3 c κs = search needs
 
 returns-2 : tie.Need-returns-2
 unfolding brokenLength dotted
@@ -40,12 +25,12 @@ pub apply-abc-broken-rhythm-spec : {M : Type 1} → statement M
 apply-abc-broken-rhythm-spec =
     tie.close
     (tie.spec
-    enum-known-length
-    sum-up-to-requires
+    (λ c. search needs)
+    (λ c κs. search needs)
     returns
-    sum-up-to-requires-2
-    enum-known-length-2
-    sum-up-to-requires-3
+    (λ c κs. search needs)
+    (λ c. search needs)
+    (λ c κs. search needs)
     returns-2
     returns-3
     returns-4)

@@ -17,14 +17,8 @@ returns : tie.Need-returns
 unfolding commonOf
 returns c = rw (c .if1 .taken)
 
-mul-length : tie.Need-mul-length
-mul-length c = search needs
-
 left-1 : (c : tie.Else1) → Left 0 (c .before .args .num) (c .before .args .parts)
 left-1 c = common-some _ _ (c .if1 .left)
-
-mul-if2 : tie.Need-mul-if2
-mul-if2 c = search needs
 
 returns-2 : tie.Need-returns-2
 unfolding ticks
@@ -34,9 +28,6 @@ left-2 : (c : tie.Else2) → Left 1 (c .before .before .args .num) (c .before .b
 unfolding ticks
 left-2 c = met-later (written 5 0) _ _ _ (c .if2 .left) ∙ left-1 (c .before)
 
-mul-if3 : tie.Need-mul-if3
-mul-if3 c = search needs
-
 returns-3 : tie.Need-returns-3
 unfolding ticks
 returns-3 c = met-first (written 4 0) _ _ _ (c .if3 .taken) ∙ left-2 (c .before)
@@ -44,9 +35,6 @@ returns-3 c = met-first (written 4 0) _ _ _ (c .if3 .taken) ∙ left-2 (c .befor
 left-3 : (c : tie.Else3) → Left 2 (c .before .before .before .args .num) (c .before .before .before .args .parts)
 unfolding ticks
 left-3 c = met-later (written 4 0) _ _ _ (c .if3 .left) ∙ left-2 (c .before)
-
-mul-if4 : tie.Need-mul-if4
-mul-if4 c = search needs
 
 returns-4 : tie.Need-returns-4
 unfolding ticks
@@ -56,9 +44,6 @@ left-4 : (c : tie.Else4) → Left 3 (c .before .before .before .before .args .nu
 unfolding ticks
 left-4 c = met-later (written 6 0) _ _ _ (c .if4 .left) ∙ left-3 (c .before)
 
-mul-if5 : tie.Need-mul-if5
-mul-if5 c = search needs
-
 returns-5 : tie.Need-returns-5
 unfolding ticks
 returns-5 c = met-first (written 3 0) _ _ _ (c .if5 .taken) ∙ left-4 (c .before)
@@ -66,9 +51,6 @@ returns-5 c = met-first (written 3 0) _ _ _ (c .if5 .taken) ∙ left-4 (c .befor
 left-5 : (c : tie.Else5) → Left 4 (c .before .before .before .before .before .args .num) (c .before .before .before .before .before .args .parts)
 unfolding ticks
 left-5 c = met-later (written 3 0) _ _ _ (c .if5 .left) ∙ left-4 (c .before)
-
-mul-if6 : tie.Need-mul-if6
-mul-if6 c = search needs
 
 returns-6 : tie.Need-returns-6
 unfolding ticks
@@ -78,9 +60,6 @@ left-6 : (c : tie.Else6) → Left 5 (c .before .before .before .before .before .
 unfolding ticks
 left-6 c = met-later (written 4 1) _ _ _ (c .if6 .left) ∙ left-5 (c .before)
 
-mul-if7 : tie.Need-mul-if7
-mul-if7 c = search needs
-
 returns-7 : tie.Need-returns-7
 unfolding ticks
 returns-7 c = met-first (written 5 1) _ _ _ (c .if7 .taken) ∙ left-6 (c .before)
@@ -89,9 +68,6 @@ left-7 : (c : tie.Else7) → Left 6 (c .before .before .before .before .before .
 unfolding ticks
 left-7 c = met-later (written 5 1) _ _ _ (c .if7 .left) ∙ left-6 (c .before)
 
-mul-if8 : tie.Need-mul-if8
-mul-if8 c = search needs
-
 returns-8 : tie.Need-returns-8
 unfolding ticks
 returns-8 c = met-first (written 3 1) _ _ _ (c .if8 .taken) ∙ left-7 (c .before)
@@ -99,9 +75,6 @@ returns-8 c = met-first (written 3 1) _ _ _ (c .if8 .taken) ∙ left-7 (c .befor
 left-8 : (c : tie.Else8) → Left 7 (c .before .before .before .before .before .before .before .before .args .num) (c .before .before .before .before .before .before .before .before .args .parts)
 unfolding ticks
 left-8 c = met-later (written 3 1) _ _ _ (c .if8 .left) ∙ left-7 (c .before)
-
-mul-if9 : tie.Need-mul-if9
-mul-if9 c = search needs
 
 returns-9 : tie.Need-returns-9
 unfolding ticks
@@ -120,21 +93,21 @@ common-value-spec =
     tie.close
     (tie.spec
     returns
-    mul-length
-    mul-if2
+    (λ c. search needs)
+    (λ c. search needs)
     returns-2
-    mul-if3
+    (λ c. search needs)
     returns-3
-    mul-if4
+    (λ c. search needs)
     returns-4
-    mul-if5
+    (λ c. search needs)
     returns-5
-    mul-if6
+    (λ c. search needs)
     returns-6
-    mul-if7
+    (λ c. search needs)
     returns-7
-    mul-if8
+    (λ c. search needs)
     returns-8
-    mul-if9
+    (λ c. search needs)
     returns-9
     returns-10)

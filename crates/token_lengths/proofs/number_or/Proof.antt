@@ -13,12 +13,6 @@ use borrow.Author.Needs.{needs}
 use Rattle.token_lengths.proofs.number_or.Statement.{statement}
 use Rattle.token_lengths.proofs.number_or.Tie as tie
 
-byte-at-requires : tie.Need-byte-at-requires
-byte-at-requires c κs = search needs
-
-is-digit-requires : tie.Need-is-digit-requires
-is-digit-requires c κs = search needs
-
 -- no digit
 returns : tie.Need-returns
 returns c =
@@ -35,20 +29,11 @@ within c = run-within isDigit refl (c .before .before .before .before .args .lin
 add-byte-at : tie.Need-add-byte-at
 add-byte-at c = omega (arith, within c)
 
-byte-at-requires-2 : tie.Need-byte-at-requires-2
-byte-at-requires-2 c κs = search needs
-
-is-digit-requires-2 : tie.Need-is-digit-requires-2
-is-digit-requires-2 c κs = search needs
-
 sub-t13 : tie.Need-sub-t13
 sub-t13 c =
     let b = c .before .before .before .before .before in
     let low : 48 ≤ b .byte-at .result = rw (b .byte-at .ensures) (digit-low _ (digit (c .before .before .before))) in
     omega arith
-
-cast-t14 : tie.Need-cast-t14
-cast-t14 c = search needs
 
 add-t15 : tie.Need-add-t15
 add-t15 c = omega (arith, within (c .before .before .before))
@@ -62,12 +47,6 @@ returns-2 c =
     let last = sym (rw (c .before .before .byte-at2 .ensures) at (c .before .is-digit2 .ensures)) ∙ not-true _ (c .if2 .taken) in
     rw (b .byte-at .ensures) (number-one (a .other) (a .line .now) (a .at) (digit e) last)
 
-read-number-requires : tie.Need-read-number-requires
-read-number-requires c κs = search needs
-
-enum-known-digits : tie.Need-enum-known-digits
-enum-known-digits c = search needs
-
 -- a number that was read fits 32 bits
 small : (c : tie.After-known-told) → c .before .digits .given .0 .0 ≤ 2 ^ 32 - 1
 small c =
@@ -76,12 +55,6 @@ small c =
 
 cast-t17 : tie.Need-cast-t17
 cast-t17 c = omega (arith, small c)
-
-enum-told : tie.Need-enum-told
-enum-told c = search needs
-
-enum-told-2 : tie.Need-enum-told-2
-enum-told-2 c = search needs
 
 returns-3 : tie.Need-returns-3
 returns-3 c = number-at _ _ _ _ (c .before .before .before .read-number .ensures) _ (c .before .digits .given .1)
@@ -96,21 +69,21 @@ pub number-or-spec : {M : Type 1} → statement M
 number-or-spec =
     tie.close
     (tie.spec
-    byte-at-requires
-    is-digit-requires
+    (λ c κs. search needs)
+    (λ c κs. search needs)
     returns
     add-byte-at
-    byte-at-requires-2
-    is-digit-requires-2
+    (λ c κs. search needs)
+    (λ c κs. search needs)
     sub-t13
-    cast-t14
+    (λ c. search needs)
     add-t15
     returns-2
-    read-number-requires
-    enum-known-digits
+    (λ c κs. search needs)
+    (λ c. search needs)
     cast-t17
-    enum-told
-    enum-told-2
+    (λ c. search needs)
+    (λ c. search needs)
     returns-3
     returns-4
     returns-5)

@@ -8,12 +8,6 @@ use borrow.Author.Needs.{needs}
 use Rattle.token_lengths.proofs.parse_duration_suffix.Statement.{statement}
 use Rattle.token_lengths.proofs.parse_duration_suffix.Tie as tie
 
-number-or-requires : tie.Need-number-or-requires
-number-or-requires c κs = search needs
-
-byte-at-requires : tie.Need-byte-at-requires
-byte-at-requires c κs = search needs
-
 returns : tie.Need-returns
 returns c =
     let b = c .before .before in
@@ -30,9 +24,6 @@ within c = slash-within (c .before .before .before .before .args .line .now) _ (
 add-number-or : tie.Need-add-number-or
 add-number-or c = omega (arith, within c)
 
-number-or-requires-2 : tie.Need-number-or-requires-2
-number-or-requires-2 c κs = search needs
-
 returns-2 : tie.Need-returns-2
 returns-2 c =
     let n = c .before .before .before .number-or .ensures in
@@ -42,9 +33,9 @@ pub parse-duration-suffix-spec : {M : Type 1} → statement M
 parse-duration-suffix-spec =
     tie.close
     (tie.spec
-    number-or-requires
-    byte-at-requires
+    (λ c κs. search needs)
+    (λ c κs. search needs)
     returns
     add-number-or
-    number-or-requires-2
+    (λ c κs. search needs)
     returns-2)

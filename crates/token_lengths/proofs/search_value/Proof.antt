@@ -24,9 +24,6 @@ Inv-search num parts length best₀ value₀ best value = (value ≤ 10) × Sear
 abbrev μ-search : tie.MeasureT-search
 μ-search num parts length best₀ value₀ best value = 10 - value
 
-mul-length : tie.Need-mul-length Inv-loop μ-loop Inv-search μ-search
-mul-length c = search needs
-
 search-holds : tie.Need-search-holds Inv-loop μ-loop Inv-search μ-search
 search-holds c = (omega arith, searching-start _ _)
 
@@ -48,15 +45,6 @@ mul-scaled c =
     let fit : c .size .result ≤ 7680 = rw (c .size .ensures) (size-le _ _ (value-lt (c .before)) (dots-lt (c .before))) in
     omega (arith, mul-le-mul fit (c .before .before .before .before .before .pre))
 
-longer-requires : tie.Need-longer-requires Inv-loop μ-loop Inv-search μ-search
-longer-requires c κs = search needs
-
-add-dots : tie.Need-add-dots Inv-loop μ-loop Inv-search μ-search
-add-dots c = search needs
-
-loop-less : tie.Need-loop-less Inv-loop μ-loop Inv-search μ-search
-loop-less c = search needs
-
 loop-again : tie.Need-loop-again Inv-loop μ-loop Inv-search μ-search
 loop-again c =
     let z = c .before .before in
@@ -73,23 +61,11 @@ loop-again c =
           (c .if2 .came),
     )
 
-add-value : tie.Need-add-value Inv-loop μ-loop Inv-search μ-search
-add-value c = search needs
-
-search-less : tie.Need-search-less Inv-loop μ-loop Inv-search μ-search
-search-less c = search needs
-
 search-again : tie.Need-search-again Inv-loop μ-loop Inv-search μ-search
 search-again c =
     let l = c .before in
     let e : 4 * (l .before .before .search .value + 1) ≡ 4 * l .before .before .search .value + l .loop .dots = omega arith in
     (omega arith, rw e (l .loop .inv .1))
-
-enum-known-best : tie.Need-enum-known-best Inv-loop μ-loop Inv-search μ-search
-enum-known-best c = search needs
-
-enum-told : tie.Need-enum-told Inv-loop μ-loop Inv-search μ-search
-enum-told c = search needs
 
 -- both ways out of the search leave the answer in `best`
 left : (c : tie.Left-search Inv-loop μ-loop Inv-search μ-search)
@@ -117,19 +93,19 @@ search-value-spec =
     μ-loop
     Inv-search
     μ-search
-    mul-length
+    (λ c. search needs)
     search-holds
     loop-holds
     size-requires
     mul-scaled
-    longer-requires
-    add-dots
-    loop-less
+    (λ c κs. search needs)
+    (λ c. search needs)
+    (λ c. search needs)
     loop-again
-    add-value
-    search-less
+    (λ c. search needs)
+    (λ c. search needs)
     search-again
-    enum-known-best
-    enum-told
+    (λ c. search needs)
+    (λ c. search needs)
     returns
     returns-2)

@@ -4,18 +4,6 @@ use borrow.Author.Needs.{needs}
 use Rattle.token_lengths.proofs.size.Statement.{statement}
 use Rattle.token_lengths.proofs.size.Tie as tie
 
-add-result : tie.Need-add-result
-add-result c = search needs
-
-cast-result : tie.Need-cast-result
-cast-result c = search needs
-
-shr-result : tie.Need-shr-result
-shr-result c = search needs
-
-shl-result : tie.Need-shl-result
-shl-result c = search needs
-
 sub-result : tie.Need-sub-result
 sub-result c = shifted-pos (c .args .value) (c .args .dots) (c .pre .0) (c .pre .1)
 
@@ -27,4 +15,4 @@ returns c = computed-size (c .args .value) (c .args .dots) (c .pre .0) (c .pre .
 
 pub size-spec : {M : Type 1} → statement M
 size-spec =
-    tie.close (tie.spec add-result cast-result shr-result shl-result sub-result mul-result returns)
+    tie.close (tie.spec (λ c. search needs) (λ c. search needs) (λ c. search needs) (λ c. search needs) sub-result mul-result returns)

@@ -5,25 +5,10 @@ use borrow.Author.Needs.{needs}
 use Rattle.token_lexemes.proofs.bar_line.Statement.{statement}
 use Rattle.token_lexemes.proofs.bar_line.Tie as tie
 
-parse-barline-requires : tie.Need-parse-barline-requires
-parse-barline-requires c κs = search needs
-
-enum-known-right : tie.Need-enum-known-right
-enum-known-right c = search needs
-
-enum-told : tie.Need-enum-told
-enum-told c = search needs
-
-add-t9 : tie.Need-add-t9
-add-t9 c = search needs
-
 returns : tie.Need-returns
 returns c =
     let a = c .before .before .before .before .args in
     no-bar (a .line .now) (a .at) (sym (c .before .before .parse-barline .ensures) ∙ c .enum-told .given .1)
-
-byte-at-requires : tie.Need-byte-at-requires
-byte-at-requires c κs = search needs
 
 returns-2 : tie.Need-returns-2
 returns-2 c =
@@ -34,10 +19,10 @@ pub bar-line-spec : {M : Type 1} → statement M
 bar-line-spec =
     tie.close
     (tie.spec
-    parse-barline-requires
-    enum-known-right
-    enum-told
-    add-t9
+    (λ c κs. search needs)
+    (λ c. search needs)
+    (λ c. search needs)
+    (λ c. search needs)
     returns
-    byte-at-requires
+    (λ c κs. search needs)
     returns-2)

@@ -4,22 +4,10 @@ use borrow.Author.Needs.{needs}
 use Rattle.token_lexemes.proofs.broken.Statement.{statement}
 use Rattle.token_lexemes.proofs.broken.Tie as tie
 
-add-run-end : tie.Need-add-run-end
-add-run-end c = search needs
-
-run-end-requires : tie.Need-run-end-requires
-run-end-requires c κs = search needs
-
-sub-count : tie.Need-sub-count
-sub-count c = search needs
-
 returns : tie.Need-returns
 returns c =
     let a = c .before .before .before .args in
     too-many (a .line .now) (a .at) (a .b) (c .before .run-end .result) (a .up) (c .before .before .before .pre) (c .before .run-end .ensures) (c .if1 .taken)
-
-cast-t11 : tie.Need-cast-t11
-cast-t11 c = search needs
 
 returns-2 : tie.Need-returns-2
 returns-2 c =
@@ -28,4 +16,4 @@ returns-2 c =
 
 pub broken-spec : {M : Type 1} → statement M
 broken-spec =
-    tie.close (tie.spec add-run-end run-end-requires sub-count returns cast-t11 returns-2)
+    tie.close (tie.spec (λ c. search needs) (λ c κs. search needs) (λ c. search needs) returns (λ c. search needs) returns-2)

@@ -11,15 +11,6 @@ use borrow.Author.Needs.{needs}
 use Rattle.token_lexemes.proofs.quoted_text.Statement.{statement}
 use Rattle.token_lexemes.proofs.quoted_text.Tie as tie
 
-add-find : tie.Need-add-find
-add-find c = search needs
-
-find-requires : tie.Need-find-requires
-find-requires c κs = search needs
-
-add-t8 : tie.Need-add-t8
-add-t8 c = search needs
-
 returns : tie.Need-returns
 unfolding tokenAs lexemeFor
 returns c =
@@ -34,4 +25,4 @@ returns-2 c =
     rw n (unclosed (a .line .now) (a .at) 34 (c .before .find .result) (c .before .before .before .pre) (c .before .find .ensures) quoted (taken quoted (length (drop (a .at) (a .line .now)))) (c .if1 .left))
 
 pub quoted-text-spec : {M : Type 1} → statement M
-quoted-text-spec = tie.close (tie.spec add-find find-requires add-t8 returns returns-2)
+quoted-text-spec = tie.close (tie.spec (λ c. search needs) (λ c κs. search needs) (λ c. search needs) returns returns-2)

@@ -9,12 +9,6 @@ use borrow.Author.Needs.{needs}
 use Rattle.token_lexemes.proofs.rest.Statement.{statement}
 use Rattle.token_lexemes.proofs.rest.Tie as tie
 
-add-parse-duration-suffix : tie.Need-add-parse-duration-suffix
-add-parse-duration-suffix c = search needs
-
-parse-duration-suffix-requires : tie.Need-parse-duration-suffix-requires
-parse-duration-suffix-requires c κs = search needs
-
 returns : tie.Need-returns
 unfolding suffixAt
 returns c =
@@ -23,4 +17,4 @@ returns c =
     rw (c .parse-duration-suffix .ensures, n)
 
 pub rest-spec : {M : Type 1} → statement M
-rest-spec = tie.close (tie.spec add-parse-duration-suffix parse-duration-suffix-requires returns)
+rest-spec = tie.close (tie.spec (λ c. search needs) (λ c κs. search needs) returns)

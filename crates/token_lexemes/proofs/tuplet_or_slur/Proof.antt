@@ -5,18 +5,6 @@ use borrow.Author.Needs.{needs}
 use Rattle.token_lexemes.proofs.tuplet_or_slur.Statement.{statement}
 use Rattle.token_lexemes.proofs.tuplet_or_slur.Tie as tie
 
-parse-abc-tuplet-requires : tie.Need-parse-abc-tuplet-requires
-parse-abc-tuplet-requires c κs = search needs
-
-enum-known-actual : tie.Need-enum-known-actual
-enum-known-actual c = search needs
-
-enum-told : tie.Need-enum-told
-enum-told c = search needs
-
-add-t9 : tie.Need-add-t9
-add-t9 c = search needs
-
 returns : tie.Need-returns
 returns c =
     let a = c .before .before .before .before .args in
@@ -30,4 +18,4 @@ returns-2 c =
 pub tuplet-or-slur-spec : {M : Type 1} → statement M
 tuplet-or-slur-spec =
     tie.close
-    (tie.spec parse-abc-tuplet-requires enum-known-actual enum-told add-t9 returns returns-2)
+    (tie.spec (λ c κs. search needs) (λ c. search needs) (λ c. search needs) (λ c. search needs) returns returns-2)

@@ -5,18 +5,6 @@ use borrow.Author.Needs.{needs}
 use Rattle.token_lexemes.proofs.volta.Statement.{statement}
 use Rattle.token_lexemes.proofs.volta.Tie as tie
 
-add-parse-passes : tie.Need-add-parse-passes
-add-parse-passes c = search needs
-
-parse-passes-requires : tie.Need-parse-passes-requires
-parse-passes-requires c κs = search needs
-
-enum-known-first : tie.Need-enum-known-first
-enum-known-first c = search needs
-
-enum-told : tie.Need-enum-told
-enum-told c = search needs
-
 returns : tie.Need-returns
 returns c =
     let s = c .before .before .before .before in
@@ -30,4 +18,4 @@ returns-2 c =
 pub volta-spec : {M : Type 1} → statement M
 volta-spec =
     tie.close
-    (tie.spec add-parse-passes parse-passes-requires enum-known-first enum-told returns returns-2)
+    (tie.spec (λ c. search needs) (λ c κs. search needs) (λ c. search needs) (λ c. search needs) returns returns-2)

@@ -23,15 +23,6 @@ abbrev μ-loop : tie.MeasureT-loop
 loop-holds : tie.Need-loop-holds Inv-loop μ-loop
 loop-holds c = passing-start _ _
 
-pass-item-requires : tie.Need-pass-item-requires Inv-loop μ-loop
-pass-item-requires c κs = search needs
-
-enum-known-from : tie.Need-enum-known-from Inv-loop μ-loop
-enum-known-from c = search needs
-
-enum-told : tie.Need-enum-told Inv-loop μ-loop
-enum-told c = search needs
-
 returns : tie.Need-returns Inv-loop μ-loop
 returns c =
     let l = c .before .before .before in
@@ -51,9 +42,6 @@ within : (c : tie.Else1 Inv-loop μ-loop) → c .before .before .before .before 
 within c =
     run-within (λ x. eqb x 44) refl (c .before .before .before .before .before .before .before .before .before .before .args .line .now) _ (eq-eqb _ _ (comma c))
 
-first-of-requires : tie.Need-first-of-requires Inv-loop μ-loop
-first-of-requires c κs = search needs
-
 range-bits-requires : tie.Need-range-bits-requires Inv-loop μ-loop
 range-bits-requires c κs =
     let t = item (c .before .before) .1 in
@@ -65,9 +53,6 @@ add-bits c =
     let f = c .before .before .before in
     let l = f .before .before .before in
     rw (c .range-bits .ensures) (omega (arith, passing-fits _ _ _ _ _ _ (l .loop .inv) (f .from .given .0 .0) (f .from .given .0 .1 .0) (f .from .given .0 .1 .1 .0) (item f .0) (item f .1)))
-
-byte-at-requires : tie.Need-byte-at-requires Inv-loop μ-loop
-byte-at-requires c κs = search needs
 
 cast-t14 : tie.Need-cast-t14 Inv-loop μ-loop
 cast-t14 c =
@@ -103,14 +88,14 @@ parse-passes-spec =
     Inv-loop
     μ-loop
     loop-holds
-    pass-item-requires
-    enum-known-from
-    enum-told
+    (λ c κs. search needs)
+    (λ c. search needs)
+    (λ c. search needs)
     returns
-    first-of-requires
+    (λ c κs. search needs)
     range-bits-requires
     add-bits
-    byte-at-requires
+    (λ c κs. search needs)
     cast-t14
     returns-2
     add-i

@@ -16,15 +16,6 @@ use borrow.Author.Needs.{needs}
 use Rattle.token_passes.proofs.pass_item.Statement.{statement}
 use Rattle.token_passes.proofs.pass_item.Tie as tie
 
-pass-number-requires : tie.Need-pass-number-requires
-pass-number-requires c κs = search needs
-
-enum-known-from : tie.Need-enum-known-from
-enum-known-from c = search needs
-
-enum-told : tie.Need-enum-told
-enum-told c = search needs
-
 -- the line, the place and the bound, and what was read, seen from each number
 abbrev text : tie.After-from → List ℕ
 text c = c .before .before .before .before .args .line .now
@@ -58,9 +49,6 @@ returns-2 c =
     let p = c .before .before in
     low-first (text p) (place p) (bound p) _ (first p .1) _ (first p .0) _ (c .if1 .taken)
 
-byte-at-requires : tie.Need-byte-at-requires
-byte-at-requires c κs = search needs
-
 returns-3 : tie.Need-returns-3
 returns-3 c =
     let p = c .before .before .before .before in
@@ -70,15 +58,6 @@ add-pass-number : tie.Need-add-pass-number
 add-pass-number c =
     let p = c .before .before .before .before in
     omega (arith, run-within (λ x. eqb x 45) refl (text p) (p .from .given .0 .1 .0) (eq-eqb _ _ (hyphen c)))
-
-pass-number-requires-2 : tie.Need-pass-number-requires-2
-pass-number-requires-2 c κs = search needs
-
-enum-known-to : tie.Need-enum-known-to
-enum-known-to c = search needs
-
-enum-told-2 : tie.Need-enum-told-2
-enum-told-2 c = search needs
 
 returns-4 : tie.Need-returns-4
 returns-4 c =
@@ -93,9 +72,6 @@ returns-5 c =
     let p = of-to q in
     let l : q .to .given .0 .0 ≤ p .from .given .0 .0 = omega (arith, c .if3 .taken) in
     low-second (text p) (place p) (bound p) _ (first p .1) _ (first p .0) (e .before .before .if1 .left) (hyphen e) _ (second q .1) _ (second q .0) _ l
-
-byte-at-requires-2 : tie.Need-byte-at-requires-2
-byte-at-requires-2 c κs = search needs
 
 returns-6 : tie.Need-returns-6
 returns-6 c =
@@ -115,19 +91,19 @@ pub pass-item-spec : {M : Type 1} → statement M
 pass-item-spec =
     tie.close
     (tie.spec
-    pass-number-requires
-    enum-known-from
-    enum-told
+    (λ c κs. search needs)
+    (λ c. search needs)
+    (λ c. search needs)
     returns
     returns-2
-    byte-at-requires
+    (λ c κs. search needs)
     returns-3
     add-pass-number
-    pass-number-requires-2
-    enum-known-to
-    enum-told-2
+    (λ c κs. search needs)
+    (λ c. search needs)
+    (λ c. search needs)
     returns-4
     returns-5
-    byte-at-requires-2
+    (λ c κs. search needs)
     returns-6
     returns-7)

@@ -13,9 +13,6 @@ use borrow.Author.Needs.{needs}
 use Rattle.token_passes.proofs.pass_number.Statement.{statement}
 use Rattle.token_passes.proofs.pass_number.Tie as tie
 
-byte-at-requires : tie.Need-byte-at-requires
-byte-at-requires c κs = search needs
-
 -- the digits, as the definition writes them
 told : (c : tie.After-read-number) → written 32 (run isDigit (drop (c .before .before .before .before .args .at) (c .before .before .before .before .args .line .now))) ≡ c .read-number .result .digits
 unfolding numberAt
@@ -26,18 +23,6 @@ unfolding passFor
 returns c =
     let a = c .before .before .before .args in
     rw (zero-leads (a .line .now) (a .at) (sym (c .before .byte-at .ensures) ∙ c .if1 .taken))
-
-read-number-requires : tie.Need-read-number-requires
-read-number-requires c κs = search needs
-
-enum-told : tie.Need-enum-told
-enum-told c = search needs
-
-enum-told-2 : tie.Need-enum-told-2
-enum-told-2 c = search needs
-
-enum-known-digits : tie.Need-enum-known-digits
-enum-known-digits c = search needs
 
 cast-t10 : tie.Need-cast-t10
 cast-t10 c =
@@ -70,12 +55,12 @@ pub pass-number-spec : {M : Type 1} → statement M
 pass-number-spec =
     tie.close
     (tie.spec
-    byte-at-requires
+    (λ c κs. search needs)
     returns
-    read-number-requires
-    enum-told
-    enum-told-2
-    enum-known-digits
+    (λ c κs. search needs)
+    (λ c. search needs)
+    (λ c. search needs)
+    (λ c. search needs)
     cast-t10
     returns-2
     returns-3

@@ -4,18 +4,6 @@ use borrow.Author.Needs.{needs}
 use Rattle.token_passes.proofs.range_bits.Statement.{statement}
 use Rattle.token_passes.proofs.range_bits.Tie as tie
 
-shl-result : tie.Need-shl-result
-shl-result c = search needs
-
-sub-result : tie.Need-sub-result
-sub-result c = search needs
-
-cast-result : tie.Need-cast-result
-cast-result c = search needs
-
-shl-result-2 : tie.Need-shl-result-2
-shl-result-2 c = search needs
-
 sub-result-2 : tie.Need-sub-result-2
 sub-result-2 c = shifts-le (c .args .from) (c .args .to) (c .pre .0) (c .pre .1) (c .pre .2)
 
@@ -24,4 +12,4 @@ returns c = shifts-bits (c .args .from) (c .args .to) (c .pre .0) (c .pre .1) (c
 
 pub range-bits-spec : {M : Type 1} → statement M
 range-bits-spec =
-    tie.close (tie.spec shl-result sub-result cast-result shl-result-2 sub-result-2 returns)
+    tie.close (tie.spec (λ c. search needs) (λ c. search needs) (λ c. search needs) (λ c. search needs) sub-result-2 returns)

@@ -5,9 +5,6 @@ use borrow.Author.Needs.{needs}
 use Rattle.token_pitches.proofs.abc_note_char.Statement.{statement}
 use Rattle.token_pitches.proofs.abc_note_char.Tie as tie
 
-add-step : tie.Need-add-step
-add-step c = search needs
-
 returns : tie.Need-returns
 unfolding stepOf letterOctave
 returns c = rw (lt-ltb _ _ (c .if1 .taken))
@@ -17,4 +14,4 @@ unfolding stepOf letterOctave
 returns-2 c = rw (le-ltb _ _ (c .if1 .left))
 
 pub abc-note-char-spec : {M : Type 1} → statement M
-abc-note-char-spec = tie.close (tie.spec add-step returns returns-2)
+abc-note-char-spec = tie.close (tie.spec (λ c. search needs) returns returns-2)

@@ -11,20 +11,11 @@ use borrow.Author.Needs.{needs}
 use Rattle.token_pitches.proofs.accidental_before.Statement.{statement}
 use Rattle.token_pitches.proofs.accidental_before.Tie as tie
 
-byte-at-requires : tie.Need-byte-at-requires
-byte-at-requires c κs = search needs
-
-signs-requires : tie.Need-signs-requires
-signs-requires c κs = search needs
-
 returns : tie.Need-returns
 returns c =
     let b = c .before .before in
     let a = b .before .before .args in
     c .signs .ensures ∙ ap (beforeFor (a .at)) (sym (before-up (a .line .now) (a .at) (sym (b .byte-at .ensures) ∙ c .before .if1 .taken)))
-
-signs-requires-2 : tie.Need-signs-requires-2
-signs-requires-2 c κs = search needs
 
 returns-2 : tie.Need-returns-2
 returns-2 c =
@@ -54,10 +45,10 @@ pub accidental-before-spec : {M : Type 1} → statement M
 accidental-before-spec =
     tie.close
     (tie.spec
-    byte-at-requires
-    signs-requires
+    (λ c κs. search needs)
+    (λ c κs. search needs)
     returns
-    signs-requires-2
+    (λ c κs. search needs)
     returns-2
     add-t6
     returns-3

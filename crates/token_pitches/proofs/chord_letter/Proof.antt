@@ -5,24 +5,6 @@ use borrow.Author.Needs.{needs}
 use Rattle.token_pitches.proofs.chord_letter.Statement.{statement}
 use Rattle.token_pitches.proofs.chord_letter.Tie as tie
 
-shared-slice-read-abc-note-char : tie.Need-shared-slice-read-abc-note-char
-shared-slice-read-abc-note-char c = search needs
-
-abc-note-char-requires : tie.Need-abc-note-char-requires
-abc-note-char-requires c κs = search needs
-
-add-octave-marks : tie.Need-add-octave-marks
-add-octave-marks c = search needs
-
-octave-marks-requires : tie.Need-octave-marks-requires
-octave-marks-requires c κs = search needs
-
-enum-known-octave : tie.Need-enum-known-octave
-enum-known-octave c = search needs
-
-enum-told : tie.Need-enum-told
-enum-told c = search needs
-
 returns : tie.Need-returns
 returns c =
     let o = c .before .before in
@@ -40,11 +22,11 @@ pub chord-letter-spec : {M : Type 1} → statement M
 chord-letter-spec =
     tie.close
     (tie.spec
-    shared-slice-read-abc-note-char
-    abc-note-char-requires
-    add-octave-marks
-    octave-marks-requires
-    enum-known-octave
-    enum-told
+    (λ c. search needs)
+    (λ c κs. search needs)
+    (λ c. search needs)
+    (λ c κs. search needs)
+    (λ c. search needs)
+    (λ c. search needs)
     returns
     returns-2)

@@ -10,18 +10,6 @@ use borrow.Author.Needs.{needs}
 use Rattle.token_pitches.proofs.chord_sign.Statement.{statement}
 use Rattle.token_pitches.proofs.chord_sign.Tie as tie
 
-enum-told : tie.Need-enum-told
-enum-told c = search needs
-
-add-byte-at : tie.Need-add-byte-at
-add-byte-at c = search needs
-
-byte-at-requires : tie.Need-byte-at-requires
-byte-at-requires c κs = search needs
-
-quarter-tone-requires : tie.Need-quarter-tone-requires
-quarter-tone-requires c κs = search needs
-
 add-t11 : tie.Need-add-t11
 add-t11 c =
     let b = c .before .before in
@@ -34,21 +22,6 @@ returns c =
     let a = b .before .before .before .before .args in
     rw (c .quarter-tone .ensures)
     (sign-first-quarter (a .line .now) (a .at) (a .up) (a .waits) (b .before .enum-told .given .1) (sym (b .byte-at .ensures) ∙ c .before .if1 .taken))
-
-moved-requires : tie.Need-moved-requires
-moved-requires c κs = search needs
-
-add-t8 : tie.Need-add-t8
-add-t8 c = search needs
-
-enum-known-waits : tie.Need-enum-known-waits
-enum-known-waits c = search needs
-
-moved-requires-2 : tie.Need-moved-requires-2
-moved-requires-2 c κs = search needs
-
-add-t15 : tie.Need-add-t15
-add-t15 c = search needs
 
 returns-2 : tie.Need-returns-2
 returns-2 c =
@@ -66,16 +39,16 @@ pub chord-sign-spec : {M : Type 1} → statement M
 chord-sign-spec =
     tie.close
     (tie.spec
-    enum-told
-    add-byte-at
-    byte-at-requires
-    quarter-tone-requires
+    (λ c. search needs)
+    (λ c. search needs)
+    (λ c κs. search needs)
+    (λ c κs. search needs)
     add-t11
     returns
-    moved-requires
-    add-t8
-    enum-known-waits
-    moved-requires-2
-    add-t15
+    (λ c κs. search needs)
+    (λ c. search needs)
+    (λ c. search needs)
+    (λ c κs. search needs)
+    (λ c. search needs)
     returns-2
     returns-3)

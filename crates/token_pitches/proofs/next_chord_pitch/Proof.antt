@@ -21,16 +21,10 @@ abbrev μ-loop : tie.MeasureT-loop
 loop-holds : tie.Need-loop-holds Inv-loop μ-loop
 loop-holds c = refl
 
-shared-slice-read-c : tie.Need-shared-slice-read-c Inv-loop μ-loop
-shared-slice-read-c c = search needs
-
 returns : tie.Need-returns Inv-loop μ-loop
 returns c =
     let l = c .before .before .before in
     sym (met-close (l .before .before .args .line .now) (l .loop .i) (signOf (l .loop .waits)) (c .before .before .loop-test .taken) (c .if1 .taken)) ∙ l .loop .inv
-
-chord-sign-requires : tie.Need-chord-sign-requires Inv-loop μ-loop
-chord-sign-requires c κs = search needs
 
 loop-less : tie.Need-loop-less Inv-loop μ-loop
 loop-less c =
@@ -44,9 +38,6 @@ loop-again c =
     rw (c .chord-sign .ensures, mark-back)
     (sym (met-up (a .line .now) (l .loop .i) (signOf (l .loop .waits)) (c .before .before .before .before .loop-test .taken) (c .before .if2 .taken)) ∙ l .loop .inv)
 
-chord-sign-requires-2 : tie.Need-chord-sign-requires-2 Inv-loop μ-loop
-chord-sign-requires-2 c κs = search needs
-
 loop-less-2 : tie.Need-loop-less-2 Inv-loop μ-loop
 loop-less-2 c =
     let l = c .before .before .before .before .before .before in
@@ -59,23 +50,11 @@ loop-again-2 c =
     rw (c .chord-sign2 .ensures, mark-back)
     (sym (met-down (a .line .now) (l .loop .i) (signOf (l .loop .waits)) (c .before .before .before .before .before .loop-test .taken) (c .before .if3 .taken)) ∙ l .loop .inv)
 
-add-i : tie.Need-add-i Inv-loop μ-loop
-add-i c = search needs
-
-loop-less-3 : tie.Need-loop-less-3 Inv-loop μ-loop
-loop-less-3 c = search needs
-
 loop-again-3 : tie.Need-loop-again-3 Inv-loop μ-loop
 loop-again-3 c =
     let l = c .before .before .before .before .before .before in
     let a = l .before .before .args in
     sym (met-natural (a .line .now) (l .loop .i) (signOf (l .loop .waits)) (c .before .before .before .before .before .loop-test .taken) (c .if4 .taken)) ∙ l .loop .inv
-
-is-letter-requires : tie.Need-is-letter-requires Inv-loop μ-loop
-is-letter-requires c κs = search needs
-
-chord-letter-requires : tie.Need-chord-letter-requires Inv-loop μ-loop
-chord-letter-requires c κs = search needs
 
 returns-2 : tie.Need-returns-2 Inv-loop μ-loop
 returns-2 c =
@@ -86,12 +65,6 @@ returns-2 c =
     ∙ sym (met-letter (a .line .now) (l .loop .i) (signOf (l .loop .waits)) (f .before .before .before .before .before .loop-test .taken) (f .before .before .before .if1 .left) (f .before .before .if2 .left) (f .before .if3 .left) (f .if4 .left)
     (sym (c .before .before .is-letter .ensures) ∙ c .before .if5 .taken))
     ∙ l .loop .inv
-
-add-i-2 : tie.Need-add-i-2 Inv-loop μ-loop
-add-i-2 c = search needs
-
-loop-less-4 : tie.Need-loop-less-4 Inv-loop μ-loop
-loop-less-4 c = search needs
 
 loop-again-4 : tie.Need-loop-again-4 Inv-loop μ-loop
 loop-again-4 c =
@@ -114,21 +87,21 @@ next-chord-pitch-spec =
     Inv-loop
     μ-loop
     loop-holds
-    shared-slice-read-c
+    (λ c. search needs)
     returns
-    chord-sign-requires
+    (λ c κs. search needs)
     loop-less
     loop-again
-    chord-sign-requires-2
+    (λ c κs. search needs)
     loop-less-2
     loop-again-2
-    add-i
-    loop-less-3
+    (λ c. search needs)
+    (λ c. search needs)
     loop-again-3
-    is-letter-requires
-    chord-letter-requires
+    (λ c κs. search needs)
+    (λ c κs. search needs)
     returns-2
-    add-i-2
-    loop-less-4
+    (λ c. search needs)
+    (λ c. search needs)
     loop-again-4
     returns-3)

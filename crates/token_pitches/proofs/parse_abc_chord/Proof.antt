@@ -18,31 +18,16 @@ abbrev μ-loop : tie.MeasureT-loop
 loop-holds : tie.Need-loop-holds Inv-loop μ-loop
 loop-holds c = counting-start _ _
 
-next-chord-pitch-requires : tie.Need-next-chord-pitch-requires Inv-loop μ-loop
-next-chord-pitch-requires c κs = search needs
-
-enum-told : tie.Need-enum-told Inv-loop μ-loop
-enum-told c = search needs
-
-past-requires : tie.Need-past-requires Inv-loop μ-loop
-past-requires c κs = search needs
-
 returns : tie.Need-returns Inv-loop μ-loop
 returns c =
     let l = c .before .before .before .before .before in
     rw (c .past .ensures)
     (counting-over _ _ _ _ (l .loop .inv) _ (sym (c .before .before .before .next-chord-pitch .ensures) ∙ c .before .enum-told .given .1))
 
-enum-told-2 : tie.Need-enum-told-2 Inv-loop μ-loop
-enum-told-2 c = search needs
-
 returns-2 : tie.Need-returns-2 Inv-loop μ-loop
 returns-2 c =
     let l = c .before .before .before .before in
     counting-out _ _ _ _ (l .loop .inv) _ (sym (c .before .before .next-chord-pitch .ensures) ∙ c .enum-told2 .given .1)
-
-enum-known-next : tie.Need-enum-known-next Inv-loop μ-loop
-enum-known-next c = search needs
 
 -- a pitch was read
 one : (c : tie.After-known-told Inv-loop μ-loop)
@@ -62,9 +47,6 @@ loop-less c = omega (arith, one c .0)
 loop-again : tie.Need-loop-again Inv-loop μ-loop
 loop-again c = one c .1
 
-past-requires-2 : tie.Need-past-requires-2 Inv-loop μ-loop
-past-requires-2 c κs = search needs
-
 returns-3 : tie.Need-returns-3 Inv-loop μ-loop
 returns-3 c =
     let l = c .before .before in
@@ -78,15 +60,15 @@ parse-abc-chord-spec =
     Inv-loop
     μ-loop
     loop-holds
-    next-chord-pitch-requires
-    enum-told
-    past-requires
+    (λ c κs. search needs)
+    (λ c. search needs)
+    (λ c κs. search needs)
     returns
-    enum-told-2
+    (λ c. search needs)
     returns-2
-    enum-known-next
+    (λ c. search needs)
     add-count
     loop-less
     loop-again
-    past-requires-2
+    (λ c κs. search needs)
     returns-3)

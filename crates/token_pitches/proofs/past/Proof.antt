@@ -5,9 +5,6 @@ use borrow.Author.Needs.{needs}
 use Rattle.token_pitches.proofs.past.Statement.{statement}
 use Rattle.token_pitches.proofs.past.Tie as tie
 
-add-result : tie.Need-add-result
-add-result c = search needs
-
 returns : tie.Need-returns
 unfolding closedAt
 returns c = rw (lt-ltb _ _ (c .if1 .taken))
@@ -17,4 +14,4 @@ unfolding closedAt
 returns-2 c = rw (le-ltb _ _ (c .if1 .left))
 
 pub past-spec : {M : Type 1} → statement M
-past-spec = tie.close (tie.spec add-result returns returns-2)
+past-spec = tie.close (tie.spec (λ c. search needs) returns returns-2)

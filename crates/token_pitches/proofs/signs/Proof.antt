@@ -11,18 +11,6 @@ use borrow.Author.Needs.{needs}
 use Rattle.token_pitches.proofs.signs.Statement.{statement}
 use Rattle.token_pitches.proofs.signs.Tie as tie
 
-run-end-requires : tie.Need-run-end-requires
-run-end-requires c κs = search needs
-
-sub-n : tie.Need-sub-n
-sub-n c = search needs
-
-byte-at-requires : tie.Need-byte-at-requires
-byte-at-requires c κs = search needs
-
-quarter-tone-requires : tie.Need-quarter-tone-requires
-quarter-tone-requires c κs = search needs
-
 add-t11 : tie.Need-add-t11
 add-t11 c =
     let b = c .before .before .before .before in
@@ -35,9 +23,6 @@ returns c =
     rw (c .quarter-tone .ensures)
     (signs-quarter (b .before .before .args .line .now) (b .before .before .args .at) (b .before .before .args .up) (b .before .before .args .b) (b .run-end .result) (b .run-end .ensures)
     (c .before .before .before .if1 .taken) (sym (c .before .before .byte-at .ensures) ∙ eqb-true _ _ (c .before .if2 .taken)))
-
-moved-requires : tie.Need-moved-requires
-moved-requires c κs = search needs
 
 returns-2 : tie.Need-returns-2
 returns-2 c =
@@ -53,11 +38,11 @@ pub signs-spec : {M : Type 1} → statement M
 signs-spec =
     tie.close
     (tie.spec
-    run-end-requires
-    sub-n
-    byte-at-requires
-    quarter-tone-requires
+    (λ c κs. search needs)
+    (λ c. search needs)
+    (λ c κs. search needs)
+    (λ c κs. search needs)
     add-t11
     returns
-    moved-requires
+    (λ c κs. search needs)
     returns-2)

@@ -7,9 +7,6 @@ use borrow.Author.Needs.{needs}
 use Rattle.token_symbols.proofs.class_of.Statement.{statement}
 use Rattle.token_symbols.proofs.class_of.Tie as tie
 
-element-copy-out-result : tie.Need-element-copy-out-result
-element-copy-out-result c = search needs
-
 returns : tie.Need-returns
 returns c =
     let a = c .before .before .args in
@@ -22,4 +19,4 @@ returns-2 c =
     sym (high-skipped (c .before .args .b) h (omega arith))
 
 pub class-of-spec : {M : Type 1} → statement M
-class-of-spec = tie.close (tie.spec element-copy-out-result returns returns-2)
+class-of-spec = tie.close (tie.spec (λ c. search needs) returns returns-2)

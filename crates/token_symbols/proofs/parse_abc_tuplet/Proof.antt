@@ -16,18 +16,6 @@ use borrow.Author.Needs.{needs}
 use Rattle.token_symbols.proofs.parse_abc_tuplet.Statement.{statement}
 use Rattle.token_symbols.proofs.parse_abc_tuplet.Tie as tie
 
-add-positive : tie.Need-add-positive
-add-positive c = search needs
-
-positive-requires : tie.Need-positive-requires
-positive-requires c κs = search needs
-
-enum-known-p : tie.Need-enum-known-p
-enum-known-p c = search needs
-
-enum-told : tie.Need-enum-told
-enum-told c = search needs
-
 -- the line, the place of the `(`, and what was read, seen from each number
 abbrev text : tie.After-p → List ℕ
 text c = c .before .before .before .before .args .line .now
@@ -67,12 +55,6 @@ cast-actual c =
     let p = c .before .before in
     omega (arith, positive-le 255 (drop (place p + 1) (text p)) (p .p .given .0 .0) (actual p .0))
 
-byte-at-requires : tie.Need-byte-at-requires
-byte-at-requires c κs = search needs
-
-usual-normal-requires : tie.Need-usual-normal-requires
-usual-normal-requires c κs = search needs
-
 returns-3 : tie.Need-returns-3
 returns-3 c =
     let p = c .before .before .before .before .before in
@@ -82,15 +64,6 @@ add-positive-2 : tie.Need-add-positive-2
 add-positive-2 c =
     let p = c .before .before .before .before in
     omega (arith, run-within (λ x. eqb x 58) refl (text p) (p .p .given .0 .1 .0) (eq-eqb _ _ (colon c)))
-
-positive-requires-2 : tie.Need-positive-requires-2
-positive-requires-2 c κs = search needs
-
-enum-known-q : tie.Need-enum-known-q
-enum-known-q c = search needs
-
-enum-told-2 : tie.Need-enum-told-2
-enum-told-2 c = search needs
 
 returns-4 : tie.Need-returns-4
 returns-4 c =
@@ -103,9 +76,6 @@ cast-normal c =
     let q = c .before in
     omega (arith, positive-le 255 (drop (of-q q .p .given .0 .1 .0 + 1) (text (of-q q))) (q .q .given .0 .0) (normal q .0))
 
-byte-at-requires-2 : tie.Need-byte-at-requires-2
-byte-at-requires-2 c κs = search needs
-
 returns-5 : tie.Need-returns-5
 returns-5 c =
     let q = c .before .before .before in
@@ -117,15 +87,6 @@ add-positive-3 : tie.Need-add-positive-3
 add-positive-3 c =
     let q = c .before .before .before in
     omega (arith, run-within (λ x. eqb x 58) refl (text (of-q q)) (q .q .given .0 .1 .0) (eq-eqb _ _ (colon-2 c)))
-
-positive-requires-3 : tie.Need-positive-requires-3
-positive-requires-3 c κs = search needs
-
-enum-known-count : tie.Need-enum-known-count
-enum-known-count c = search needs
-
-enum-told-3 : tie.Need-enum-told-3
-enum-told-3 c = search needs
 
 returns-6 : tie.Need-returns-6
 returns-6 c =
@@ -150,27 +111,27 @@ pub parse-abc-tuplet-spec : {M : Type 1} → statement M
 parse-abc-tuplet-spec =
     tie.close
     (tie.spec
-    add-positive
-    positive-requires
-    enum-known-p
-    enum-told
+    (λ c. search needs)
+    (λ c κs. search needs)
+    (λ c. search needs)
+    (λ c. search needs)
     returns
     returns-2
     cast-actual
-    byte-at-requires
-    usual-normal-requires
+    (λ c κs. search needs)
+    (λ c κs. search needs)
     returns-3
     add-positive-2
-    positive-requires-2
-    enum-known-q
-    enum-told-2
+    (λ c κs. search needs)
+    (λ c. search needs)
+    (λ c. search needs)
     returns-4
     cast-normal
-    byte-at-requires-2
+    (λ c κs. search needs)
     returns-5
     add-positive-3
-    positive-requires-3
-    enum-known-count
-    enum-told-3
+    (λ c κs. search needs)
+    (λ c. search needs)
+    (λ c. search needs)
     returns-6
     returns-7)

@@ -10,51 +10,6 @@ use borrow.Author.Needs.{needs}
 use Rattle.token_symbols.proofs.parse_barline.Statement.{statement}
 use Rattle.token_symbols.proofs.parse_barline.Tie as tie
 
-shared-slice-read-first : tie.Need-shared-slice-read-first
-shared-slice-read-first c = search needs
-
-add-byte-at : tie.Need-add-byte-at
-add-byte-at c = search needs
-
-byte-at-requires : tie.Need-byte-at-requires
-byte-at-requires c κs = search needs
-
-add-read-bar : tie.Need-add-read-bar
-add-read-bar c = search needs
-
-read-bar-requires : tie.Need-read-bar-requires
-read-bar-requires c κs = search needs
-
-add-read-bar-2 : tie.Need-add-read-bar-2
-add-read-bar-2 c = search needs
-
-read-bar-requires-2 : tie.Need-read-bar-requires-2
-read-bar-requires-2 c κs = search needs
-
-add-read-bar-3 : tie.Need-add-read-bar-3
-add-read-bar-3 c = search needs
-
-read-bar-requires-3 : tie.Need-read-bar-requires-3
-read-bar-requires-3 c κs = search needs
-
-add-read-bar-4 : tie.Need-add-read-bar-4
-add-read-bar-4 c = search needs
-
-read-bar-requires-4 : tie.Need-read-bar-requires-4
-read-bar-requires-4 c κs = search needs
-
-add-read-bar-5 : tie.Need-add-read-bar-5
-add-read-bar-5 c = search needs
-
-read-bar-requires-5 : tie.Need-read-bar-requires-5
-read-bar-requires-5 c κs = search needs
-
-add-read-bar-6 : tie.Need-add-read-bar-6
-add-read-bar-6 c = search needs
-
-read-bar-requires-6 : tie.Need-read-bar-requires-6
-read-bar-requires-6 c κs = search needs
-
 -- the second byte, as the definition sees it
 second : (c : tie.After-byte-at) → first (drop (c .before .before .before .args .at + 1) (c .before .before .before .args .line .now)) ≡ c .byte-at .result
 second c = first-at (c .before .before .before .args .line .now) (c .before .before .before .args .at + 1) ∙ sym (c .byte-at .ensures)
@@ -108,21 +63,21 @@ pub parse-barline-spec : {M : Type 1} → statement M
 parse-barline-spec =
     tie.close
     (tie.spec
-    shared-slice-read-first
-    add-byte-at
-    byte-at-requires
-    add-read-bar
-    read-bar-requires
-    add-read-bar-2
-    read-bar-requires-2
-    add-read-bar-3
-    read-bar-requires-3
-    add-read-bar-4
-    read-bar-requires-4
-    add-read-bar-5
-    read-bar-requires-5
-    add-read-bar-6
-    read-bar-requires-6
+    (λ c. search needs)
+    (λ c. search needs)
+    (λ c κs. search needs)
+    (λ c. search needs)
+    (λ c κs. search needs)
+    (λ c. search needs)
+    (λ c κs. search needs)
+    (λ c. search needs)
+    (λ c κs. search needs)
+    (λ c. search needs)
+    (λ c κs. search needs)
+    (λ c. search needs)
+    (λ c κs. search needs)
+    (λ c. search needs)
+    (λ c κs. search needs)
     returns
     returns-2
     returns-3

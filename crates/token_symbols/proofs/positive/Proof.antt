@@ -11,18 +11,6 @@ use borrow.Author.Needs.{needs}
 use Rattle.token_symbols.proofs.positive.Statement.{statement}
 use Rattle.token_symbols.proofs.positive.Tie as tie
 
-read-number-requires : tie.Need-read-number-requires
-read-number-requires c κs = search needs
-
-enum-told : tie.Need-enum-told
-enum-told c = search needs
-
-enum-told-2 : tie.Need-enum-told-2
-enum-told-2 c = search needs
-
-enum-known-digits : tie.Need-enum-known-digits
-enum-known-digits c = search needs
-
 -- the digits, as the definition writes them
 told : (c : tie.After-read-number) → written (c .before .before .args .top) (run isDigit (drop (c .before .before .args .at) (c .before .before .args .line .now))) ≡ c .read-number .result .digits
 unfolding numberAt
@@ -52,10 +40,10 @@ pub positive-spec : {M : Type 1} → statement M
 positive-spec =
     tie.close
     (tie.spec
-    read-number-requires
-    enum-told
-    enum-told-2
-    enum-known-digits
+    (λ c κs. search needs)
+    (λ c. search needs)
+    (λ c. search needs)
+    (λ c. search needs)
     returns
     returns-2
     returns-3

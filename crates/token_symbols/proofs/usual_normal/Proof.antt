@@ -6,9 +6,6 @@ use borrow.Author.Needs.{needs}
 use Rattle.token_symbols.proofs.usual_normal.Statement.{statement}
 use Rattle.token_symbols.proofs.usual_normal.Tie as tie
 
-sub-result : tie.Need-sub-result
-sub-result c = search needs
-
 returns : tie.Need-returns
 unfolding normalFor orOneLess usualNormal
 returns c = rw (c .match .keys1)
@@ -28,4 +25,4 @@ returns-4 c =
     rw (ne-eqb _ 2 (n .0 .0 .1), ne-eqb _ 4 (n .1), usualNormal) (rw (ne-eqb _ 3 (n .0 .1)))
 
 pub usual-normal-spec : {M : Type 1} → statement M
-usual-normal-spec = tie.close (tie.spec sub-result returns returns-2 returns-3 returns-4)
+usual-normal-spec = tie.close (tie.spec (λ c. search needs) returns returns-2 returns-3 returns-4)

@@ -8,15 +8,6 @@ use borrow.Author.Needs.{needs}
 use Rattle.tokens.proofs.effect_at.Statement.{statement}
 use Rattle.tokens.proofs.effect_at.Tie as tie
 
-shared-slice-read-class-of : tie.Need-shared-slice-read-class-of
-shared-slice-read-class-of c = search needs
-
-class-of-requires : tie.Need-class-of-requires
-class-of-requires c κs = search needs
-
-note-effect-requires : tie.Need-note-effect-requires
-note-effect-requires c κs = search needs
-
 returns : tie.Need-returns
 unfolding byCode
 returns c =
@@ -24,21 +15,12 @@ returns c =
     let a = k .before .before .before .args in
     c .note-effect .ensures ∙ ap (effectedFor (a .at)) (sym (classed (a .line .now) (a .at) (k .class-of .result) 17 (k .class-of .ensures) (c .before .if1 .taken)))
 
-add-t12 : tie.Need-add-t12
-add-t12 c = search needs
-
 returns-2 : tie.Need-returns-2
 unfolding byCode tokenAs effectOf effectFor
 returns-2 c =
     let k = c .before .before in
     let a = k .before .before .before .args in
     ap (effectedFor (a .at)) (sym (classed (a .line .now) (a .at) (k .class-of .result) 1 (k .class-of .ensures) (c .if2 .taken)))
-
-lexeme-at-requires : tie.Need-lexeme-at-requires
-lexeme-at-requires c κs = search needs
-
-effect-of-requires : tie.Need-effect-of-requires
-effect-of-requires c κs = search needs
 
 returns-3 : tie.Need-returns-3
 returns-3 c =
@@ -49,12 +31,12 @@ pub effect-at-spec : {M : Type 1} → statement M
 effect-at-spec =
     tie.close
     (tie.spec
-    shared-slice-read-class-of
-    class-of-requires
-    note-effect-requires
+    (λ c. search needs)
+    (λ c κs. search needs)
+    (λ c κs. search needs)
     returns
-    add-t12
+    (λ c. search needs)
     returns-2
-    lexeme-at-requires
-    effect-of-requires
+    (λ c κs. search needs)
+    (λ c κs. search needs)
     returns-3)

@@ -15,18 +15,6 @@ use borrow.Author.Needs.{needs}
 use Rattle.tokens.proofs.letter_effect.Statement.{statement}
 use Rattle.tokens.proofs.letter_effect.Tie as tie
 
-add-byte-at : tie.Need-add-byte-at
-add-byte-at c = search needs
-
-byte-at-requires : tie.Need-byte-at-requires
-byte-at-requires c κs = search needs
-
-is-plain-requires : tie.Need-is-plain-requires
-is-plain-requires c κs = search needs
-
-add-t12 : tie.Need-add-t12
-add-t12 c = search needs
-
 returns : tie.Need-returns
 unfolding effectIn
 returns c =
@@ -36,24 +24,6 @@ returns c =
     let at = s .args .at in
     let e : isPlain (getD line (at + 1) 0) ≡ true = ap isPlain (sym (p .before .byte-at .ensures)) ∙ sym (p .is-plain .ensures) ∙ c .if1 .taken in
     ap effectedIn (letter-plain line at (s .pre) sign.Nothing (noteChar (getD line at 0)) refl e) ∙ effected at (noteAs (record { sign = none; used = 0 }) (getD line at 0) (drop (at + 1) line))
-
-shared-slice-read-abc-note-char : tie.Need-shared-slice-read-abc-note-char
-shared-slice-read-abc-note-char c = search needs
-
-abc-note-char-requires : tie.Need-abc-note-char-requires
-abc-note-char-requires c κs = search needs
-
-add-octave-marks : tie.Need-add-octave-marks
-add-octave-marks c = search needs
-
-octave-marks-requires : tie.Need-octave-marks-requires
-octave-marks-requires c κs = search needs
-
-enum-known-after-octave : tie.Need-enum-known-after-octave
-enum-known-after-octave c = search needs
-
-enum-told : tie.Need-enum-told
-enum-told c = search needs
 
 returns-2 : tie.Need-returns-2
 unfolding effectIn
@@ -65,12 +35,6 @@ returns-2 c =
     let at = s .args .at in
     ap effectedIn (letter-out line at (s .pre) sign.Nothing (n .abc-note-char .result) (n .abc-note-char .ensures) (sym (o .octave-marks .ensures) ∙ c .enum-told .given .1))
     ∙ effected at (noteAs (record { sign = none; used = 0 }) (getD line at 0) (drop (at + 1) line))
-
-parse-duration-suffix-requires : tie.Need-parse-duration-suffix-requires
-parse-duration-suffix-requires c κs = search needs
-
-apply-abc-note-annotations-requires : tie.Need-apply-abc-note-annotations-requires
-apply-abc-note-annotations-requires c κs = search needs
 
 returns-3 : tie.Need-returns-3
 unfolding effectIn
@@ -89,18 +53,18 @@ pub letter-effect-spec : {M : Type 1} → statement M
 letter-effect-spec =
     tie.close
     (tie.spec
-    add-byte-at
-    byte-at-requires
-    is-plain-requires
-    add-t12
+    (λ c. search needs)
+    (λ c κs. search needs)
+    (λ c κs. search needs)
+    (λ c. search needs)
     returns
-    shared-slice-read-abc-note-char
-    abc-note-char-requires
-    add-octave-marks
-    octave-marks-requires
-    enum-known-after-octave
-    enum-told
+    (λ c. search needs)
+    (λ c κs. search needs)
+    (λ c. search needs)
+    (λ c κs. search needs)
+    (λ c. search needs)
+    (λ c. search needs)
     returns-2
-    parse-duration-suffix-requires
-    apply-abc-note-annotations-requires
+    (λ c κs. search needs)
+    (λ c κs. search needs)
     returns-3)

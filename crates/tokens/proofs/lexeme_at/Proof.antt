@@ -12,60 +12,6 @@ use borrow.Author.Needs.{needs}
 use Rattle.tokens.proofs.lexeme_at.Statement.{statement}
 use Rattle.tokens.proofs.lexeme_at.Tie as tie
 
-add-t6 : tie.Need-add-t6
-add-t6 c = search needs
-
-add-t8 : tie.Need-add-t8
-add-t8 c = search needs
-
-quoted-text-requires : tie.Need-quoted-text-requires
-quoted-text-requires c κs = search needs
-
-broken-requires : tie.Need-broken-requires
-broken-requires c κs = search needs
-
-broken-requires-2 : tie.Need-broken-requires-2
-broken-requires-2 c κs = search needs
-
-tuplet-or-slur-requires : tie.Need-tuplet-or-slur-requires
-tuplet-or-slur-requires c κs = search needs
-
-add-t10 : tie.Need-add-t10
-add-t10 c = search needs
-
-add-t12 : tie.Need-add-t12
-add-t12 c = search needs
-
-decoration-requires : tie.Need-decoration-requires
-decoration-requires c κs = search needs
-
-decoration-requires-2 : tie.Need-decoration-requires-2
-decoration-requires-2 c κs = search needs
-
-bar-line-requires : tie.Need-bar-line-requires
-bar-line-requires c κs = search needs
-
-bracket-requires : tie.Need-bracket-requires
-bracket-requires c κs = search needs
-
-rest-requires : tie.Need-rest-requires
-rest-requires c κs = search needs
-
-rest-requires-2 : tie.Need-rest-requires-2
-rest-requires-2 c κs = search needs
-
-rest-requires-3 : tie.Need-rest-requires-3
-rest-requires-3 c κs = search needs
-
-rest-requires-4 : tie.Need-rest-requires-4
-rest-requires-4 c κs = search needs
-
-note-requires : tie.Need-note-requires
-note-requires c κs = search needs
-
-add-t14 : tie.Need-add-t14
-add-t14 c = search needs
-
 -- the token, where the class is known
 by-class : (c : tie.Start) (n : ℕ) → c .args .class ≡ n → tokenOf (drop (c .args .at) (c .args .line .now)) ≡ byCode n (drop (c .args .at) (c .args .line .now))
 by-class c n e = classed (c .args .line .now) (c .args .at) (c .args .class) n (c .pre .1) e
@@ -184,24 +130,24 @@ pub lexeme-at-spec : {M : Type 1} → statement M
 lexeme-at-spec =
     tie.close
     (tie.spec
-    add-t6
-    add-t8
-    quoted-text-requires
-    broken-requires
-    broken-requires-2
-    tuplet-or-slur-requires
-    add-t10
-    add-t12
-    decoration-requires
-    decoration-requires-2
-    bar-line-requires
-    bracket-requires
-    rest-requires
-    rest-requires-2
-    rest-requires-3
-    rest-requires-4
-    note-requires
-    add-t14
+    (λ c. search needs)
+    (λ c. search needs)
+    (λ c κs. search needs)
+    (λ c κs. search needs)
+    (λ c κs. search needs)
+    (λ c κs. search needs)
+    (λ c. search needs)
+    (λ c. search needs)
+    (λ c κs. search needs)
+    (λ c κs. search needs)
+    (λ c κs. search needs)
+    (λ c κs. search needs)
+    (λ c κs. search needs)
+    (λ c κs. search needs)
+    (λ c κs. search needs)
+    (λ c κs. search needs)
+    (λ c κs. search needs)
+    (λ c. search needs)
     returns
     returns-2
     returns-3

@@ -13,24 +13,12 @@ use borrow.Author.Needs.{needs}
 use Rattle.tokens.proofs.note_effect.Statement.{statement}
 use Rattle.tokens.proofs.note_effect.Tie as tie
 
-accidental-before-requires : tie.Need-accidental-before-requires
-accidental-before-requires c κs = search needs
-
 returns : tie.Need-returns
 unfolding effectIn
 returns c =
     let b = c .before in
     let a = b .before .before .args in
     ap effectedIn (note-ends (a .line .now) (a .at) (b .accidental-before .result) (b .accidental-before .ensures) (c .if1 .taken)) ∙ effected (a .at) (tokenAs pitched (drop (a .at) (a .line .now)))
-
-shared-slice-read-is-letter : tie.Need-shared-slice-read-is-letter
-shared-slice-read-is-letter c = search needs
-
-is-letter-requires : tie.Need-is-letter-requires
-is-letter-requires c κs = search needs
-
-letter-effect-requires : tie.Need-letter-effect-requires
-letter-effect-requires c κs = search needs
 
 returns-2 : tie.Need-returns-2
 returns-2 c =
@@ -46,9 +34,6 @@ returns-2 c =
     ∙ ap effectedIn (note-letter line (a .at) before (b .accidental-before .ensures) (e .if1 .left) (sym (c .before .before .is-letter .ensures) ∙ c .before .if2 .taken))
     ∙ effected (a .at) (tokenAs pitched (drop (a .at) line))
 
-add-t5 : tie.Need-add-t5
-add-t5 c = search needs
-
 returns-3 : tie.Need-returns-3
 unfolding effectIn
 returns-3 c =
@@ -62,11 +47,11 @@ pub note-effect-spec : {M : Type 1} → statement M
 note-effect-spec =
     tie.close
     (tie.spec
-    accidental-before-requires
+    (λ c κs. search needs)
     returns
-    shared-slice-read-is-letter
-    is-letter-requires
-    letter-effect-requires
+    (λ c. search needs)
+    (λ c κs. search needs)
+    (λ c κs. search needs)
     returns-2
-    add-t5
+    (λ c. search needs)
     returns-3)

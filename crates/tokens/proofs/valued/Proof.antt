@@ -5,81 +5,9 @@ use borrow.Author.Needs.{needs}
 use Rattle.tokens.proofs.valued.Statement.{statement}
 use Rattle.tokens.proofs.valued.Tie as tie
 
-enum-told : tie.Need-enum-told
-enum-told c = search needs
-
-enum-told-2 : tie.Need-enum-told-2
-enum-told-2 c = search needs
-
-enum-told-3 : tie.Need-enum-told-3
-enum-told-3 c = search needs
-
-enum-known-lexeme : tie.Need-enum-known-lexeme
-enum-known-lexeme c = search needs
-
-enum-known-lexeme-2 : tie.Need-enum-known-lexeme-2
-enum-known-lexeme-2 c = search needs
-
-enum-told-4 : tie.Need-enum-told-4
-enum-told-4 c = search needs
-
-enum-told-5 : tie.Need-enum-told-5
-enum-told-5 c = search needs
-
-enum-told-6 : tie.Need-enum-told-6
-enum-told-6 c = search needs
-
-enum-told-7 : tie.Need-enum-told-7
-enum-told-7 c = search needs
-
-enum-known-lexeme-3 : tie.Need-enum-known-lexeme-3
-enum-known-lexeme-3 c = search needs
-
-enum-known-lexeme-4 : tie.Need-enum-known-lexeme-4
-enum-known-lexeme-4 c = search needs
-
-enum-known-lexeme-5 : tie.Need-enum-known-lexeme-5
-enum-known-lexeme-5 c = search needs
-
-enum-known-lexeme-6 : tie.Need-enum-known-lexeme-6
-enum-known-lexeme-6 c = search needs
-
-enum-known-lexeme-7 : tie.Need-enum-known-lexeme-7
-enum-known-lexeme-7 c = search needs
-
-enum-told-8 : tie.Need-enum-told-8
-enum-told-8 c = search needs
-
-enum-known-lexeme-8 : tie.Need-enum-known-lexeme-8
-enum-known-lexeme-8 c = search needs
-
-abc-note-value-requires : tie.Need-abc-note-value-requires
-abc-note-value-requires c κs = search needs
-
-enum-known-lexeme-9 : tie.Need-enum-known-lexeme-9
-enum-known-lexeme-9 c = search needs
-
-abc-note-value-requires-2 : tie.Need-abc-note-value-requires-2
-abc-note-value-requires-2 c κs = search needs
-
 returns : tie.Need-returns
 unfolding valuedFor
 returns c = rw (c .before .before .before .lexeme9 .given .1, c .abc-note-value2 .ensures, lt-ltb _ 3 (c .before .if1 .taken))
-
-enum-known-lexeme-10 : tie.Need-enum-known-lexeme-10
-enum-known-lexeme-10 c = search needs
-
-abc-note-value-requires-3 : tie.Need-abc-note-value-requires-3
-abc-note-value-requires-3 c κs = search needs
-
-enum-told-9 : tie.Need-enum-told-9
-enum-told-9 c = search needs
-
-enum-told-10 : tie.Need-enum-told-10
-enum-told-10 c = search needs
-
-enum-known-lexeme-11 : tie.Need-enum-known-lexeme-11
-enum-known-lexeme-11 c = search needs
 
 returns-2 : tie.Need-returns-2
 unfolding valuedFor
@@ -169,31 +97,31 @@ pub valued-spec : {M : Type 1} → statement M
 valued-spec =
     tie.close
     (tie.spec
-    enum-told
-    enum-told-2
-    enum-told-3
-    enum-known-lexeme
-    enum-known-lexeme-2
-    enum-told-4
-    enum-told-5
-    enum-told-6
-    enum-told-7
-    enum-known-lexeme-3
-    enum-known-lexeme-4
-    enum-known-lexeme-5
-    enum-known-lexeme-6
-    enum-known-lexeme-7
-    enum-told-8
-    enum-known-lexeme-8
-    abc-note-value-requires
-    enum-known-lexeme-9
-    abc-note-value-requires-2
+    (λ c. search needs)
+    (λ c. search needs)
+    (λ c. search needs)
+    (λ c. search needs)
+    (λ c. search needs)
+    (λ c. search needs)
+    (λ c. search needs)
+    (λ c. search needs)
+    (λ c. search needs)
+    (λ c. search needs)
+    (λ c. search needs)
+    (λ c. search needs)
+    (λ c. search needs)
+    (λ c. search needs)
+    (λ c. search needs)
+    (λ c. search needs)
+    (λ c κs. search needs)
+    (λ c. search needs)
+    (λ c κs. search needs)
     returns
-    enum-known-lexeme-10
-    abc-note-value-requires-3
-    enum-told-9
-    enum-told-10
-    enum-known-lexeme-11
+    (λ c. search needs)
+    (λ c κs. search needs)
+    (λ c. search needs)
+    (λ c. search needs)
+    (λ c. search needs)
     returns-2
     returns-3
     returns-4

@@ -1,11 +1,11 @@
--- `scan_fields::is_high` meets its contract.
+-- `text_lines::is_high` meets its contract.
 use mathlib.Core.Path.{ap, _∙_}
 use Prim.Native.Nat.{_-_}
 use Rattle.laws.proofs.Parts.{part-cut}
 use Rattle.reader.specs.Text.{hasHigh}
 use borrow.Author.Needs.{needs}
-use Rattle.scan_fields.proofs.is_high.Statement.{statement}
-use Rattle.scan_fields.proofs.is_high.Tie as tie
+use Rattle.text_lines.proofs.is_high.Statement.{statement}
+use Rattle.text_lines.proofs.is_high.Tie as tie
 
 returns : tie.Need-returns
 returns c =

@@ -1,4 +1,4 @@
--- The rows of a text pay for the items that the scan makes of them, and for the voices that they name.
+-- The lines of a text cover the items that the scan makes of them, and the voices that they name.
 use Prim.Native.Nat.{ℕ, suc, _+_, _-_, _≤_, _<_, zero-le}
 use mathlib.Core.Path.{_≡_, refl, sym, ap, _∙_}
 use mathlib.Core.Bool.{true, false, false≢true}
@@ -16,7 +16,7 @@ use Rattle.reader.specs.Steps.{TextLine}
 use Rattle.reader.specs.Steps
 use Rattle.reader.specs.All.{all as everything}
 
--- THE ROWS OF A TEXT
+-- THE LINES OF A TEXT
 push-length : (c : ℕ) (rs : List TextLine) → sum length (push c rs) ≡ suc (sum length rs)
 push-length c [] = refl
 push-length c (r ∷ rs) = omega arith
@@ -27,7 +27,7 @@ unfolding textLines
 rows-length [] = refl
 rows-length (c ∷ t) = by-test (eqb c 10) (λ e. rw e (omega (arith, rows-length t))) (λ e. rw e (omega (arith, rows-length t, push-length c (textLines t))))
 
--- a line, cut and trimmed, is no longer than its row
+-- a line, cut and trimmed, is no longer than it was
 cut-length : (r : List ℕ) → length (cut r) ≤ length r
 unfolding cut
 cut-length [] = zero-le
@@ -56,26 +56,26 @@ more-goes c r h =
     by-test (eqb c 37) (λ e. rw e (omega arith))
     (λ e. rw e (by-test (isBlank (c ∷ cut r)) (λ f. rw f (omega arith)) (λ f. rw f (omega arith))))
 
--- every row but the last has its line feed, so its line is shorter
+-- every line but the last has its line feed, so it is shorter once trimmed
 unfoldable pub Fed : List TextLine → Type 0
 Fed [] = Unit {0}
 Fed (r ∷ []) = Unit {0}
 Fed (r ∷ s ∷ rs) = (length (clean r) < length r) × Fed (s ∷ rs)
 
--- a row with its feed before others
+-- a line with its feed before others
 fed-cons : (r : TextLine) (rs : List TextLine) → length (clean r) < length r → Fed rs → Fed (r ∷ rs)
 unfolding Fed
 fed-cons r [] h f = tt
 fed-cons r (s ∷ rs) h f = (h, f)
 
--- a byte more in the first row
+-- a byte more in the first line
 fed-push : (c : ℕ) (rs : List TextLine) → Fed rs → Fed (push c rs)
 unfolding Fed
 fed-push c [] f = tt
 fed-push c (r ∷ []) f = tt
 fed-push c (r ∷ s ∷ rs) f = (more-goes c r (f .0), f .1)
 
--- so are the rows of any text
+-- so are the lines of any text
 pub rows-fed : (t : List ℕ) → Fed (textLines t)
 unfolding textLines Fed
 rows-fed [] = tt

@@ -1,7 +1,7 @@
--- `text_numbers::is_digit` meets its contract.
+-- `text_bytes::is_digit` meets its contract.
 use borrow.Author.Tests.{le-leb, lt-leb}
-use Rattle.text_numbers.proofs.is_digit.Statement.{statement}
-use Rattle.text_numbers.proofs.is_digit.Tie as tie
+use Rattle.text_bytes.proofs.is_digit.Statement.{statement}
+use Rattle.text_bytes.proofs.is_digit.Tie as tie
 
 returns : tie.Need-returns
 returns c = simp (le-leb _ _ (c .if1 .taken))

@@ -1,9 +1,9 @@
--- `text_white::is_within` meets its contract.
+-- `text_bytes::is_within` meets its contract.
 use Prim.Native.Nat.{_≤_, _<_}
 use native.Mathlib.Omega.{arith}
 use borrow.Author.Tests.{le-leb, lt-leb}
-use Rattle.text_white.proofs.is_within.Statement.{statement}
-use Rattle.text_white.proofs.is_within.Tie as tie
+use Rattle.text_bytes.proofs.is_within.Statement.{statement}
+use Rattle.text_bytes.proofs.is_within.Tie as tie
 
 returns : tie.Need-returns
 returns c =

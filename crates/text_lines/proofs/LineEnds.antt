@@ -1,4 +1,4 @@
--- The rows of a text, one after the other, by position; and a byte above 127.
+-- The lines of a text, one after the other, by position; and a byte above 127.
 use Prim.Native.Nat.{ℕ, suc, _+_, _-_, _<_, _≤_, min}
 use mathlib.Core.Path.{_≡_, refl, sym, ap, _∙_}
 use mathlib.Core.Bool.{Bool, true, false, cond, not, _||_}
@@ -18,12 +18,12 @@ use Rattle.laws.proofs.Parts.{count-while-part, endIn-le}
 use Rattle.reader.specs.Text.{push, textLines, hasHigh}
 use Rattle.text_lines.specs.Lines.{notByte, LineEnd}
 
--- how long the first row is
+-- how long the first line is
 unfoldable pub rowLength : List ℕ → ℕ
 rowLength [] = 0
 rowLength (c ∷ l) = cond (eqb c 10) 1 (suc (rowLength l))
 
--- the first row, and the others
+-- the first line, and the others
 pub rows-next : (c : ℕ) (l : List ℕ) → textLines (c ∷ l) ≡ take (rowLength (c ∷ l)) (c ∷ l) ∷ textLines (drop (rowLength (c ∷ l)) (c ∷ l))
 unfolding textLines rowLength
 rows-next c [] = by-test (eqb c 10) (λ e. rw e) (λ e. rw e)
@@ -40,7 +40,7 @@ first : (l : List ℕ) → 0 < length l → (0 < rowLength l) × (rowLength l �
 first [] h = absurd (omega arith)
 first (c ∷ l) h = (row-some c l .0, row-some c l .1, rows-next c l)
 
--- the end of the row at a position
+-- the end of the line at a position
 pub row-is : (t : List ℕ) (i e : ℕ) → i < length t → e ≡ i + rowLength (drop i t) → LineEnd t i e
 unfolding part
 row-is t i e h x =
@@ -53,7 +53,7 @@ row-is t i e h x =
       rest = f .2 ∙ (λ j. take (k j) (drop i t) ∷ textLines (drop-drop n i t j)) ∙ ap (λ (m : ℕ). take (e - i) (drop i t) ∷ textLines (drop m t)) (sym x);
     }
 
--- no row past the end
+-- no line past the end
 pub rows-over : (t : List ℕ) (i : ℕ) → length t ≤ i → textLines (drop i t) ≡ []
 unfolding textLines
 rows-over t i h = rw (drop-of-length-le t h)
@@ -92,7 +92,7 @@ module _ (t : List ℕ) (at i : ℕ) (e : i ≡ endIn (notByte 10) t at (length 
   first-feed : rowLength (drop at t) ≡ min (length t - at) (suc (i - at))
   first-feed = omega (arith, e, row-count-while (drop at t), length-drop at t, count-while-part (notByte 10) t at 0 (length t - at))
 
-  -- it goes with the row; the last row may have none
+  -- it goes with the line; the last line may have none
   pub row-fed : i < length t → LineEnd t at (i + 1)
   row-fed k = row-is t at (i + 1) h (omega (arith, e, first-feed))
 

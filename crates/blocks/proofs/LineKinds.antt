@@ -1,5 +1,5 @@
--- ROWS BY THEIR FIRST TWO BYTES AND BY THEIR KIND: the blocks are read off the bytes, the scan goes by the kind of the line cut and trimmed. A row that begins with `V:`,
--- `K:`, `L:`, `M:`, `w:` is of that kind or refused, and no other row is a voice or a lyric line. Assumes nothing.
+-- LINES BY THEIR FIRST TWO BYTES AND BY THEIR KIND: the blocks are read off the bytes, the scan goes by the kind of the line cut and trimmed. A line that begins with `V:`,
+-- `K:`, `L:`, `M:`, `w:` is of that kind or refused, and no other line is a voice or a lyric line. Assumes nothing.
 use Prim.Native.Nat.{ℕ}
 use mathlib.Core.Path.{_≡_, refl, sym, ap, subst, _∙_}
 use mathlib.Core.Bool.{Bool, true, false, cond, false≢true}
@@ -19,7 +19,7 @@ use Rattle.reader.specs.Lines.{begins, isV, isK, isL, isM, isX, isLyric, isFiel
 use Rattle.blocks.specs.Kinds.{isMusicLine}
 use Rattle.blocks.specs.Demand.{identifier}
 
--- ROWS AND LINES
+-- LINES AND LINES
 begins-shape : (a b : ℕ) (r : List ℕ) → begins a b r ≡ true → (x : List ℕ) × (r ≡ a ∷ (b ∷ x))
 begins-shape a b [] h = absurd (false≢true h)
 begins-shape a b (c ∷ []) h = absurd (false≢true h)
@@ -35,7 +35,7 @@ clean-two a b x pa pb wa wb =
     ∙ trim-keep a (b ∷ cut x) wa
     ∙ ap {B = List ℕ} (λ l. a ∷ l) (trim-keep b (cut x) wb)
 
--- a cut and trimmed row begins as the row does
+-- a cut and trimmed line begins as the line does
 cut-begins : (a b : ℕ) (l : List ℕ) → begins a b (cut l) ≡ true → begins a b l ≡ true
 unfolding cut
 cut-begins a b [] h = h
@@ -57,13 +57,13 @@ clean-begins : (a b : ℕ) (r : List ℕ) → begins a b (clean r) ≡ true → 
 unfolding clean
 clean-begins a b r h = cut-begins a b r (trim-begins a b (cut r) h)
 
--- "V: lines and K: lines begin with those two characters, a lyric line with `w:`": told by the row's bytes and by the line cut and trimmed alike
+-- "V: lines and K: lines begin with those two characters, a lyric line with `w:`": told by the line's bytes and by the line cut and trimmed alike
 both-begin : (a b : ℕ) (r : List ℕ) → eqb a 37 ≡ false → eqb b 37 ≡ false → whiteStep white a ≡ text.other → whiteStep white b ≡ text.other
     → begins a b (clean r) ≡ begins a b r
-both-begin a b r pa pb wa wb = same-test (begins a b (clean r)) (begins a b r) (clean-begins a b r) row-first
+both-begin a b r pa pb wa wb = same-test (begins a b (clean r)) (begins a b r) (clean-begins a b r) line-first
   where
-    row-first : begins a b r ≡ true → begins a b (clean r) ≡ true
-    row-first h =
+    line-first : begins a b r ≡ true → begins a b (clean r) ≡ true
+    line-first h =
         let q : (x : List ℕ) × (r ≡ a ∷ (b ∷ x)) = begins-shape a b r h in
         ap (begins a b) (ap clean (q .1) ∙ clean-two a b (q .0) pa pb wa wb) ∙ and-both (eqb a a) (eqb b b) (eqb-same a) (eqb-same b)
 
@@ -105,7 +105,7 @@ isSung tune = false
 isSung other = false
 isSung (music hi es l) = false
 
--- a K: row is refused or a key; a V: row is refused or names its voice
+-- a K: line is refused or a key; a V: line is refused or names its voice
 abbrev pub Keyish : Kind → Type 0
 Keyish blank = ⊥
 Keyish (refused n) = Unit {0}
@@ -147,23 +147,23 @@ key-line x =
     cond-both Keyish (ltb 1048576 (length (75 ∷ (58 ∷ x)))) (refused 5) (cond (hasHigh (75 ∷ (58 ∷ x))) (refused 6) (keyKind x)) tt
     (cond-both Keyish (hasHigh (75 ∷ (58 ∷ x))) (refused 6) (keyKind x) tt (cond-both Keyish (middleWord x) (refused 10) (key (keyOf x)) tt tt))
 
-pub voice-row : (r : List ℕ) → isV r ≡ true → Names (identifier r) (kindOf r)
+pub voice-begins : (r : List ℕ) → isV r ≡ true → Names (identifier r) (kindOf r)
 unfolding kindOf lineKind fieldKind voiceKind keyKind hasHigh whiteStep
-voice-row r h =
+voice-begins r h =
     let q : (x : List ℕ) × (r ≡ 86 ∷ (58 ∷ x)) = begins-shape 86 58 r h in
     let e : clean r ≡ 86 ∷ (58 ∷ trim (cut (q .0))) = ap clean (q .1) ∙ clean-two 86 58 (q .0) refl refl refl refl in
     subst (λ (l : List ℕ). Names (fields.identifier (drop 2 l)) (lineKind l)) (sym e) (voice-line (trim (cut (q .0))))
 
-pub key-row : (r : List ℕ) → isK r ≡ true → Keyish (kindOf r)
+pub key-begins : (r : List ℕ) → isK r ≡ true → Keyish (kindOf r)
 unfolding kindOf lineKind fieldKind voiceKind keyKind hasHigh whiteStep
-key-row r h =
+key-begins r h =
     let q : (x : List ℕ) × (r ≡ 75 ∷ (58 ∷ x)) = begins-shape 75 58 r h in
     let e : clean r ≡ 75 ∷ (58 ∷ trim (cut (q .0))) = ap clean (q .1) ∙ clean-two 75 58 (q .0) refl refl refl refl in
     subst (λ (l : List ℕ). Keyish (lineKind l)) (sym e) (key-line (trim (cut (q .0))))
 
-pub lyric-row : (r : List ℕ) → isLyric r ≡ true → isMusicLine (kindOf r) ≡ false
+pub lyric-begins : (r : List ℕ) → isLyric r ≡ true → isMusicLine (kindOf r) ≡ false
 unfolding kindOf lineKind fieldKind voiceKind keyKind hasHigh whiteStep
-lyric-row r h =
+lyric-begins r h =
     let q : (x : List ℕ) × (r ≡ 119 ∷ (58 ∷ x)) = begins-shape 119 58 r h in
     let e : clean r ≡ 119 ∷ (58 ∷ trim (cut (q .0))) = ap clean (q .1) ∙ clean-two 119 58 (q .0) refl refl refl refl in
     subst (λ (l : List ℕ). isMusicLine (lineKind l) ≡ false) (sym e) (line (trim (cut (q .0))))
@@ -171,9 +171,9 @@ lyric-row r h =
     line : (x : List ℕ) → isMusicLine (lineKind (119 ∷ (58 ∷ x))) ≡ false
     line x = cond-both (λ k. isMusicLine k ≡ false) (ltb 1048576 (length (119 ∷ (58 ∷ x)))) (refused 5) (lyric x) refl refl
 
-pub unit-row : (r : List ℕ) → isL r ≡ true → isMusicLine (kindOf r) ≡ false
+pub unit-begins : (r : List ℕ) → isL r ≡ true → isMusicLine (kindOf r) ≡ false
 unfolding kindOf lineKind fieldKind voiceKind keyKind hasHigh whiteStep
-unit-row r h =
+unit-begins r h =
     let q : (x : List ℕ) × (r ≡ 76 ∷ (58 ∷ x)) = begins-shape 76 58 r h in
     let e : clean r ≡ 76 ∷ (58 ∷ trim (cut (q .0))) = ap clean (q .1) ∙ clean-two 76 58 (q .0) refl refl refl refl in
     subst (λ (l : List ℕ). isMusicLine (lineKind l) ≡ false) (sym e) (line (trim (cut (q .0))))
@@ -183,9 +183,9 @@ unit-row r h =
         cond-both (λ k. isMusicLine k ≡ false) (ltb 1048576 (length (76 ∷ (58 ∷ x)))) (refused 5) (cond (hasHigh (76 ∷ (58 ∷ x))) (refused 6) (unit (unitOf x))) refl
         (cond-both (λ k. isMusicLine k ≡ false) (hasHigh (76 ∷ (58 ∷ x))) (refused 6) (unit (unitOf x)) refl refl)
 
-pub meter-row : (r : List ℕ) → isM r ≡ true → isMusicLine (kindOf r) ≡ false
+pub meter-begins : (r : List ℕ) → isM r ≡ true → isMusicLine (kindOf r) ≡ false
 unfolding kindOf lineKind fieldKind voiceKind keyKind hasHigh whiteStep
-meter-row r h =
+meter-begins r h =
     let q : (x : List ℕ) × (r ≡ 77 ∷ (58 ∷ x)) = begins-shape 77 58 r h in
     let e : clean r ≡ 77 ∷ (58 ∷ trim (cut (q .0))) = ap clean (q .1) ∙ clean-two 77 58 (q .0) refl refl refl refl in
     subst (λ (l : List ℕ). isMusicLine (lineKind l) ≡ false) (sym e) (line (trim (cut (q .0))))
@@ -195,7 +195,7 @@ meter-row r h =
         cond-both (λ k. isMusicLine k ≡ false) (ltb 1048576 (length (77 ∷ (58 ∷ x)))) (refused 5) (cond (hasHigh (77 ∷ (58 ∷ x))) (refused 6) (meter (meterOf x))) refl
         (cond-both (λ k. isMusicLine k ≡ false) (hasHigh (77 ∷ (58 ∷ x))) (refused 6) (meter (meterOf x)) refl refl)
 
--- only a V: row is a voice, only a w: row is sung
+-- only a V: line is a voice, only a w: line is sung
 voice-field : (l : List ℕ) → isVoice (fieldKind l) ≡ true → isV l ≡ true
 unfolding fieldKind voiceKind keyKind
 voice-field l =
