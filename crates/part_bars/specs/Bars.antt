@@ -2,26 +2,24 @@
 use Prim.Native.Nat.{ℕ, _+_}
 use mathlib.Core.List.{List, [], _∷_}
 use Rattle.laws.specs.Bytes.{splice}
+use Rattle.reader.specs.Codes.{barlineCode}
+use Rattle.token_symbols.specs.Bars.{asBarline}
 use Rattle.token_symbols.specs.declared.Barline.{Barline}
 use Rattle.token_symbols.specs.declared.Barline.the-variants.{Normal, RepeatStart, RepeatEnd, RepeatBoth, Double, Final}
 use Rattle.part_accidentals.specs.declared.AbcPartParseState.{AbcPartParseState}
 use Rattle.part_registers.specs.declared.Registers.{Registers}
 
+-- the paper's number of a barline
 abbrev pub codeOf : Barline → ℕ
-codeOf Normal = 0
-codeOf RepeatStart = 1
-codeOf RepeatEnd = 2
-codeOf RepeatBoth = 3
-codeOf Double = 4
-codeOf Final = 5
+codeOf b = barlineCode (asBarline b)
 
 -- the left barline that a measure without notes gets, at its place in a store
 abbrev pub leftStore : List ℕ → ℕ → Barline → List ℕ
 leftStore s at Normal = s
-leftStore s at RepeatStart = splice s at (1 ∷ [])
+leftStore s at RepeatStart = splice s at (codeOf RepeatStart ∷ [])
 leftStore s at RepeatEnd = s
-leftStore s at RepeatBoth = splice s at (3 ∷ [])
-leftStore s at Double = splice s at (4 ∷ [])
+leftStore s at RepeatBoth = splice s at (codeOf RepeatBoth ∷ [])
+leftStore s at Double = splice s at (codeOf Double ∷ [])
 leftStore s at Final = s
 
 abbrev pub nowhere : List ℕ

@@ -20,21 +20,7 @@ use part_registers::Registers;
 use part_registers::Tables;
 use token_symbols::Barline;
 
-// A barline's number.
-fn barline_code(b: Barline) -> u8
-    ensures { λ r. ⌜ r ≡ codeOf b ⌝ }
-{
-    match b {
-        Barline::Normal => 0,
-        Barline::RepeatStart => 1,
-        Barline::RepeatEnd => 2,
-        Barline::RepeatBoth => 3,
-        Barline::Double => 4,
-        Barline::Final => 5,
-    }
-}
-
-// A barline on a measure without notes sets its left one, and that only to 1, 3 or 4.
+// A barline on a measure without notes sets its left one, and that only to a repeat start, both or double.
 fn set_empty_left(store: &mut [u8], at: usize, i: usize, b: Barline)
     requires { ⌜ at + measureWidth * i + measureWidth ≤ length (now store) ⌝ }
     ensures { λ _. ⌜ now (store .exit) ≡ leftStore (now (store .entry)) (at + measureWidth * i + leftAt) b ⌝ }
@@ -42,14 +28,14 @@ fn set_empty_left(store: &mut [u8], at: usize, i: usize, b: Barline)
     match b {
         Barline::Normal => {}
         Barline::RepeatStart => {
-            part_measures::set_left(store, at, i, 1);
+            part_measures::set_left(store, at, i, token_symbols::REPEAT_START);
         }
         Barline::RepeatEnd => {}
         Barline::RepeatBoth => {
-            part_measures::set_left(store, at, i, 3);
+            part_measures::set_left(store, at, i, token_symbols::REPEAT_BOTH);
         }
         Barline::Double => {
-            part_measures::set_left(store, at, i, 4);
+            part_measures::set_left(store, at, i, token_symbols::DOUBLE);
         }
         Barline::Final => {}
     }
@@ -123,13 +109,13 @@ pub fn on_barline(
         set_empty_left(store, t.heads, i, right);
         return end_measure(r);
     }
-    part_measures::set_right(store, t.heads, i, barline_code(right));
+    part_measures::set_right(store, t.heads, i, token_symbols::barline_code(right));
     if opens {
         part_measures::put_measure(
             store,
             t.heads,
             i + 1,
-            barline_code(left),
+            token_symbols::barline_code(left),
             line.top,
             line.bottom,
         );

@@ -49,13 +49,13 @@ pub fn drop_empty(store: &[u8], at: usize, n: usize) -> usize
 fn ends_ending(code: u8) -> bool
     ensures { λ r. ⌜ ((b : Barline) → code ≡ barlineCode b → r ≡ endsEnding b) ⌝ }
 {
-    if code == 2 {
+    if code == token_symbols::REPEAT_END {
         return true;
     }
-    if code == 3 {
+    if code == token_symbols::REPEAT_BOTH {
         return true;
     }
-    code == 5
+    code == token_symbols::FINAL
 }
 
 // Whether an ending that is open ends at row i: at its barline, or where no row or a start follows.

@@ -26,9 +26,8 @@ use Rattle.part_layout.specs.Ends.{onLyric, onItem}
 use Rattle.part_layout.proofs.Lines.{between-items}
 use Rattle.part_layout.proofs.Back.{reverse-back}
 use Rattle.scan_table.specs.declared.Row.{Row}
-use Rattle.scan_table.proofs.Rows.{music-kind}
-use Rattle.scan_table.specs.Rows.{rowFrom, itemAt, voiceDeclaredKind, resetKind, keyInHeaderKind, keyChangeKind, meterChangeKind, lyricLineKind, itemsFrom, itemRowWidth, decItem, itemAs, itemIn, itemsIn, RowIs}
-use Rattle.scan_table.proofs.Rows.{items-none, items-get, length-items}
+use Rattle.scan_table.specs.Rows.{rowFrom, itemAt, voiceDeclaredKind, resetKind, keyInHeaderKind, keyChangeKind, meterChangeKind, lyricLineKind, itemsFrom, itemRowWidth, decItem, itemAs, itemIn, itemsIn, bAt, unitAt, lyricRow, withLyric, RowIs}
+use Rattle.scan_table.proofs.Rows.{music-kind, lyric-back, items-none, items-get, length-items}
 use Rattle.lyrics.specs.Items.{isLine, lineIn, lineOf, linesIn}
 use Rattle.lyrics.proofs.Applying.{item-words, lines-more}
 use Rattle.part_rows.specs.Table.{Only}
@@ -39,10 +38,10 @@ use Rattle.part_invariant.specs.Invariant.{Represents}
 use Rattle.part_invariant.proofs.Appending.{room-same}
 use Rattle.part_invariant.specs.Lines.{RoomForBytes, RepresentedBetween, GrowsBy, SimulatesItem}
 use Rattle.capacity.specs.Music.{musicIn, musicOf}
-use Rattle.part_items.specs.Items.{begun, versed, lined, ownAt, Ready, Taken, after, Built}
+use Rattle.part_items.specs.Items.{begun, versed, ownAt, Ready, Taken, after, Built}
 use Rattle.part_items.proofs.Music.{music-append, mine-append, rest-first, rest-then, rest-as, rest-room, grows-none}
 use Rattle.part_items.proofs.Each.{begun-represented, addedBy, item-lines}
-use Rattle.part_items.proofs.Rows.{withLine, row-lined, only-lined, represented-behind}
+use Rattle.part_items.proofs.Rows.{only-lyric, represented-behind}
 
 -- ONE ITEM
 -- whose it is
@@ -68,9 +67,9 @@ unfolding lineOf
 one-line text p q e = ap (map (lineIn text)) (filter-yes (isLine p) q [] e)
 
 -- a lyric line with its verse and first note is the same item
-same-lyrics : (k : ℕ) (text : List ℕ) (q : Row) (verse start : ℕ) → k ≡ lyricLineKind → itemAs k text (withLine q verse start) ≡ itemAs k text q
+same-lyrics : (k : ℕ) (text : List ℕ) (q : Row) (verse start : ℕ) → k ≡ lyricLineKind → itemAs k text (lyricRow q verse start) ≡ itemAs k text q
 unfolding itemAs
-same-lyrics k text q verse start e = ap (λ (j : ℕ). itemAs j text (withLine q verse start)) e ∙ sym (ap (λ (j : ℕ). itemAs j text q) e)
+same-lyrics k text q verse start e = ap (λ (j : ℕ). itemAs j text (lyricRow q verse start)) e ∙ sym (ap (λ (j : ℕ). itemAs j text q) e)
 
 -- WHAT A LYRIC LINE NEEDS of a part that is represented: the next verse
 versed-represented : {t : Tables} {s : List ℕ} {r : Registers} (header : Key) (placed : Bool) (words : List ℕ) (l : LogState) → Represents t s r [] l → Represents t s (versed r placed) [] (onItem header l (lyricLine placed words))
@@ -131,12 +130,12 @@ module _ (text : List ℕ) (t : Tables) (header : Key) (i : ℕ) (s : List ℕ) 
   own-music : (x : Item) → itemAs (row .kind) text row ≡ x → musicOf (ownAt text (row .part) s i) ≡ musicIn x
   own-music x e = ap musicOf (own-is x e) ∙ music-one x
 
-  represented-lined : Ready text t (row .part) i s r → (l : LogState) → Represents t s r [] l → Represents t (lined s i (r .verses .verse) (r .verses .start)) r [] l
-  represented-lined ready l h =
-      let m = splice s (rowFrom i + 3) (r .verses .verse ∷ []) in
+  represented-lyric : Ready text t (row .part) i s r → (l : LogState) → Represents t s r [] l → Represents t (withLyric s i (r .verses .verse) (r .verses .start)) r [] l
+  represented-lyric ready l h =
+      let m = splice s (rowFrom i + bAt) (r .verses .verse ∷ []) in
       let room = rest-room (ready .room) in
-      represented-behind (room-same (length-splice s (rowFrom i + 3) (r .verses .verse ∷ [])) room) _ (rowFrom i + 12) (le32 (r .verses .start)) refl (omega (arith, ready .before, length-little 4 (r .verses .start))) l
-      (represented-behind room m (rowFrom i + 3) (r .verses .verse ∷ []) refl (omega (arith, ready .before)) l h)
+      represented-behind (room-same (length-splice s (rowFrom i + bAt) (r .verses .verse ∷ [])) room) _ (rowFrom i + unitAt) (le32 (r .verses .start)) refl (omega (arith, ready .before, length-little 4 (r .verses .start))) l
+      (represented-behind room m (rowFrom i + bAt) (r .verses .verse ∷ []) refl (omega (arith, ready .before)) l h)
 
   -- none but a lyric line
   pub taken-plain : (x : Item) → itemAs (row .kind) text row ≡ x → (row .kind ≡ lyricLineKind → ⊥) → ((l : LogState) → addedBy l x ≡ []) → {s′ : List ℕ} {r′ : Registers} {bs : List ℕ} → musicIn x ≡ bs → SimulatesItem t s r s′ r′ bs (λ l. onItem header l x)
@@ -179,7 +178,7 @@ module _ (text : List ℕ) (t : Tables) (header : Key) (i : ℕ) (s : List ℕ) 
   taken-meter-change e k = taken-plain (meterChange (row .a, row .b)) (ap (λ (j : ℕ). itemAs j text row) e) (λ f. omega (arith, e, f)) (λ l. refl) refl k
 
   -- a lyric line
-  pub taken-lyric-line : row .kind ≡ lyricLineKind → Ready text t (row .part) i s r → (s′ : List ℕ) (r′ : Registers) → r′ ≡ versed r (eqb (row .a) 1) → r .verses .start < 2 ^ 32 → s′ ≡ lined s i (r .verses .verse) (r .verses .start)
+  pub taken-lyric-line : row .kind ≡ lyricLineKind → Ready text t (row .part) i s r → (s′ : List ℕ) (r′ : Registers) → r′ ≡ versed r (eqb (row .a) 1) → r .verses .start < 2 ^ 32 → s′ ≡ withLyric s i (r .verses .verse) (r .verses .start)
       → Taken text t header (row .part) i s r s′ r′
   unfolding itemIn isLine lineIn addedBy itemAs musicIn
   taken-lyric-line e ready s′ r′ er small es =
@@ -188,23 +187,23 @@ module _ (text : List ℕ) (t : Tables) (header : Key) (i : ℕ) (s : List ℕ) 
       let a : itemAs (row .kind) text row ≡ x = ap (λ (j : ℕ). itemAs j text row) e in
       let o = own-is x a in
       let q = itemAt s i in
-      let m = lined s i (r .verses .verse) (r .verses .start) in
+      let m = withLyric s i (r .verses .verse) (r .verses .start) in
       let inside : rowFrom i + itemRowWidth ≤ length s = omega (arith, ready .before, ready .room .for-heads, ready .room .for-notes, ready .room .for-pitches, ready .room .for-scopes, ready .room .ends) in
-      let now : itemAt m i ≡ withLine q (r .verses .verse) (r .verses .start) = row-lined s i (r .verses .verse) (r .verses .start) inside small in
+      let now : itemAt m i ≡ lyricRow q (r .verses .verse) (r .verses .start) = lyric-back s i (r .verses .verse) (r .verses .start) inside small in
       let five : q .kind ≡ lyricLineKind = sym (is .kind) ∙ e in
       let its : q .part ≡ row .part = sym (ap (λ (y : ℕ × Item). y .0) (is .item)) in
-      let line : lineOf text (row .part) (itemAt m i) ≡ lineIn text (withLine q (r .verses .verse) (r .verses .start)) ∷ [] =
+      let line : lineOf text (row .part) (itemAt m i) ≡ lineIn text (lyricRow q (r .verses .verse) (r .verses .start)) ∷ [] =
       ap (lineOf text (row .part)) now
-      ∙ one-line text (row .part) (withLine q (r .verses .verse) (r .verses .start)) (and-both _ _ (eq-eqb (q .kind) lyricLineKind five) (eq-eqb (q .part) (row .part) its)) in
+      ∙ one-line text (row .part) (lyricRow q (r .verses .verse) (r .verses .start)) (and-both _ _ (eq-eqb (q .kind) lyricLineKind five) (eq-eqb (q .part) (row .part) its)) in
       record {
         middle = m;
-        own-row = only-lined s i (r .verses .verse) (r .verses .start);
+        own-row = only-lyric s i (r .verses .verse) (r .verses .start);
         tables = subst (λ (u : List ℕ). Only (t .heads) (t .end) m u) (sym es) (only-none (t .heads) (t .end) m);
         same-item = ap (itemIn text) now ∙ ap (λ (y : Item). (q .part, y)) (same-lyrics (q .kind) text q (r .verses .verse) (r .verses .start) five);
         grows = rw er (grows-none (r .counts) (musicOf (ownAt text (row .part) s i)));
         holds =
             λ l b h.
-            let w = represented-lined ready l h in
+            let w = represented-lyric ready l h in
             subst (λ (xs : List Item). Represents t s′ r′ [] (foldl (onItem header) l xs)) (sym o) (subst (λ (u : List ℕ). Represents t u r′ [] (onItem header l x)) (sym es) (subst (λ (u : Registers). Represents t m u [] (onItem header l x)) (sym er) (versed-represented header (eqb (row .a) 1) words l w)));
         lines =
             λ l h. ap (λ (xs : List Item). reverse (foldl (onItem header) l xs .verses .lines)) o ∙ ap reverse (item-lines header l x)

@@ -71,10 +71,6 @@ withVerse r v =
 abbrev pub versed : Registers → Bool → Registers
 versed r placed = withVerse r (cond placed (nextVerse (r .verses .verse)) (r .verses .verse))
 
--- its row with a verse and a first note
-abbrev pub lined : List ℕ → ℕ → ℕ → ℕ → List ℕ
-lined s i verse start = splice (splice s (rowFrom i + 3) (verse ∷ [])) (rowFrom i + 12) (le32 start)
-
 -- item i, if it is the part's
 abbrev pub ownAt : List ℕ → ℕ → List ℕ → ℕ → List Item
 ownAt text p s i = itemsOf p (itemIn text (itemAt s i) ∷ [])

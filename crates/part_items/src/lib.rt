@@ -11,9 +11,9 @@ ghost use Rattle.reader.specs.Steps.{itemsOf};
 ghost use Rattle.field_keys.specs.Passed.{keyAs};
 ghost use Rattle.part_layout.specs.Ends.{onItem};
 ghost use Rattle.capacity.specs.Music.{musicOf};
-ghost use Rattle.scan_table.specs.Rows.{itemAt, itemsIn, RowIs};
+ghost use Rattle.scan_table.specs.Rows.{itemAt, itemsIn, withLyric, RowIs, tableEnd};
 ghost use Rattle.part_invariant.specs.Lines.{RoomForBytes, RepresentedBetween, SimulatesItem};
-ghost use Rattle.part_items.specs.Items.{begun, keyedAs, versed, lined, Ready, Taken, Built};
+ghost use Rattle.part_items.specs.Items.{begun, keyedAs, versed, Ready, Taken, Built};
 use field_keys::Key;
 use part_accidentals::AbcPartParseState;
 use part_registers::Counts;
@@ -163,12 +163,10 @@ fn next_verse(verse: u8, placed: bool) -> u8
 fn on_lyric(store: &mut [u8], i: usize, r: Registers, placed: bool) -> Registers
     requires { ⌜ tableEnd (i + 1) ≤ length (now store) ⌝ }
     ensures { λ x. ⌜ (x ≡ versed r placed) × (r .verses .start < 2 ^ 32) ⌝ }
-    ensures { λ _. ⌜ now (store .exit) ≡ lined (now (store .entry)) i (r .verses .verse) (r .verses .start) ⌝ }
+    ensures { λ _. ⌜ now (store .exit) ≡ withLyric (now (store .entry)) i (r .verses .verse) (r .verses .start) ⌝ }
 {
     let verses = r.verses;
-    let from = scan_table::ITEMS + scan_table::ITEM * i;
-    store::put_u8(store, from + 3, verses.verse);
-    store::put_u32(store, from + 12, verses.start);
+    scan_table::set_lyric(store, i, verses.verse, verses.start);
     let verse = next_verse(verses.verse, placed);
     let mut x = r;
     x.verses.verse = verse;

@@ -146,17 +146,30 @@ pub fn class_of(classes: &[u8; 128], b: u8) -> u8
     if k < 128 { classes[k] } else { SKIP }
 }
 
+// A barline by document 01's number.
+pub const NORMAL: u8 = 0;
+
+pub const REPEAT_START: u8 = 1;
+
+pub const REPEAT_END: u8 = 2;
+
+pub const REPEAT_BOTH: u8 = 3;
+
+pub const DOUBLE: u8 = 4;
+
+pub const FINAL: u8 = 5;
+
 // A barline's number in the reading.
 pub fn barline_code(barline: Barline) -> u8
     ensures { λ r. ⌜ r ≡ barlineCode (asBarline barline) ⌝ }
 {
     match barline {
-        Barline::Normal => 0,
-        Barline::RepeatStart => 1,
-        Barline::RepeatEnd => 2,
-        Barline::RepeatBoth => 3,
-        Barline::Double => 4,
-        Barline::Final => 5,
+        Barline::Normal => NORMAL,
+        Barline::RepeatStart => REPEAT_START,
+        Barline::RepeatEnd => REPEAT_END,
+        Barline::RepeatBoth => REPEAT_BOTH,
+        Barline::Double => DOUBLE,
+        Barline::Final => FINAL,
     }
 }
 
