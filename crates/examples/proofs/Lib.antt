@@ -5,3 +5,4 @@ pub mod Tally
 pub mod Stores
 pub mod Limits
 pub mod KeyNames
+pub mod KeySpellings

@@ -8,3 +8,5 @@ pub mod ValueLaws
 pub mod Digits
 pub mod Standard
 pub mod Traps
+pub mod InLine
+pub mod MoreStandard
