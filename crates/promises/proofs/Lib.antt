@@ -1,3 +1,4 @@
+pub mod TokenRefusals
 pub mod Refusals
 pub mod SameTally
 pub mod EachPart
