@@ -1,4 +1,5 @@
 pub mod TokenRefusals
 pub mod Refusals
 pub mod SameTally
+pub mod Arrangement
 pub mod EachPart

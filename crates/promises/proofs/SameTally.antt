@@ -44,6 +44,7 @@ use Rattle.reader.specs.Barlines.{leftOf}
 use Rattle.reader.specs.Voltas.{starts, lastThere, endsAt, close, closed}
 use Rattle.reader.specs.Records.{tagged, byVoice, allNotes, isSung, lyricsOf, notesOf, lyrics}
 use Rattle.reader.specs.Tally.{Counts, countsOf, tally}
+use Rattle.promises.specs.Arrangement.{tallyOf}
 
 -- WITHOUT FLAGS: a note, a measure, a part (and nothing pending)
 abbrev plain : Note → Note
@@ -575,7 +576,7 @@ unfolding isMusic
 any-reset [] js = refl
 any-reset (i ∷ is) js = ap (λ (b : Bool). isMusic i || b) (any-reset is js)
 
-built-reset : (e : Env) (is js : List Item) → countsOf (built e (is ++ (reset ∷ js))) ≡ countsOf (built e (is ++ js))
+pub built-reset : (e : Env) (is js : List Item) → countsOf (built e (is ++ (reset ∷ js))) ≡ countsOf (built e (is ++ js))
 unfolding built
 built-reset e is js = ap (λ (b : Bool). countsOf (cond b (build (e .headerKey) (is ++ (reset ∷ js))) emptyPart)) (any-reset is js) ∙ go (any isMusic (is ++ js))
   where
@@ -592,7 +593,7 @@ part-reset e q p a c =
     go true = built-reset e (itemsOf p a) (itemsOf p c)
     go false = refl
 
-tallies : (e : Env) (f g : ℕ → List Item) → ((p : ℕ) → countsOf (built e (f p)) ≡ countsOf (built e (g p))) → (n q : ℕ) → tally (parts e f n q) ≡ tally (parts e g n q)
+pub tallies : (e : Env) (f g : ℕ → List Item) → ((p : ℕ) → countsOf (built e (f p)) ≡ countsOf (built e (g p))) → (n q : ℕ) → tally (parts e f n q) ≡ tally (parts e g n q)
 unfolding parts tally
 tallies e f g h zero q = refl
 tallies e f g h (suc n) q = λ i. h q i ∷ tallies e f g h n (suc q) i
@@ -615,12 +616,7 @@ accepted-scan : (text : List ℕ) (rl sl : ℕ) → Accepted (parseAbc text rl s
 unfolding parseAbc
 accepted-scan text rl sl h = unless-scan text rl sl (early text rl sl) (early-not text rl sl) h
 
--- the tally of an answer
-abbrev pub tallyOf : Verdict → List Counts
-tallyOf (refusal n l) = []
-tallyOf (reading ps) = tally ps
-
--- A TEXT AND THE SAME WITHOUT A V: LINE THAT NAMES THE VOICE BEING READ, both accepted, with stores of any lengths: one tally. So two voices cost the same written line about or block about
+-- A TEXT AND THE SAME WITHOUT A V: LINE THAT NAMES THE VOICE BEING READ, both accepted, with stores of any lengths: one tally
 pub same-tally : (text text′ : List ℕ) (rl sl rl′ sl′ : ℕ) (xs bs : List TextLine) (r : TextLine) (s : ScanState) (a : Items) → textLines text ≡ xs ++ (r ∷ bs) → textLines text′ ≡ xs ++ bs → scan xs ≡ on s a
     → isV r ≡ true → elem (identifier r) (s .env .voices) ≡ true → indexOf (identifier r) (s .env .voices) ≡ s .part
     → Accepted (parseAbc text rl sl) → Accepted (parseAbc text′ rl′ sl′) → tallyOf (parseAbc text rl sl .verdict) ≡ tallyOf (parseAbc text′ rl′ sl′ .verdict)
