@@ -1,13 +1,14 @@
 -- THE SAME VOICES IN ANOTHER ARRANGEMENT: line about, block about, or any other. A voice's lines may stand in one block or in many.
 use Prim.Native.Nat.{ℕ}
 use mathlib.Core.Path.{_≡_}
+use mathlib.Core.Option.{none, some}
 use mathlib.Core.List.{List, [], _∷_, map}
 use Rattle.laws.specs.Lists.{filter, concat, eqText}
 use Rattle.reader.specs.Steps.{TextLine}
 use Rattle.reader.specs.Answer.{Verdict, refusal, reading}
-use Rattle.reader.specs.Tally.{Counts, tally}
+use Rattle.reader.specs.Tally.{Counts, countsOf, tally}
 use Rattle.blocks.specs.Blocks.{header, opening, blocks}
-use Rattle.blocks.specs.Demand.{voiceOf}
+use Rattle.blocks.specs.Demand.{voiceOf, partIn}
 
 -- a block without its V: line
 abbrev pub bodyOf : List TextLine → List TextLine
@@ -28,3 +29,7 @@ pub record Rearranged (text text′ : List ℕ) : Type 0 where
 abbrev pub tallyOf : Verdict → List Counts
 tallyOf (refusal n l) = []
 tallyOf (reading ps) = tally ps
+
+-- the counts of part p of an answer; none, if it has no such part
+abbrev pub countsAt : Verdict → ℕ → Counts
+countsAt w p = elim (partIn w p) [ none ↦ record { measures = 0; sounded = 0; rests = 0; syllables = 0 } | some x ↦ countsOf x ]
