@@ -6,3 +6,4 @@ pub mod Stores
 pub mod Limits
 pub mod KeyNames
 pub mod KeySpellings
+pub mod Charged
