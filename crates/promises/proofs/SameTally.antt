@@ -16,7 +16,7 @@ use Rattle.standard.specs.Keys.{Key}
 use Rattle.standard.specs.Fields.{Meter}
 use Rattle.standard.specs.Lengths.{Value}
 use Rattle.standard.specs.Pitches.{Written, Pitch}
-use Rattle.standard.specs.Bars.{Barline, normal, repeatStart, repeatEnd, repeatBoth, double, final, endsEnding}
+use Rattle.standard.specs.Bars.{Barline, normal, repeatStart, repeatEnd, repeatBoth, double, final}
 use Rattle.standard.specs.Notes as notes
 use Rattle.standard.specs.Notes.{NoteKind, isSounded, Behind, Pending, nothingPending}
 use Rattle.reader.specs.Lengths.{Length, valueOf}

@@ -10,3 +10,6 @@ pub mod Standard
 pub mod Traps
 pub mod InLine
 pub mod MoreStandard
+pub mod Texts
+pub mod Marks
+pub mod HeaderLaws

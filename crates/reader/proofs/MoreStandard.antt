@@ -153,7 +153,7 @@ list-meets low d xs qs n a z l h r = rw (item, passList) (rw r)
     item = rw (pieces-digits 45 refl d a, number, lt-ltb low (decimal 0 d) l)
 
 -- LYRICS (5.1): a word without hyphens, none of `|`, `*`, `_`, is one syllable
-pieces-one : (p : ℕ → Bool) (w : List ℕ) → all (λ c. not (p c)) w ≡ true → pieces (separator p) 0 w ≡ w ∷ []
+pub pieces-one : (p : ℕ → Bool) (w : List ℕ) → all (λ c. not (p c)) w ≡ true → pieces (separator p) 0 w ≡ w ∷ []
 unfolding pieces
 pieces-one p [] h = refl
 pieces-one p (c ∷ w) h =
@@ -170,7 +170,7 @@ word-meets c w h a b d l =
     head = by-test (is "-" c) (λ e. absurd (false≢true (rw e at (and-left (not (is "-" c)) (all (λ x. not (is "-" x)) w) h)))) (λ e. e)
 
 -- IDENTIFIERS (7.1): the first word of a V field, before white space
-pieces-first : (p : ℕ → Bool) (w : List ℕ) (x : ℕ) (t : List ℕ) → all (λ c. not (p c)) w ≡ true → p x ≡ true → pieces (separator p) 0 (w ++ (x ∷ t)) ≡ w ∷ pieces (separator p) 0 t
+pub pieces-first : (p : ℕ → Bool) (w : List ℕ) (x : ℕ) (t : List ℕ) → all (λ c. not (p c)) w ≡ true → p x ≡ true → pieces (separator p) 0 (w ++ (x ∷ t)) ≡ w ∷ pieces (separator p) 0 t
 unfolding pieces
 pieces-first p [] x t h e = rw (e, pieces)
 pieces-first p (c ∷ w) x t h e =
