@@ -3,3 +3,4 @@ pub mod Refusals
 pub mod SameTally
 pub mod Arrangement
 pub mod EachPart
+pub mod Free

@@ -449,7 +449,7 @@ reset-free h is js =
     ∙ sym (counts-items h (is ++ js))
 
 -- A LINE FEWER BEFORE IT changes nothing of what a row does
-abbrev withLines : ScanState → ℕ → ScanState
+abbrev pub withLines : ScanState → ℕ → ScanState
 withLines s k = record { env = s .env; unit = s .unit; meter = s .meter; part = s .part; notes = s .notes; lines = k; places = s .places; opened = s .opened }
 
 abbrev relined : ℕ → Out → Out
@@ -493,11 +493,11 @@ act-lines s k (lines.music hi es l) true = refl
 act-lines s k (lines.music true es l) false = refl
 act-lines s k (lines.music false es l) false = play-lines s k es l (firstRefusal (s .notes) es)
 
-not-on : (n l : ℕ) (t : ScanState) (a : Items) → _≡_ {A = Out} (refuse n l) (on t a) → ⊥
+pub not-on : (n l : ℕ) (t : ScanState) (a : Items) → _≡_ {A = Out} (refuse n l) (on t a) → ⊥
 not-on n l t a h = let z : _≡_ {A = ℕ} 0 1 = cc in omega (arith, z)
 
 -- a row that goes through is within the lines that there may be
-went : (s t : ScanState) (r : TextLine) (b : Items) → step s r ≡ on t b → (ltb (s .lines) mostLines ≡ true) × (act s (kindOf r) (s .env .inHeader) ≡ on t b)
+pub went : (s t : ScanState) (r : TextLine) (b : Items) → step s r ≡ on t b → (ltb (s .lines) mostLines ≡ true) × (act s (kindOf r) (s .env .inHeader) ≡ on t b)
 unfolding step
 went s t r b e =
     by-test (ltb (s .lines) mostLines)
@@ -512,7 +512,7 @@ step-lines s t r b k le e =
     ap (λ (x : Bool). cond x (act (withLines s k) (kindOf r) (s .env .inHeader)) (refuse 4 (suc k))) h
     ∙ act-lines s k (kindOf r) (s .env .inHeader) ∙ ap (relined k) (q .1)
 
-fewer : {s u : ScanState} {rs : List TextLine} {c : Items} → Run reader s rs u c → (k : ℕ) → k ≤ s .lines → (j : ℕ) × Run reader (withLines s k) rs (withLines u j) c
+pub fewer : {s u : ScanState} {rs : List TextLine} {c : Items} → Run reader s rs u c → (k : ℕ) → k ≤ s .lines → (j : ℕ) × Run reader (withLines s k) rs (withLines u j) c
 fewer stop k le = (k, stop)
 fewer (then {s = s} {t = t} {r = r} {a = a} e d) k le =
     let l : t .lines ≡ suc (s .lines) = laws .line s t r a e in
@@ -599,7 +599,7 @@ tallies e f g h zero q = refl
 tallies e f g h (suc n) q = λ i. h q i ∷ tallies e f g h n (suc q) i
 
 -- what an accepted text was scanned to
-abbrev Scanned : List ℕ → Verdict → Type 0
+abbrev pub Scanned : List ℕ → Verdict → Type 0
 Scanned text w = (u : ScanState) × (c : Items) × ((scan (textLines text) ≡ on u c) × (w ≡ reading (partsAfter u c)))
 
 after-scan : (text : List ℕ) (rl sl : ℕ) (y : Out) → scan (textLines text) ≡ y → Accepted (scanned rl sl y) → Scanned text (scanned rl sl y .verdict)
@@ -612,7 +612,7 @@ unfolding unless
 unless-scan text rl sl (some w) n h = absurd (n h)
 unless-scan text rl sl none n h = after-scan text rl sl (scan (textLines text)) refl h
 
-accepted-scan : (text : List ℕ) (rl sl : ℕ) → Accepted (parseAbc text rl sl) → Scanned text (parseAbc text rl sl .verdict)
+pub accepted-scan : (text : List ℕ) (rl sl : ℕ) → Accepted (parseAbc text rl sl) → Scanned text (parseAbc text rl sl .verdict)
 unfolding parseAbc
 accepted-scan text rl sl h = unless-scan text rl sl (early text rl sl) (early-not text rl sl) h
 
