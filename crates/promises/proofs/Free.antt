@@ -35,7 +35,7 @@ use Rattle.promises.specs.Free.{Silent, empty, other-field}
 use Rattle.promises.proofs.SameTally.{Scanned, accepted-scan, withLines, fewer, went, not-on}
 
 -- THE PARTS OF A SCAN: an accepted text's reading is they
-abbrev partsOf : Out → List Part
+abbrev pub partsOf : Out → List Part
 partsOf (refuse n l) = []
 partsOf (on t a) = partsAfter t a
 

@@ -4,3 +4,4 @@ pub mod SameTally
 pub mod Arrangement
 pub mod EachPart
 pub mod Free
+pub mod Sung
