@@ -4,4 +4,5 @@ pub mod SameTally
 pub mod Arrangement
 pub mod EachPart
 pub mod Free
+pub mod SameTokens
 pub mod Sung
