@@ -6,3 +6,4 @@ pub mod EachPart
 pub mod Free
 pub mod SameTokens
 pub mod Sung
+pub mod ArrangementExample

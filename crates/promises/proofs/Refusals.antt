@@ -535,3 +535,31 @@ not-refused text rl sl h = go (parseAbc text rl sl .verdict) refl
 pub read-meets-none : (text : List ℕ) (rl sl : ℕ) → IsReading (parseAbc text rl sl .verdict) → (n l : ℕ) → Reason text rl sl n l → ⊥
 unfolding refusedWith
 read-meets-none text rl sl h n l r = subst (λ (w : Outcome). IsReading (w .verdict)) (under-its-condition text rl sl n l r) h
+
+-- "a line from 1 (0 for 1, 2, 3, 15, 16 ..)": 4 to 14 have a line, the others none; and there is no other number
+condition-range : (s : ScanState) (l : List ℕ) (n : ℕ) → Why s l n → (4 ≤ n) × (n ≤ 14)
+condition-range s l n (many-lines h) = (omega arith, omega arith)
+condition-range s l n (long-line h) = (omega arith, omega arith)
+condition-range s l n (high-field f h) = (omega arith, omega arith)
+condition-range s l n (high-music f h) = (omega arith, omega arith)
+condition-range s l n (second-tune b x) = (omega arith, omega arith)
+condition-range s l n (no-identifier v i) = (omega arith, omega arith)
+condition-range s l n (many-voices v e h) = (omega arith, omega arith)
+condition-range s l n (middle-V v m) = (omega arith, omega arith)
+condition-range s l n (middle-K v m) = (omega arith, omega arith)
+condition-range s l n (in-music f q) = let r = music-range (s .notes) n l q in (omega (arith, r .0), r .1)
+
+abbrev pub NumberAndLine : ℕ → ℕ → Type 0
+NumberAndLine n l = ((4 ≤ n) × ((n ≤ 14) × (1 ≤ l))) ⊎ ((l ≡ 0) × ((n ≡ 1) ⊎ ((n ≡ 2) ⊎ ((n ≡ 3) ⊎ ((n ≡ 15) ⊎ (n ≡ 16))))))
+
+reason-line : (text : List ℕ) (rl sl n l : ℕ) → Reason text rl sl n l → NumberAndLine n l
+reason-line text rl sl n l (long-text h) = inr (refl, inr (inl refl))
+reason-line text rl sl n l (not-utf8 a b) = inr (refl, inr (inr (inl refl)))
+reason-line text rl sl n l (blank-text a b c) = inr (refl, inl refl)
+reason-line text rl sl n l (short-scratch a b c d) = inr (refl, inr (inr (inr (inl refl))))
+reason-line text rl sl n l (at-line b q) = let r = condition-range (q .state) (clean (q .row)) n (q .why .0) in inl (r .0, (r .1, omega (arith, q .line)))
+reason-line text rl sl n l (no-measure t a b e m) = inr (refl, inl refl)
+reason-line text rl sl n l (short-reading t a b e m h) = inr (refl, inr (inr (inr (inr refl))))
+
+pub number-and-line : (text : List ℕ) (rl sl n l : ℕ) → parseAbc text rl sl .verdict ≡ refusal n l → NumberAndLine n l
+number-and-line text rl sl n l e = reason-line text rl sl n l (only-under-its-condition text rl sl n l e)
