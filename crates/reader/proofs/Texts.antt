@@ -9,7 +9,7 @@ use native.Mathlib.Omega.{arith}
 use lib.Dec.{eqb, leb}
 use lib.ListN.{length, length-append, drop, getD}
 use borrow.Author.Tests.{eqb-true}
-use Rattle.laws.specs.Lists.{all, countWhile, eqText}
+use Rattle.laws.specs.Lists.{All, all, countWhile, eqText, filter, isNil}
 use Rattle.laws.proofs.Bools.{by-test, both-true, and-left, and-right, and-both, and-no-right, or-no-left, or-no-right, not-true}
 use Rattle.standard.specs.Bytes.{ascii, is, isDigit, isCapital, first, last, decimal}
 use Rattle.standard.specs.Tuplets.{usualNormal}
@@ -17,7 +17,7 @@ use Rattle.standard.specs.Notes as notes
 use Rattle.standard.specs.Notes.{NoteKind}
 use Rattle.standard.specs.Lyrics as lyric-words
 use Rattle.standard.specs.Lyrics.{Word, skip, hold, syllable, syllableText, syllables, syllabicOf}
-use Rattle.standard.specs.Texts.{Number, isFieldLine, MeterText, common, cut, over, UnitText, one-over, LengthText, times, half, times-half, times-part, restOf, TupletText, p, p-q, p-q-r, ChordText, WordText, star, held, plain, divided, VoiceText, alone, then}
+use Rattle.standard.specs.Texts.{Number, isFieldLine, MeterText, common, cut, over, UnitText, one-over, LengthText, times, half, times-half, times-part, restOf, TupletText, actual, actual-normal, actual-normal-count, ChordText, WordText, hyphened, Piece, star, held, plain, divided, VoiceText, alone, then}
 use Rattle.standard.specs.Texts as texts
 use Rattle.reader.specs.Pieces.{pieces, words, separator}
 use Rattle.reader.specs.Fields.{meterOf, unitOf, unitInline, identifier}
@@ -131,18 +131,18 @@ tupletAs a b c k = some (taken (tuplet (record { actual = a; normal = b; count =
 
 pub tuplet-text-meets : (t s : List ℕ) (a b c : ℕ) → TupletText t a b c → 2 ≤ a → a ≤ 255 → 1 ≤ b → b ≤ 255 → 1 ≤ c → c ≤ 2 ^ 64 - 1 → countWhile isDigit s ≡ 0 → is ":" (first s) ≡ false
     → tupletOf (t ++ s) ≡ tupletAs a b c (length t)
-tuplet-text-meets t s a b c (p x u) la ha lb hb lc hc z w =
+tuplet-text-meets t s a b c (actual x u) la ha lb hb lc hc z w =
     tuplet-p-meets t s (x .some-digit) (x .all-digits) (omega (arith, la, x .says)) (omega (arith, ha, x .says)) z w
     ∙ (λ i. tupletAs (x .says i) (normalFor (x .says i)) (x .says i) (length t))
     ∙ ap (λ (k : ℕ). tupletAs a k a (length t)) (normal-meets a b u)
-tuplet-text-meets t s a b c (p-q d e q x y) la ha lb hb lc hc z w =
+tuplet-text-meets t s a b c (actual-normal d e q x y) la ha lb hb lc hc z w =
     let k : length d + 1 + length e ≡ length t = sym (ap length q ∙ length-append d (58 ∷ e) ∙ (let v : length d + suc (length e) ≡ length d + 1 + length e = omega arith in v)) in
     let j : 1 + length d + 1 + length e ≡ 1 + length t = omega (arith, k) in
     ap (λ (l : List ℕ). tupletOf (l ++ s)) q
     ∙ ap tupletOf (append-assoc d (58 ∷ e) s)
     ∙ tuplet-pq-meets d e s (x .some-digit) (y .some-digit) (x .all-digits) (y .all-digits) (omega (arith, la, x .says)) (omega (arith, ha, x .says)) (omega (arith, lb, y .says)) (omega (arith, hb, y .says)) z w
     ∙ (λ i. some (taken (tuplet (record { actual = x .says i; normal = y .says i; count = x .says i })) (j i)))
-tuplet-text-meets t s a b c (p-q-r d e f q x y v) la ha lb hb lc hc z w =
+tuplet-text-meets t s a b c (actual-normal-count d e f q x y v) la ha lb hb lc hc z w =
     let g : (d ++ (58 ∷ (e ++ (58 ∷ f)))) ++ s ≡ d ++ (58 ∷ (e ++ (58 ∷ (f ++ s)))) = append-assoc d (58 ∷ (e ++ (58 ∷ f))) s ∙ ap (λ (l : List ℕ). d ++ (58 ∷ l)) (append-assoc e (58 ∷ f) s) in
     let k : length (d ++ (58 ∷ (e ++ (58 ∷ f)))) ≡ length d + suc (length (e ++ (58 ∷ f))) = length-append d (58 ∷ (e ++ (58 ∷ f))) in
     let m : length (e ++ (58 ∷ f)) ≡ length e + suc (length f) = length-append e (58 ∷ f) in
@@ -184,27 +184,53 @@ weaker (x ∷ s) h =
 not-sign : (z c : ℕ) (w : List ℕ) → eqb c z ≡ false → eqText (c ∷ w) (z ∷ []) ≡ false
 not-sign z c w h = ap (λ (b : Bool). b && eqText w []) h
 
-divided-meets : (c d : ℕ) (v w : List ℕ) → all (λ x. not (is "-" x)) (c ∷ v) ≡ true → all (λ x. not (is "-" x)) (d ∷ w) ≡ true
-    → wordOf ((c ∷ v) ++ (45 ∷ (d ∷ w))) ≡ syllable lyric-words.begins (syllableText (c ∷ v)) ∷ (syllable lyric-words.ends (syllableText (d ∷ w)) ∷ [])
-unfolding wordOf words orSkip syllables syllabicOf
-divided-meets c d v w h k =
-    rw (sign-not 124, wordOf) (rw (sign-not 42, wordOf) (rw (sign-not 95, wordOf) (rw (head, tail, split))))
-  where
-    rest-of : (v : List ℕ) → (x : ℕ) × (r : List ℕ) × (v ++ (45 ∷ (d ∷ w)) ≡ x ∷ r)
-    rest-of [] = (45, d ∷ w, refl)
-    rest-of (x ∷ v) = (x, v ++ (45 ∷ (d ∷ w)), refl)
+-- the pieces between the hyphens are those that were written
+abbrev pieced : List ℕ → List (List ℕ)
+pieced s = words (separator (is "-")) s
 
-    sign-not : (z : ℕ) → eqText (c ∷ (v ++ (45 ∷ (d ∷ w)))) (z ∷ []) ≡ false
-    sign-not z = let q = rest-of v in ap (λ (l : List ℕ). eqText (c ∷ l) (z ∷ [])) (q .2) ∙ and-no-right (eqb c z) false refl
+one-piece : (w : List ℕ) → Piece w → pieced w ≡ w ∷ []
+unfolding words
+one-piece [] h = absurd (not-suc-le-zero (h .0))
+one-piece (c ∷ w) h = ap (filter (λ (x : List ℕ). not (isNil x))) (pieces-one (is "-") (c ∷ w) (h .1))
 
-    head : is "-" c ≡ false
-    head = not-true (is "-" c) (and-left (not (is "-" c)) (all (λ x. not (is "-" x)) v) h)
+next-piece : (w s : List ℕ) (l : List (List ℕ)) → Piece w → pieced s ≡ l → pieced (w ++ (45 ∷ s)) ≡ w ∷ l
+unfolding words
+next-piece [] s l h e = absurd (not-suc-le-zero (h .0))
+next-piece (c ∷ w) s l h e = ap (filter (λ (x : List ℕ). not (isNil x))) (pieces-first (is "-") (c ∷ w) 45 s (h .1) refl) ∙ ap (λ (l : List (List ℕ)). (c ∷ w) ∷ l) e
 
-    tail : is "-" (last (c ∷ (v ++ (45 ∷ (d ∷ w))))) ≡ false
-    tail = ap (is "-") (last-of (c ∷ v) 45 (d ∷ w) ∙ last-next 45 d w) ∙ not-true (is "-" (last (d ∷ w))) (last-all (λ x. not (is "-" x)) d w k)
+words-meet : (ps : List (List ℕ)) (w : List ℕ) → All Piece (w ∷ ps) → pieced (hyphened (w ∷ ps)) ≡ w ∷ ps
+unfolding hyphened
+words-meet [] w h = one-piece w (h .0)
+words-meet (q ∷ ps) w h = next-piece w (hyphened (q ∷ ps)) (q ∷ ps) (h .0) (words-meet ps q (h .1))
 
-    split : pieces (separator (is "-")) 0 (c ∷ (v ++ (45 ∷ (d ∷ w)))) ≡ (c ∷ v) ∷ ((d ∷ w) ∷ [])
-    split = pieces-first (is "-") (c ∷ v) 45 (d ∷ w) h refl ∙ ap (λ (l : List (List ℕ)). (c ∷ v) ∷ l) (pieces-one (is "-") (d ∷ w) k)
+-- such a word begins and ends with no hyphen, and is longer than a sign
+first-solid : (p q : List ℕ) (ps : List (List ℕ)) → All Piece (p ∷ q ∷ ps) → (is "-" (first (hyphened (p ∷ q ∷ ps))) ≡ false) × ((z : ℕ) → eqText (hyphened (p ∷ q ∷ ps)) (z ∷ []) ≡ false)
+unfolding hyphened
+first-solid [] q ps h = absurd (not-suc-le-zero (h .0 .0))
+first-solid (c ∷ []) q ps h = (not-true (is "-" c) (and-left (not (is "-" c)) true (h .0 .1)), λ z. and-no-right (eqb c z) false refl)
+first-solid (c ∷ (d ∷ w)) q ps h = (not-true (is "-" c) (and-left (not (is "-" c)) (all (λ x. not (is "-" x)) (d ∷ w)) (h .0 .1)), λ z. and-no-right (eqb c z) false refl)
+
+last-one : (w : List ℕ) → Piece w → is "-" (last w) ≡ false
+last-one [] h = absurd (not-suc-le-zero (h .0))
+last-one (c ∷ w) h = not-true (is "-" (last (c ∷ w))) (last-all (λ x. not (is "-" x)) c w (h .1))
+
+-- behind a hyphen stands a piece
+behind-hyphen : (q : List ℕ) (ps : List (List ℕ)) → Piece q → last (45 ∷ hyphened (q ∷ ps)) ≡ last (hyphened (q ∷ ps))
+unfolding hyphened
+behind-hyphen [] ps h = absurd (not-suc-le-zero (h .0))
+behind-hyphen (d ∷ v) [] h = last-next 45 d v
+behind-hyphen (d ∷ v) (r ∷ ps) h = last-next 45 d (v ++ (45 ∷ hyphened (r ∷ ps)))
+
+last-solid : (ps : List (List ℕ)) (w : List ℕ) → All Piece (w ∷ ps) → is "-" (last (hyphened (w ∷ ps))) ≡ false
+unfolding hyphened
+last-solid [] w h = last-one w (h .0)
+last-solid (q ∷ ps) w h = ap (is "-") (last-of w 45 (hyphened (q ∷ ps)) ∙ behind-hyphen q ps (h .1 .0)) ∙ last-solid ps q (h .1)
+
+divided-meets : (p q : List ℕ) (ps : List (List ℕ)) → All Piece (p ∷ q ∷ ps) → wordOf (hyphened (p ∷ q ∷ ps)) ≡ syllables false false (p ∷ q ∷ ps)
+unfolding wordOf orSkip syllables
+divided-meets p q ps h =
+    let f = first-solid p q ps h in
+    rw (f .1 124, wordOf) (rw (f .1 42, wordOf) (rw (f .1 95, wordOf) (rw (f .0, last-solid (q ∷ ps) p h, words-meet (q ∷ ps) p h))))
 
 pub word-text-meets : (s : List ℕ) (ws : List Word) → WordText s ws → wordOf s ≡ ws
 unfolding everything
@@ -226,10 +252,7 @@ word-text-meets s ws (plain c w e h) =
 
     v : is "_" c ≡ false
     v = or-no-right (is "-" c || is "|" c || is "*" c) (is "_" c) none-of
-word-text-meets s ws (divided c d v w e h k) = ap wordOf e ∙ split v h
-  where
-    split : (v : List ℕ) → all (λ x. not (is "-" x)) (c ∷ v) ≡ true → wordOf ((c ∷ v) ++ (45 ∷ (d ∷ w))) ≡ syllable lyric-words.begins (syllableText (c ∷ v)) ∷ (syllable lyric-words.ends (syllableText (d ∷ w)) ∷ [])
-    split v h = divided-meets c d v w h k
+word-text-meets s ws (divided p q ps e h) = ap wordOf e ∙ divided-meets p q ps h
 
 -- VOICES (7.1)
 pub voice-text-meets : (s v : List ℕ) → VoiceText s v → identifier s ≡ v

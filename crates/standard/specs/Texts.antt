@@ -7,11 +7,11 @@ use mathlib.Core.Option.{Option, none, some}
 use mathlib.Core.List.{List, [], _∷_, _++_}
 use lib.Dec.{leb, eqb}
 use lib.ListN.{length, drop}
-use Rattle.laws.specs.Lists.{all, startsWith}
+use Rattle.laws.specs.Lists.{All, all, startsWith}
 use Rattle.standard.specs.Bytes.{ascii, is, isDigit, isCapital, first, decimal}
 use Rattle.standard.specs.Notes.{NoteKind, rest, invisibleRest, barRest, invisibleBarRest}
 use Rattle.standard.specs.Tuplets.{usualNormal}
-use Rattle.standard.specs.Lyrics.{Word, skip, hold, syllable, single, begins, ends, syllableText}
+use Rattle.standard.specs.Lyrics.{Word, skip, hold, syllable, single, syllableText, syllables}
 
 -- a number in digits
 pub record Number (s : List ℕ) (n : ℕ) : Type 0 where
@@ -63,21 +63,29 @@ restOf c = elim (is "z" c) [
 
 -- 4.13: `(p`, `(p:q`, `(p:q:r`, behind the `(`: p notes in the time of q for the next r; the default of q for 2, 3 and 4, and r is p
 pub data TupletText (s : List ℕ) : ℕ → ℕ → ℕ → Type 0 where
-  p : {a b : ℕ} → Number s a → usualNormal a ≡ some b → TupletText s a b a
-  p-q : {a b : ℕ} (d e : List ℕ) → s ≡ d ++ (58 ∷ e) → Number d a → Number e b → TupletText s a b a
-  p-q-r : {a b c : ℕ} (d e f : List ℕ) → s ≡ d ++ (58 ∷ (e ++ (58 ∷ f))) → Number d a → Number e b → Number f c → TupletText s a b c
+  actual : {a b : ℕ} → Number s a → usualNormal a ≡ some b → TupletText s a b a
+  actual-normal : {a b : ℕ} (d e : List ℕ) → s ≡ d ++ (58 ∷ e) → Number d a → Number e b → TupletText s a b a
+  actual-normal-count : {a b c : ℕ} (d e f : List ℕ) → s ≡ d ++ (58 ∷ (e ++ (58 ∷ f))) → Number d a → Number e b → Number f c → TupletText s a b c
 
 -- 4.17: a chord behind its `[`: its notes, and the length behind the `]`
 pub data ChordText (s : List ℕ) : List ℕ → List ℕ → Type 0 where
   chord : (notes length : List ℕ) → all (λ c. not (is "]" c)) notes ≡ true → s ≡ notes ++ (93 ∷ length) → ChordText s notes length
 
--- 5.1: a word of a lyric line, which white space parts from others: `*` skips a note, `_` holds the syllable before it, a hyphen between two letters divides, `~` is a space
+-- 5.1: the pieces of a word, with one hyphen between each two; a piece is not empty and has no hyphen
+unfoldable pub hyphened : List (List ℕ) → List ℕ
+hyphened [] = []
+hyphened (p ∷ []) = p
+hyphened (p ∷ q ∷ ps) = p ++ (45 ∷ hyphened (q ∷ ps))
+
+abbrev pub Piece : List ℕ → Type 0
+Piece p = (0 < length p) × (all (λ x. not (is "-" x)) p ≡ true)
+
+-- 5.1: a word of a lyric line, which white space parts from others: `*` skips a note, `_` holds the syllable before it, a hyphen between two letters divides
 pub data WordText (s : List ℕ) : List Word → Type 0 where
   star : s ≡ ascii "*" → WordText s (skip ∷ [])
   held : s ≡ ascii "_" → WordText s (hold ∷ [])
   plain : (c : ℕ) (w : List ℕ) → s ≡ c ∷ w → all (λ x. not (is "-" x || is "|" x || is "*" x || is "_" x)) s ≡ true → WordText s (syllable single (syllableText s) ∷ [])
-  divided : (c d : ℕ) (v w : List ℕ) → s ≡ (c ∷ v) ++ (45 ∷ (d ∷ w)) → all (λ x. not (is "-" x)) (c ∷ v) ≡ true → all (λ x. not (is "-" x)) (d ∷ w) ≡ true
-      → WordText s (syllable begins (syllableText (c ∷ v)) ∷ syllable ends (syllableText (d ∷ w)) ∷ [])
+  divided : (p q : List ℕ) (ps : List (List ℕ)) → s ≡ hyphened (p ∷ q ∷ ps) → All Piece (p ∷ q ∷ ps) → WordText s (syllables false false (p ∷ q ∷ ps))
 
 -- 7.1: a voice's identifier, alone or before white space and properties
 pub data VoiceText (s : List ℕ) : List ℕ → Type 0 where
