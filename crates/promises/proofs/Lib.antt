@@ -7,3 +7,4 @@ pub mod Free
 pub mod SameTokens
 pub mod Sung
 pub mod ArrangementExample
+pub mod StillRead

@@ -501,7 +501,7 @@ module _ (text : List ℕ) (rl sl : ℕ) where
       (λ a. rw a (so 2 0 (long-text (leb-false (length text) mostBytes a))))
 
   -- what follows where the four tests before the first line are passed
-  after-tests : Begins text sl → parseAbc text rl sl ≡ scanned rl sl (scan (textLines text))
+  pub after-tests : Begins text sl → parseAbc text rl sl ≡ scanned rl sl (scan (textLines text))
   unfolding parseAbc early unless
   after-tests b = rw (le-leb (length text) mostBytes (b .short)) (rw (b .utf8) (rw (b .not-blank) (rw (le-leb (scratchNeeded (length text)) sl (b .scratch)))))
 
