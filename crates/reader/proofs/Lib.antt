@@ -13,3 +13,4 @@ pub mod MoreStandard
 pub mod Texts
 pub mod Marks
 pub mod HeaderLaws
+pub mod PassTexts

@@ -1,6 +1,6 @@
 -- HOW THINGS ARE WRITTEN (ABC 2.1), where the definitions of this crate say only what they mean: fields (3.0), meters (3.1.6), unit lengths (3.1.7), note lengths (4.3), rests (4.5),
--- tuplets (4.13), chords (4.17), words of lyrics (5.1), voices (7.1). s is the text of one; what it says stands behind it.
-use Prim.Native.Nat.{ℕ, _<_}
+-- lists of passes (4.10), tuplets (4.13), chords (4.17), words of lyrics (5.1), voices (7.1). s is the text of one; what it says stands behind it.
+use Prim.Native.Nat.{ℕ, _<_, _≤_}
 use mathlib.Core.Path.{_≡_}
 use mathlib.Core.Bool.{Bool, true, false, not, _&&_, _||_}
 use mathlib.Core.Option.{Option, none, some}
@@ -11,6 +11,7 @@ use Rattle.laws.specs.Lists.{All, all, startsWith}
 use Rattle.standard.specs.Bytes.{ascii, is, isDigit, isCapital, first, decimal}
 use Rattle.standard.specs.Notes.{NoteKind, rest, invisibleRest, barRest, invisibleBarRest}
 use Rattle.standard.specs.Tuplets.{usualNormal}
+use Rattle.standard.specs.Passes.{pass, passes, passesOf}
 use Rattle.standard.specs.Lyrics.{Word, skip, hold, syllable, single, syllableText, syllables}
 
 -- a number in digits
@@ -60,6 +61,18 @@ restOf c = elim (is "z" c) [
     | false ↦ elim (is "Z" c) [ true ↦ some barRest | false ↦ elim (is "X" c) [ true ↦ some invisibleBarRest | false ↦ none ] ]
   ]
 ]
+
+-- 4.10: numbers and ranges with commas between, and their passes. Document 01: each above those before it (the last of which is `low`), up to 32, without a leading zero
+unfoldable pub commaed : List (List ℕ) → List ℕ
+commaed [] = []
+commaed (x ∷ []) = x
+commaed (x ∷ y ∷ xs) = x ++ (44 ∷ commaed (y ∷ xs))
+
+pub data PassesText : ℕ → List (List ℕ) → List ℕ → Type 0 where
+  ended : {low : ℕ} → PassesText low [] []
+  number : {low n : ℕ} {xs : List (List ℕ)} {qs : List ℕ} (x : List ℕ) → Number x n → is "0" (first x) ≡ false → low < n → n ≤ 32 → PassesText n xs qs → PassesText low (x ∷ xs) (passesOf (pass n) ++ qs)
+  range : {low n m : ℕ} {xs : List (List ℕ)} {qs : List ℕ} (x d e : List ℕ) → x ≡ d ++ (45 ∷ e) → Number d n → Number e m → is "0" (first d) ≡ false → is "0" (first e) ≡ false → low < n → n < m → m ≤ 32
+      → PassesText m xs qs → PassesText low (x ∷ xs) (passesOf (passes n m) ++ qs)
 
 -- 4.13: `(p`, `(p:q`, `(p:q:r`, behind the `(`: p notes in the time of q for the next r; the default of q for 2, 3 and 4, and r is p
 pub data TupletText (s : List ℕ) : ℕ → ℕ → ℕ → Type 0 where
