@@ -444,3 +444,43 @@ module _ (R : Reader) (L : Laws R) where
         where
           two : (u : R .State) × (x : List (ℕ × R .Item)) × (y : List (ℕ × R .Item)) × Run R (R .start) (header text ++ opening text) u x × Run R u (concat (blocks text)) (q .0) y × (q .1 ≡ x ++ y) → Conclusion R text rl sl
           two w = cut (w .3) (w .4)
+
+-- THE ANSWER of a text that meets the hypotheses: the end of what holds where the first block begins, and of each part's items there and from its own blocks
+module _ (R : Reader) where
+  -- the items of a run
+  abbrev pub itemsIn : Step (R .State) (R .Item) → List (ℕ × R .Item)
+  itemsIn (refuse n l) = []
+  itemsIn (on s a) = a
+
+  -- part p's items, where its blocks begin in the state s after the items a
+  abbrev pub fromBlocks : R .State → List (ℕ × R .Item) → List (List TextLine) → ℕ → List (R .Item)
+  fromBlocks s a bs p = itemsOf p a ++ gathers R (R .env s) (R .unitIn s) (R .meterIn s) (part R (R .env s) p bs)
+
+  abbrev pub atBlocks : List TextLine → Step (R .State) (R .Item)
+  atBlocks rs = run (R .step) (R .start) rs
+
+module _ (R : Reader) (L : Laws R) where
+  abbrev pub Settled : List ℕ → ℕ → ℕ → Type 0
+  Settled text rl sl =
+      let x = atBlocks R (header text ++ opening text) in
+      answer R text rl sl ≡ R .finish (R .env (stateOf R x)) (fromBlocks R (stateOf R x) (itemsIn R x) (blocks text)) rl sl
+
+  pub settled : (text : List ℕ) (rl sl : ℕ) → Hypotheses R text rl sl → Settled text rl sl
+  settled text rl sl m = go (open-run R L rl sl (run (R .step) (R .start) (textLines text)) (early .1))
+    where
+      early : (R .early text rl sl ≡ none) × R .Accepted (result R rl sl (run (R .step) (R .start) (textLines text)))
+      early = open-early R L text rl sl (R .early text rl sl) refl (m .accepted)
+
+      cut : {s t : R .State} {a b : List (ℕ × R .Item)} → Run R (R .start) (header text ++ opening text) s a → Run R s (concat (blocks text)) t b → Settled text rl sl
+      cut {s} {t} {a} {b} d0 d1 = last (run-cut R (header text) d0)
+        where
+          last : (u : R .State) × (x : List (ℕ × R .Item)) × (y : List (ℕ × R .Item)) × Run R (R .start) (header text) u x × Run R u (opening text) s y × (a ≡ x ++ y) → Settled text rl sl
+          last q =
+              answer-self R L text rl sl m (q .0) s t (q .1) (q .2) a b (q .3) (q .4) d0 d1 (early .0)
+              ∙ ap (λ (x : Step (R .State) (R .Item)). R .finish (R .env (stateOf R x)) (fromBlocks R (stateOf R x) (itemsIn R x) (blocks text)) rl sl) (sym (run-run R d0))
+
+      go : (s : R .State) × (a : List (ℕ × R .Item)) × (run (R .step) (R .start) (textLines text) ≡ on s a) → Settled text rl sl
+      go q = two (run-cut R (header text ++ opening text) (subst (λ (rs : List TextLine). Run R (R .start) rs (q .0) (q .1)) (sym (append-assoc (header text) (opening text) (concat (blocks text)) ∙ rows-all text)) (run-of R (textLines text) (R .start) (q .0) (q .1) (q .2))))
+        where
+          two : (u : R .State) × (x : List (ℕ × R .Item)) × (y : List (ℕ × R .Item)) × Run R (R .start) (header text ++ opening text) u x × Run R u (concat (blocks text)) (q .0) y × (q .1 ≡ x ++ y) → Settled text rl sl
+          two w = cut (w .3) (w .4)

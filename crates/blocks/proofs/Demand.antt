@@ -3,16 +3,16 @@ use Prim.Native.Nat.{ℕ}
 use mathlib.Core.Path.{_≡_, sym, ap, subst, _∙_}
 use mathlib.Core.Logic.{inl}
 use mathlib.Core.Bool.{true}
-use mathlib.Core.List.{List}
+use mathlib.Core.List.{List, _++_}
 use Rattle.laws.specs.Lists.{All, elem, indexOf}
 use Rattle.reader.specs.Steps.{TextLine}
 use Rattle.reader.specs.Scan.{scan}
-use Rattle.reader.specs.Answer.{parseAbc, unless, scanned}
-use Rattle.blocks.specs.Blocks.{blocks, rebuilt}
+use Rattle.reader.specs.Answer.{parseAbc, finish, unless, scanned}
+use Rattle.blocks.specs.Blocks.{header, opening, blocks, rebuilt}
 use Rattle.blocks.specs.Frame as frame
 use Rattle.blocks.specs.Demand.{Demand-3, Hypotheses, Conclusion, voiceOf, stateAtBlocks, linesAt, Moved, Accepted, voices, onlyPart, onlyVoice, partIn, partOf, By-name}
 use Rattle.blocks.proofs.Lyrics.{literal-stepwise}
-use Rattle.blocks.proofs.Claim.{claim}
+use Rattle.blocks.proofs.Claim.{claim, itemsIn, fromBlocks, settled as claim-settled}
 use Rattle.blocks.proofs.Instance.{reader}
 use Rattle.blocks.proofs.Scan.{music-lyric}
 use Rattle.blocks.proofs.Keeps.{laws}
@@ -60,3 +60,17 @@ by-name text rl sl m v hv rl′ sl′ = go (demand-3 text rl sl m)
 pub owned : (text : List ℕ) (rl sl : ℕ) → Hypotheses text rl sl → All (λ b. elem (voiceOf b) (stateAtBlocks text .env .voices) ≡ true) (blocks text)
 unfolding scan
 owned text rl sl m = claimed text rl sl m .owned
+
+-- the answer by what each part's own blocks give (`settled` of proofs/Claim)
+pub settled : (text : List ℕ) (rl sl : ℕ) → Hypotheses text rl sl
+    → parseAbc text rl sl ≡ finish (stateAtBlocks text .env) (fromBlocks reader (stateAtBlocks text) (itemsIn reader (scan (header text ++ opening text))) (blocks text)) rl sl
+unfolding parseAbc unless scanned scan
+settled text rl sl m =
+    claim-settled reader laws text rl sl
+    (record {
+      accepted = m .accepted;
+      ended = m .ended;
+      known = m .known;
+      sets-neither = inl (m .sets-neither);
+      sung = λ p. literal-stepwise reader music-lyric (linesAt text p) (m .sung p);
+    })

@@ -5,3 +5,5 @@ pub mod Tally
 pub mod Stores
 pub mod Limits
 pub mod KeyNames
+pub mod KeySpellings
+pub mod Charged

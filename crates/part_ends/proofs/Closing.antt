@@ -14,10 +14,10 @@ use Rattle.laws.proofs.Bools.{by-test, both-true, or-right, cond-true, cond-fal
 use Rattle.laws.proofs.Lists.{All-right, getD-sum}
 use Rattle.laws.proofs.Numbers.{length-little, little-bytes, little-littleAt, littleAt-own}
 use Rattle.laws.proofs.Parts.{part-all}
-use Rattle.standard.specs.Bars.{Barline, normal, repeatStart, repeatEnd, repeatBoth, double, final, endsEnding}
+use Rattle.standard.specs.Bars.{Barline, normal, repeatStart, repeatEnd, repeatBoth, double, final}
 use Rattle.standard.specs.Keys.{Key}
 use Rattle.reader.specs.State.{Note, Volta, noVolta, voltaBegins, voltaEnds, voltaAlone}
-use Rattle.reader.specs.Voltas.{isStart}
+use Rattle.reader.specs.Voltas.{endsEnding, isStart}
 use Rattle.reader.specs.Codes.{barlineCode, voltaCode, modeCode}
 use Rattle.reader.specs.Records.{keyMarkBytes, passBits, signed8, measureWidth}
 use Rattle.part_layout.specs.Log.{Head, withVolta, withKeyMark, isEmptyHead}

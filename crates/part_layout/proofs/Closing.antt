@@ -9,11 +9,10 @@ use Rattle.laws.specs.Lists.{All, concat, isNil}
 use Rattle.laws.proofs.Bools.{by-test, and-no-right, cond-ap, both-true}
 use Rattle.laws.proofs.Lists.{map-append, map-map, concat-snoc}
 use Rattle.standard.specs.Keys.{Key}
-use Rattle.standard.specs.Bars.{endsEnding}
 use Rattle.reader.specs.State
 use Rattle.reader.specs.State.{Note, Measure, PartState, isEmpty, voltaEnds, voltaAlone}
 use Rattle.reader.specs.Voltas
-use Rattle.reader.specs.Voltas.{isStart, closed}
+use Rattle.reader.specs.Voltas.{endsEnding, isStart, closed}
 use Rattle.reader.specs.Part
 use Rattle.reader.specs.Part.{inOrder}
 use Rattle.part_layout.specs.Log

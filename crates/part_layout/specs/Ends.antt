@@ -6,12 +6,11 @@ use mathlib.Core.List.{List, [], _∷_, _++_, reverse}
 use lib.ListN.{replicate}
 use Rattle.laws.specs.Lists.{foldl}
 use Rattle.standard.specs.Keys.{Key}
-use Rattle.standard.specs.Bars.{endsEnding}
 use Rattle.standard.specs.Notes.{nothingPending}
 use Rattle.standard.specs.Lyrics.{nextVerse}
 use Rattle.reader.specs.Scan.{Item, voiceDeclared, reset, keyInHeader, keyChange, meterChange, lyricLine, musicLine}
 use Rattle.reader.specs.State.{Note, voltaEnds, voltaAlone, Sung, Verses}
-use Rattle.reader.specs.Voltas.{isStart}
+use Rattle.reader.specs.Voltas.{endsEnding, isStart}
 use Rattle.reader.specs.Lyrics.{Syllable, sungBy}
 use Rattle.reader.specs.Part.{firstKey}
 use Rattle.part_layout.specs.Log.{Head, LogState, withMeter, withKeyMark, withVolta, setKey, setHeads, setPending, setVerses, newLog, onOpen, isEmptyHead, openIsEmpty, hears, onLine}

@@ -11,3 +11,9 @@ pub mod ValueLaws
 pub mod Digits
 pub mod Standard
 pub mod Traps
+pub mod InLine
+pub mod MoreStandard
+pub mod Texts
+pub mod Marks
+pub mod HeaderLaws
+pub mod PassTexts

@@ -4,8 +4,17 @@ use Prim.Native.Nat.{ℕ}
 use mathlib.Core.Bool.{Bool, true, false, _||_}
 use mathlib.Core.Option.{Option, none, some}
 use mathlib.Core.List.{List, [], _∷_}
-use Rattle.standard.specs.Bars.{endsEnding}
+use Rattle.standard.specs.Bars.{Barline, normal, repeatStart, repeatEnd, repeatBoth, double, final}
 use Rattle.reader.specs.State.{Measure, Volta, noVolta, voltaBegins, voltaEnds, voltaAlone, withVolta}
+
+-- "right barline 2, 3 or 5": as `closesEnding` of the standard, but for `||`
+unfoldable pub endsEnding : Barline → Bool
+endsEnding normal = false
+endsEnding repeatStart = false
+endsEnding repeatEnd = true
+endsEnding repeatBoth = true
+endsEnding double = false
+endsEnding final = true
 
 unfoldable pub isStart : Volta → Bool
 isStart noVolta = false

@@ -5,13 +5,13 @@ use Rattle.standard.specs.Pitches.{stepOf, letterOctave, octaveMark, oct
 use Rattle.standard.specs.Keys.{plainKey, place, tonic, inMode, keyAlter}
 use Rattle.standard.specs.Lengths.{lengthFraction, valueFraction, ticks, tenValues, withDots, forty, dotted, halved}
 use Rattle.standard.specs.Tuplets.{usualNormal, boundary}
-use Rattle.standard.specs.Bars.{barSymbols, symbolAt, endsEnding}
+use Rattle.standard.specs.Bars.{barSymbols, symbolAt, closesEnding}
 use Rattle.standard.specs.Passes.{rising, passesOf}
 use Rattle.standard.specs.Notes.{isSounded, beamable, beams, flagsOf, pendingAfter, slurOpens, graceOpens, graceCloses, nextVoice}
 use Rattle.standard.specs.Lyrics.{syllabicOf, syllableText, syllables, nextVerse}
 use Rattle.standard.specs.Fields.{namedMeter}
-use Rattle.laws.specs.All.{all as all-of-laws}
+use Rattle.standard.specs.Texts.{isFieldLine, stillHeader, restOf, commaed, hyphened}
 
 unfoldable pub all : ℕ
-unfolding lower decimal digits stepOf letterOctave octaveMark octaveBy alterOf altered plainKey place tonic inMode keyAlter lengthFraction valueFraction ticks tenValues withDots forty dotted halved usualNormal boundary barSymbols symbolAt endsEnding rising passesOf isSounded beamable beams flagsOf pendingAfter slurOpens graceOpens graceCloses nextVoice syllabicOf syllableText syllables nextVerse namedMeter all-of-laws
+unfolding lower decimal digits stepOf letterOctave octaveMark octaveBy alterOf altered plainKey place tonic inMode keyAlter lengthFraction valueFraction ticks tenValues withDots forty dotted halved usualNormal boundary barSymbols symbolAt closesEnding rising passesOf isSounded beamable beams flagsOf pendingAfter slurOpens graceOpens graceCloses nextVoice syllabicOf syllableText syllables nextVerse namedMeter isFieldLine stillHeader restOf commaed hyphened
 all = 0

@@ -28,11 +28,11 @@ unfoldable pub symbolAt : List Symbol → List ℕ → Option Symbol
 symbolAt [] s = none
 symbolAt (x ∷ xs) s = elim (startsWith (x .text) s) [ true ↦ some x | false ↦ symbolAt xs s ]
 
--- 4.9: an ending ends at the end of a repeat and at a final bar
-unfoldable pub endsEnding : Barline → Bool
-endsEnding normal = false
-endsEnding repeatStart = false
-endsEnding repeatEnd = true
-endsEnding repeatBoth = true
-endsEnding double = false
-endsEnding final = true
+-- 4.9: an ending ends at `||`, `:|` and `|]`; `::` is `:|` and `|:` in one. Document 01's rule, which leaves out `||`, is `endsEnding` of crate reader
+unfoldable pub closesEnding : Barline → Bool
+closesEnding normal = false
+closesEnding repeatStart = false
+closesEnding repeatEnd = true
+closesEnding repeatBoth = true
+closesEnding double = true
+closesEnding final = true

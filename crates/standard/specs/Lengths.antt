@@ -37,10 +37,10 @@ withDots v =
 unfoldable pub forty : List Value
 forty = concat (map withDots tenValues)
 
--- 4.4: `>` dots the first note, `>>` double dots it; three dots at most
+-- 4.4: `>` dots the first note, `>>` double dots it. Document 01 and the Rust: dots are added to those written, three at most, however many `>`
 unfoldable pub dotted : ℕ → Value → Value
 dotted n w = record { value = w .value; dots = min 3 (w .dots + n) }
 
--- 4.4: `>` halves the second note, `>>` quarters it; a 128th is not halved
+-- 4.4: `>` halves the second note, `>>` quarters it. Document 01 and the Rust: the written value is halved and its dots stay, and halving stops at the 128th
 unfoldable pub halved : ℕ → Value → Value
 halved n w = record { value = min 9 (w .value + n); dots = w .dots }

@@ -8,4 +8,5 @@ pub mod Passes
 pub mod Notes
 pub mod Lyrics
 pub mod Fields
+pub mod Texts
 pub mod All

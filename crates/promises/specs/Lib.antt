@@ -1,0 +1,4 @@
+pub mod Refusals
+pub mod Arrangement
+pub mod Free
+pub mod Sung

@@ -1,0 +1,124 @@
+-- EACH REFUSAL UNDER ITS CONDITION (document 01, "Who can be refused"): the sixteen conditions by their numbers, and the order in which they are met.
+use Prim.Native.Nat.{ℕ, suc, _+_, _≤_, _<_}
+use mathlib.Core.Path.{_≡_}
+use mathlib.Core.Bool.{true, false, not, _||_}
+use mathlib.Core.Option.{none, some}
+use mathlib.Core.List.{List, [], _∷_, _++_, map}
+use lib.ListN.{length, take, drop}
+use Rattle.laws.specs.Lists.{elem, isNil, sum, countWhile}
+use Rattle.standard.specs.Bytes.{is, isDigit, first}
+use Rattle.standard.specs.Pitches.{isLetter}
+use Rattle.reader.specs.Text.{isUtf8, isBlank, textLines, clean, hasHigh}
+use Rattle.reader.specs.Pieces.{pieces, separator}
+use Rattle.reader.specs.Fields.{identifier, middleWord}
+use Rattle.reader.specs.Pitches.{octaveOf, accidentalOf, chordOf}
+use Rattle.reader.specs.PassLists.{isPassByte, passList}
+use Rattle.reader.specs.Inline.{isInline}
+use Rattle.reader.specs.Token.{Token}
+use Rattle.reader.specs.Tokens.{Effect, counts, refuses, effectOf, more, less, bracket, pitched, classOf, tokenOf, tokens}
+use Rattle.reader.specs.Lines.{isV, isK, isL, isM, isX, isLyric, isField}
+use Rattle.reader.specs.Steps.{TextLine, on, run}
+use Rattle.reader.specs.Scan.{Items, ScanState, begin, mostLines, mostVoices, mostNotes, noteCount, voicesBefore, firstRefusal, step, scan}
+use Rattle.reader.specs.Answer.{mostBytes, scratchNeeded, encode, measureCount}
+use Rattle.bounds.proofs.Reading.{partsAfter}
+
+-- IN A MUSIC LINE: s is what stands from a token's first byte on
+-- what a bracket holds, up to the next `]`; s stands behind the `[`
+abbrev pub bracketed : List ℕ → List ℕ
+bracketed s = take (countWhile (λ c. not (is "]" c)) s) s
+
+-- the digits, commas and hyphens at the front
+abbrev pub passText : List ℕ → List ℕ
+passText s = take (countWhile isPassByte s) s
+
+pub data TokenMeets (s : List ℕ) : ℕ → Type 0 where
+  -- "10 a `middle=` word in a K or V field, also inline K"
+  middle-inline : classOf (first s) ≡ bracket → isInline (drop 1 s) ≡ true → isK (bracketed (drop 1 s)) ≡ true → middleWord (drop 2 (bracketed (drop 1 s))) ≡ true → TokenMeets s 10
+  -- "12 octave marks that leave −128 to 127": of a note c behind its accidental; of a note in a chord (`chord-out` in proofs/Refusals)
+  octave-note : (c : ℕ) (t : List ℕ) → classOf (first s) ≡ pitched → drop (accidentalOf s .used) s ≡ c ∷ t → isLetter c ≡ true → octaveOf c t .fine ≡ false → TokenMeets s 12
+  octave-chord : classOf (first s) ≡ bracket → isDigit (first (drop 1 s)) ≡ false → isInline (drop 1 s) ≡ false → chordOf 0 none (drop 1 s) ≡ none → TokenMeets s 12
+  -- "13 more than 255 equal `>` or `<` together"
+  many-more : classOf (first s) ≡ more → 255 < suc (countWhile (is ">") (drop 1 s)) → TokenMeets s 13
+  many-less : classOf (first s) ≡ less → 255 < suc (countWhile (is "<") (drop 1 s)) → TokenMeets s 13
+  -- "14 `[` and a digit whose run of digits, commas and hyphens is no pass list"
+  no-list : classOf (first s) ≡ bracket → isDigit (first (drop 1 s)) ≡ true → passList 0 (pieces (separator (is ",")) 0 (passText (drop 1 s))) ≡ none → TokenMeets s 14
+
+-- where a token begins, with m notes before it
+pub data Here (m : ℕ) (s : List ℕ) : ℕ → Type 0 where
+  token : {n : ℕ} → TokenMeets s n → Here m s n
+  -- "11 the 100,001st note, rest or non-empty chord"
+  note : effectOf (tokenOf s .token) ≡ counts → mostNotes ≤ m → Here m s 11
+
+-- "as met from left to right": the first place of the line l, which m notes come before, where something is refused; nothing before it is
+pub record InMusic (m : ℕ) (l : List ℕ) (n : ℕ) : Type 0 where
+  pub place : ℕ
+  pub before : List Token
+  pub are : tokens 0 l ≡ before ++ tokens 0 (drop place l)
+  pub inside : place < length l
+  pub fine : firstRefusal m (map effectOf before) ≡ none
+  pub here : Here (m + noteCount (map effectOf before)) (drop place l) n
+
+-- "a music line after the first K line": no lyric line and no field
+abbrev pub MusicLine : ScanState → List ℕ → Type 0
+MusicLine s l = (s .env .inHeader ≡ false) × ((isLyric l ≡ false) × (isField l ≡ false))
+
+-- OF A LINE l (cut and trimmed) that the state s meets
+pub data Why (s : ScanState) (l : List ℕ) : ℕ → Type 0 where
+  -- "4 a line after the 10,000th"
+  many-lines : mostLines ≤ s .lines → Why s l 4
+  -- "5 a line over 1,048,576 bytes after trimming"
+  long-line : 1048576 < length l → Why s l 5
+  -- "6 a byte above 127 in a K, L, M or V line, or in a music line after the first K line"
+  high-field : (isV l || isK l || isL l || isM l) ≡ true → hasHigh l ≡ true → Why s l 6
+  high-music : MusicLine s l → hasHigh l ≡ true → Why s l 6
+  -- "7 an X line after the first K line"
+  second-tune : s .env .inHeader ≡ false → isX l ≡ true → Why s l 7
+  -- "8 V without an identifier"
+  no-identifier : isV l ≡ true → isNil (identifier (drop 2 l)) ≡ true → Why s l 8
+  -- "9 a 33rd voice (unnamed opening music counts as one)"
+  many-voices : isV l ≡ true → elem (identifier (drop 2 l)) (voicesBefore s) ≡ false → mostVoices ≤ length (voicesBefore s) → Why s l 9
+  -- "10 a `middle=` word in a K or V field"
+  middle-V : isV l ≡ true → middleWord (drop 2 l) ≡ true → Why s l 10
+  middle-K : isK l ≡ true → middleWord (drop 2 l) ≡ true → Why s l 10
+  -- 10 inline, 11, 12, 13, 14
+  in-music : {n : ℕ} → MusicLine s l → InMusic (s .notes) l n → Why s l n
+
+-- "line by line 4, 5, 6 and 7 to 14 ..; at one place the smaller number comes first": the line has the condition of n, and of no smaller number
+abbrev pub First : ScanState → List ℕ → ℕ → Type 0
+First s l n = Why s l n × ((m : ℕ) → m < n → Why s l m → ⊥)
+
+-- a line of a text: those before it go through, and lead to the state that meets it; k is its number, from 1
+pub record At (s : ScanState) (rs : List TextLine) (n k : ℕ) : Type 0 where
+  pub before : List TextLine
+  pub row : TextLine
+  pub behind : List TextLine
+  pub state : ScanState
+  pub items : Items
+  pub are : rs ≡ before ++ (row ∷ behind)
+  pub pass : run step s before ≡ on state items
+  pub why : First state (clean row) n
+  pub line : k ≡ suc (s .lines + length before)
+
+-- OF A CALL with a text, a reading store of rl bytes and a scratch store of sl. "Order: 2, 3, blank 1, 15"; nothing of these
+pub record Begins (text : List ℕ) (sl : ℕ) : Type 0 where
+  pub short : length text ≤ mostBytes
+  pub utf8 : isUtf8 text ≡ true
+  pub not-blank : isBlank text ≡ false
+  pub scratch : scratchNeeded (length text) ≤ sl
+
+-- THE SIXTEEN REFUSALS, each with its line
+pub data Reason (text : List ℕ) (rl sl : ℕ) : ℕ → ℕ → Type 0 where
+  -- "2 over 67,108,864 bytes"
+  long-text : mostBytes < length text → Reason text rl sl 2 0
+  -- "3 not UTF-8"
+  not-utf8 : length text ≤ mostBytes → isUtf8 text ≡ false → Reason text rl sl 3 0
+  -- "1 blank text"
+  blank-text : length text ≤ mostBytes → isUtf8 text ≡ true → isBlank text ≡ true → Reason text rl sl 1 0
+  -- "15 scratch below 32 × (text length + 256) bytes"
+  short-scratch : length text ≤ mostBytes → isUtf8 text ≡ true → isBlank text ≡ false → sl < scratchNeeded (length text) → Reason text rl sl 15 0
+  -- 4 to 14
+  at-line : {n k : ℕ} → Begins text sl → At begin (textLines text) n k → Reason text rl sl n k
+  -- "or no measure at the end"
+  no-measure : (t : ScanState) (a : Items) → Begins text sl → scan (textLines text) ≡ on t a → sum measureCount (partsAfter t a) ≡ 0 → Reason text rl sl 1 0
+  -- "16 reading store shorter than the reading"
+  short-reading : (t : ScanState) (a : Items) → Begins text sl → scan (textLines text) ≡ on t a → 1 ≤ sum measureCount (partsAfter t a) → rl < length (encode (partsAfter t a)) → Reason text rl sl 16 0

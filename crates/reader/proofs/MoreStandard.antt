@@ -1,0 +1,186 @@
+-- MORE PLACES WHERE THE READER AND THE STANDARD AGREE: note lengths as written (4.3), `(p` and `(p:q` (4.13), accidentals to the bar's end (4.2), lists of passes (4.10), words of lyrics (5.1), identifiers (7.1).
+use Prim.Native.Nat.{ℕ, zero, suc, _+_, _-_, _*_, _^_, _≤_, _<_}
+use mathlib.Core.Path.{_≡_, refl, sym, ap, _∙_}
+use mathlib.Core.Bool.{Bool, true, false, cond, not, _&&_, false≢true}
+use mathlib.Core.Option.{Option, none, some}
+use mathlib.Core.List.{List, [], _∷_, _++_, append-nil}
+use native.Mathlib.Nat.{not-suc-le-zero}
+use native.Mathlib.Omega.{arith}
+use lib.Dec.{eqb, ltb}
+use lib.ListN.{length, take, drop}
+use lib.Seq.{take-append-seam, drop-at}
+use borrow.Author.Tests.{eqb-true, le-leb, le-ltb, lt-ltb, ne-eqb}
+use Rattle.laws.specs.Lists.{all, countWhile, eqText, isNil, filter, startsWith}
+use Rattle.laws.proofs.Bools.{by-test, both-true, and-left, and-right, and-both, eqb-same}
+use Rattle.standard.specs.Bytes.{ascii, is, isDigit, first, last, decimal}
+use Rattle.standard.specs.Pitches.{Accidental, Written, Pitch, altered}
+use Rattle.standard.specs.Keys.{Key, keyAlter}
+use Rattle.standard.specs.Tuplets.{usualNormal}
+use Rattle.standard.specs.Passes.{pass, passes, passesOf}
+use Rattle.standard.specs.Lyrics.{Word, syllable, single, syllableText, syllables, syllabicOf}
+use Rattle.reader.specs.Text.{isSpace}
+use Rattle.reader.specs.Pieces.{pieces, words, separator, fieldWords}
+use Rattle.reader.specs.Fields.{firstWord, identifier}
+use Rattle.reader.specs.Lengths as lengths
+use Rattle.reader.specs.Lengths.{Length, number, denominator, lengthOf}
+use Rattle.reader.specs.Pitches.{Scope, remembered, orKey, soundBy, soundOf, scopeBy, scopeAfter}
+use Rattle.reader.specs.Token.{taken, tuplet, volta}
+use Rattle.reader.specs.Tuplets.{notZero, positive, normalFor, counted, withCount, withNormal, withActual, tupletOf, tupletToken}
+use Rattle.reader.specs.PassLists.{passNumber, itemOf, lastPass, inTurn, passList}
+use Rattle.reader.specs.PassLists as lists
+use Rattle.reader.specs.Lyrics.{wordOf, orSkip}
+use Rattle.reader.proofs.Digits.{digit-not, count-while-front, digits-some, pieces-digits}
+
+-- LENGTHS (4.3). A length is written as a numerator or none, and a slash with a denominator or none behind it, or no slash: `A` is A1, `A/` is A/2
+abbrev pub numeratorOf : List ℕ → ℕ
+numeratorOf [] = 1
+numeratorOf (c ∷ d) = decimal 0 (c ∷ d)
+
+abbrev pub denominatorOf : List ℕ → ℕ
+denominatorOf [] = 2
+denominatorOf (c ∷ d) = decimal 0 (c ∷ d)
+
+-- digits before what is no digit, in 32 bits
+number-meets : (k c : ℕ) (d t : List ℕ) → decimal 0 (c ∷ d) < 2 ^ 32 → number k (length (c ∷ d)) ((c ∷ d) ++ t) ≡ decimal 0 (c ∷ d)
+unfolding number
+number-meets k c d t h = rw (take-append-seam (c ∷ d) t, lt-ltb (decimal 0 (c ∷ d)) (2 ^ 32) h)
+
+numerator-meets : (d t : List ℕ) → numeratorOf d < 2 ^ 32 → number 1 (length d) (d ++ t) ≡ numeratorOf d
+unfolding number
+numerator-meets [] t h = refl
+numerator-meets (c ∷ d) t h = number-meets 1 c d t h
+
+denominator-meets : (d t : List ℕ) → denominatorOf d < 2 ^ 32 → number 2 (length d) (d ++ t) ≡ denominatorOf d
+unfolding number
+denominator-meets [] t h = refl
+denominator-meets (c ∷ d) t h = number-meets 2 c d t h
+
+-- the length at the front of s, where n digits stand and b says whether a slash is behind them
+abbrev from : Bool → ℕ → List ℕ → Length
+from b n s = elim b [ true ↦ denominator (number 1 n s) n (drop (suc n) s) | false ↦ record { num = number 1 n s; den = 1; used = n } ]
+
+from-is : (s : List ℕ) → lengthOf s ≡ from (is "/" (first (drop (countWhile isDigit s) s))) (countWhile isDigit s) s
+unfolding lengthOf
+from-is s = refl
+
+from-at : (d t : List ℕ) → all isDigit d ≡ true → countWhile isDigit t ≡ 0 → lengthOf (d ++ t) ≡ from (is "/" (first t)) (length d) (d ++ t)
+from-at d t a z =
+    from-is (d ++ t) ∙ ap (λ (n : ℕ). from (is "/" (first (drop n (d ++ t)))) n (d ++ t)) (count-while-front isDigit d t a z)
+    ∙ ap (λ (r : List ℕ). from (is "/" (first r)) (length d) (d ++ t)) (drop-at d t (length d) refl)
+
+-- without a slash
+pub length-meets : (d s : List ℕ) → all isDigit d ≡ true → numeratorOf d < 2 ^ 32 → countWhile isDigit s ≡ 0 → is "/" (first s) ≡ false
+    → lengthOf (d ++ s) ≡ record { num = numeratorOf d; den = 1; used = length d }
+length-meets d s a h z n =
+    from-at d s a z ∙ ap (λ (b : Bool). from b (length d) (d ++ s)) n
+    ∙ ap {B = Length} (λ (m : ℕ). record { num = m; den = 1; used = length d }) (numerator-meets d s h)
+
+drop-behind : (d : List ℕ) (x : ℕ) (t : List ℕ) → drop (suc (length d)) (d ++ (x ∷ t)) ≡ t
+drop-behind [] x t = refl
+drop-behind (c ∷ d) x t = drop-behind d x t
+
+-- with one
+pub length-over-meets : (d e s : List ℕ) → all isDigit d ≡ true → all isDigit e ≡ true → numeratorOf d < 2 ^ 32 → denominatorOf e < 2 ^ 32 → countWhile isDigit s ≡ 0
+    → lengthOf (d ++ (47 ∷ (e ++ s))) ≡ record { num = numeratorOf d; den = denominatorOf e; used = length d + 1 + length e }
+unfolding denominator
+length-over-meets d e s a b h k z =
+    let t : List ℕ = 47 ∷ (e ++ s) in
+    from-at d t a refl
+    ∙ ap (λ (m : ℕ). denominator m (length d) (drop (suc (length d)) (d ++ t))) (numerator-meets d t h)
+    ∙ ap (λ (r : List ℕ). denominator (numeratorOf d) (length d) r) (drop-behind d 47 (e ++ s))
+    ∙ ap {B = Length} (λ (n : ℕ). record { num = numeratorOf d; den = number 2 n (e ++ s); used = length d + 1 + n }) (count-while-front isDigit e s b z)
+    ∙ ap {B = Length} (λ (m : ℕ). record { num = numeratorOf d; den = m; used = length d + 1 + length e }) (denominator-meets e s k)
+
+-- TUPLETS (4.13): `(p` has the default q, and r is p; `(p:q` has r = p
+positive-meets : (top : ℕ) (d t : List ℕ) → 0 < length d → all isDigit d ≡ true → 1 ≤ decimal 0 d → decimal 0 d ≤ top → countWhile isDigit t ≡ 0 → positive top (d ++ t) ≡ some (decimal 0 d)
+unfolding positive notZero
+positive-meets top d t n a low high s =
+    rw (count-while-front isDigit d t a s, take-append-seam d t, digits-some top d n a high, ne-eqb (decimal 0 d) 0 (λ e. absurd (omega (arith, e, low))))
+
+pub tuplet-p-meets : (a s : List ℕ) → 0 < length a → all isDigit a ≡ true → 2 ≤ decimal 0 a → decimal 0 a ≤ 255 → countWhile isDigit s ≡ 0 → is ":" (first s) ≡ false
+    → tupletOf (a ++ s) ≡ some (taken (tuplet (record { actual = decimal 0 a; normal = normalFor (decimal 0 a); count = decimal 0 a })) (1 + length a))
+unfolding tupletOf withActual
+tuplet-p-meets a s na da lp hp z n =
+    rw (positive-meets 255 a s na da (omega arith) hp z, count-while-front isDigit a s da z, drop-at a s (length a) refl)
+    (rw (le-ltb (decimal 0 a) 2 lp, withActual) (rw (n, withActual)))
+
+pub tuplet-pq-meets : (a b s : List ℕ) → 0 < length a → 0 < length b → all isDigit a ≡ true → all isDigit b ≡ true → 2 ≤ decimal 0 a → decimal 0 a ≤ 255 → 1 ≤ decimal 0 b → decimal 0 b ≤ 255
+    → countWhile isDigit s ≡ 0 → is ":" (first s) ≡ false
+    → tupletOf (a ++ (58 ∷ (b ++ s))) ≡ some (taken (tuplet (record { actual = decimal 0 a; normal = decimal 0 b; count = decimal 0 a })) (1 + length a + 1 + length b))
+unfolding tupletOf withActual withNormal withCount
+tuplet-pq-meets a b s na nb da db lp hp lq hq z n =
+    let t : List ℕ = 58 ∷ (b ++ s) in
+    let k : 1 + length b ≡ suc (length b) = omega arith in
+    rw (positive-meets 255 a t na da (omega arith) hp refl, count-while-front isDigit a t da refl, drop-at a t (length a) refl)
+    (rw (le-ltb (decimal 0 a) 2 lp, withActual)
+    (rw (positive-meets 255 b s nb db lq hq z, count-while-front isDigit b s db z, k, drop-at b s (length b) refl) (rw (n, withCount))))
+
+-- ACCIDENTALS hold to the bar's end (4.2; for notes of the same octave)
+pub accidental-holds : (k : Key) (sc : Scope) (w v : Written) (a : Accidental) → w .sign ≡ some a → v .sign ≡ none → v .step ≡ w .step → v .octave ≡ w .octave
+    → soundOf k (scopeAfter sc w) v ≡ altered w a
+unfolding soundOf soundBy scopeAfter scopeBy remembered orKey altered
+accidental-holds k sc w v a m n s o =
+    ap (λ (x : Option Accidental). soundBy k (scopeAfter sc w) v x) n ∙ ap (λ (x : Option Accidental). soundBy k (scopeBy sc w x) v none) m ∙ rw (same, remembered)
+  where
+    same : (eqb (w .step) (v .step) && eqb (w .octave) (v .octave)) ≡ true
+    same = rw (s, o, eqb-same (w .step), eqb-same (w .octave))
+
+-- and for no other
+pub accidental-elsewhere : (k : Key) (sc : Scope) (w v : Written) → (eqb (w .step) (v .step) && eqb (w .octave) (v .octave)) ≡ false → soundOf k (scopeAfter sc w) v ≡ soundOf k sc v
+unfolding soundOf soundBy scopeAfter scopeBy remembered orKey altered
+accidental-elsewhere k sc w v h = go (w .sign) (v .sign)
+  where
+    go : (m n : Option Accidental) → soundBy k (scopeBy sc w m) v n ≡ soundBy k sc v n
+    go none n = refl
+    go (some a) (some b) = refl
+    go (some a) none = rw (h, remembered)
+
+-- where none is in force a note is as the key says: so it is behind a barline, which empties the scopes (`onBarline`)
+pub key-holds : (k : Key) (v : Written) → v .sign ≡ none → soundOf k [] v ≡ record { step = v .step; octave = v .octave; alter = keyAlter k (v .step); cents = 128 }
+unfolding soundOf soundBy remembered orKey
+key-holds k v n = rw n
+
+-- LISTS OF PASSES (4.10): a number above those before it, and then the rest of the list
+pub list-meets : (low : ℕ) (d : List ℕ) (xs : List (List ℕ)) (qs : List ℕ) → 0 < length d → all isDigit d ≡ true → is "0" (first d) ≡ false → low < decimal 0 d → decimal 0 d ≤ 32
+    → passList (decimal 0 d) xs ≡ some qs → passList low (d ∷ xs) ≡ some (passesOf (pass (decimal 0 d)) ++ qs)
+unfolding passList itemOf lists.single lastPass inTurn passesOf passNumber
+list-meets low d xs qs n a z l h r = rw (item, passList) (rw r)
+  where
+    number : passNumber d ≡ some (decimal 0 d)
+    number = rw z (digits-some 32 d n a h)
+
+    item : itemOf low (pieces (separator (is "-")) 0 d) ≡ some (pass (decimal 0 d))
+    item = rw (pieces-digits 45 refl d a, number, lt-ltb low (decimal 0 d) l)
+
+-- LYRICS (5.1): a word without hyphens, none of `|`, `*`, `_`, is one syllable
+pub pieces-one : (p : ℕ → Bool) (w : List ℕ) → all (λ c. not (p c)) w ≡ true → pieces (separator p) 0 w ≡ w ∷ []
+unfolding pieces
+pieces-one p [] h = refl
+pieces-one p (c ∷ w) h =
+    by-test (p c) (λ e. absurd (false≢true (rw e at (and-left (not (p c)) (all (λ c. not (p c)) w) h))))
+    (λ e. rw (e, pieces) (rw (pieces-one p w (and-right (not (p c)) (all (λ c. not (p c)) w) h))))
+
+pub word-meets : (c : ℕ) (w : List ℕ) → all (λ x. not (is "-" x)) (c ∷ w) ≡ true → eqText (c ∷ w) (ascii "|") ≡ false → eqText (c ∷ w) (ascii "*") ≡ false → eqText (c ∷ w) (ascii "_") ≡ false
+    → is "-" (last (c ∷ w)) ≡ false → wordOf (c ∷ w) ≡ syllable single (syllableText (c ∷ w)) ∷ []
+unfolding wordOf words orSkip syllables syllabicOf
+word-meets c w h a b d l =
+    rw (a, wordOf) (rw (b, wordOf) (rw (d, wordOf) (rw (head, l, pieces-one (is "-") (c ∷ w) h))))
+  where
+    head : is "-" c ≡ false
+    head = by-test (is "-" c) (λ e. absurd (false≢true (rw e at (and-left (not (is "-" c)) (all (λ x. not (is "-" x)) w) h)))) (λ e. e)
+
+-- IDENTIFIERS (7.1): the first word of a V field, before white space
+pub pieces-first : (p : ℕ → Bool) (w : List ℕ) (x : ℕ) (t : List ℕ) → all (λ c. not (p c)) w ≡ true → p x ≡ true → pieces (separator p) 0 (w ++ (x ∷ t)) ≡ w ∷ pieces (separator p) 0 t
+unfolding pieces
+pieces-first p [] x t h e = rw (e, pieces)
+pieces-first p (c ∷ w) x t h e =
+    by-test (p c) (λ f. absurd (false≢true (rw f at (and-left (not (p c)) (all (λ c. not (p c)) w) h))))
+    (λ f. rw (f, pieces) (rw (pieces-first p w x t (and-right (not (p c)) (all (λ c. not (p c)) w) h) e)))
+
+pub identifier-meets : (c : ℕ) (w : List ℕ) (x : ℕ) (t : List ℕ) → all (λ b. not (isSpace b)) (c ∷ w) ≡ true → isSpace x ≡ true → identifier ((c ∷ w) ++ (x ∷ t)) ≡ c ∷ w
+unfolding identifier fieldWords words firstWord
+identifier-meets c w x t h e = rw (pieces-first isSpace (c ∷ w) x t h e)
+
+pub identifier-alone : (c : ℕ) (w : List ℕ) → all (λ b. not (isSpace b)) (c ∷ w) ≡ true → identifier (c ∷ w) ≡ c ∷ w
+unfolding identifier fieldWords words firstWord
+identifier-alone c w h = rw (pieces-one isSpace (c ∷ w) h)
