@@ -480,7 +480,7 @@ module _ (R : Reader) (L : Laws R) where
               ∙ ap (λ (x : Step (R .State) (R .Item)). R .finish (R .env (stateOf R x)) (fromBlocks R (stateOf R x) (itemsIn R x) (blocks text)) rl sl) (sym (run-run R d0))
 
       go : (s : R .State) × (a : List (ℕ × R .Item)) × (run (R .step) (R .start) (textLines text) ≡ on s a) → Settled text rl sl
-      go q = two (run-cut R (header text ++ opening text) (subst (λ (rs : List TextLine). Run R (R .start) rs (q .0) (q .1)) (sym (append-assoc (header text) (opening text) (concat (blocks text)) ∙ rows-all text)) (run-of R (textLines text) (R .start) (q .0) (q .1) (q .2))))
+      go q = two (run-cut R (header text ++ opening text) (subst (λ (rs : List TextLine). Run R (R .start) rs (q .0) (q .1)) (sym (append-assoc (header text) (opening text) (concat (blocks text)) ∙ lines-all text)) (run-of R (textLines text) (R .start) (q .0) (q .1) (q .2))))
         where
           two : (u : R .State) × (x : List (ℕ × R .Item)) × (y : List (ℕ × R .Item)) × Run R (R .start) (header text ++ opening text) u x × Run R u (concat (blocks text)) (q .0) y × (q .1 ≡ x ++ y) → Settled text rl sl
           two w = cut (w .3) (w .4)

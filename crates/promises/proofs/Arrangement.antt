@@ -21,8 +21,8 @@ use Rattle.blocks.specs.Blocks.{afterK, header, opening, blocks}
 use Rattle.blocks.specs.Kinds.{unitAfter, meterAfter}
 use Rattle.blocks.specs.Demand.{Accepted, voiceOf, SetsNeither, Hypotheses, stateOf, stateAtBlocks}
 use Rattle.blocks.proofs.Lists.{numbered-named}
-use Rattle.blocks.proofs.Rows.{Shape, blocks-shape}
-use Rattle.blocks.proofs.RowKinds.{Names, voice-row}
+use Rattle.blocks.proofs.TextLines.{Shape, blocks-shape}
+use Rattle.blocks.proofs.LineKinds.{Names, voice-begins}
 use Rattle.blocks.proofs.Runs.{emits, gathers}
 use Rattle.blocks.proofs.Frame.{part}
 use Rattle.blocks.proofs.Instance.{kindItems, reader}
@@ -108,7 +108,7 @@ module _ (e : Env) (u : ℕ) (m : Meter) where
   block-bare (r ∷ rs) s q =
       ap bare (given-row r rs (q .0))
       ∙ bare-append (kindItems u m true (kindOf r)) (given rs)
-      ∙ ap (λ (z : List Item). z ++ bare (given rs)) (voice-bare (identifierOf r) (kindOf r) (voice-row r (s .0)))
+      ∙ ap (λ (z : List Item). z ++ bare (given rs)) (voice-bare (identifierOf r) (kindOf r) (voice-begins r (s .0)))
     where
       identifierOf : TextLine → List ℕ
       identifierOf r = voiceOf (r ∷ [])

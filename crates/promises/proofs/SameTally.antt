@@ -32,7 +32,7 @@ use Rattle.reader.specs.Scan.{Item, voiceDeclared, reset, keyInHeader, keyChang
 use Rattle.reader.specs.Answer.{Verdict, refusal, reading, Outcome, early, isMusic, built, parts, ended, finish, scanned, unless, parseAbc}
 use Rattle.bounds.proofs.Reading.{partsAfter}
 use Rattle.blocks.specs.Demand.{Accepted, identifier}
-use Rattle.blocks.proofs.RowKinds.{Names, voice-row}
+use Rattle.blocks.proofs.LineKinds.{Names, voice-begins}
 use Rattle.blocks.proofs.Instance.{reader}
 use Rattle.blocks.proofs.Keeps.{laws}
 use Rattle.blocks.proofs.Runs.{mine-append, Run, stop, then, run-run, run-of, run-cut, run-join, run-one}
@@ -456,13 +456,13 @@ abbrev relined : ℕ → Out → Out
 relined k (refuse n l) = refuse n (suc k)
 relined k (on t b) = on (withLines t (suc k)) b
 
-voice-lines : (s : ScanState) (k : ℕ) (v : List ℕ) (vs : List (List ℕ)) (a b c : Bool) → voiceOn (withLines s k) v vs a b c ≡ relined k (voiceOn s v vs a b c)
+voice-beginss : (s : ScanState) (k : ℕ) (v : List ℕ) (vs : List (List ℕ)) (a b c : Bool) → voiceOn (withLines s k) v vs a b c ≡ relined k (voiceOn s v vs a b c)
 unfolding voiceOn
-voice-lines s k v vs true b true = refl
-voice-lines s k v vs true b false = refl
-voice-lines s k v vs false true c = refl
-voice-lines s k v vs false false true = refl
-voice-lines s k v vs false false false = refl
+voice-beginss s k v vs true b true = refl
+voice-beginss s k v vs true b false = refl
+voice-beginss s k v vs false true c = refl
+voice-beginss s k v vs false false true = refl
+voice-beginss s k v vs false false false = refl
 
 unit-lines : (s : ScanState) (k : ℕ) (u : Option ℕ) → unitOn (withLines s k) u ≡ relined k (unitOn s u)
 unfolding unitOn
@@ -480,7 +480,7 @@ act-lines s k lines.blank h = refl
 act-lines s k (lines.refused n) h = refl
 act-lines s k (lines.lyric t) true = refl
 act-lines s k (lines.lyric t) false = refl
-act-lines s k (lines.voice v mid) h = voice-lines s k v (voicesBefore s) (elem v (voicesBefore s)) (leb mostVoices (length (voicesBefore s))) mid
+act-lines s k (lines.voice v mid) h = voice-beginss s k v (voicesBefore s) (elem v (voicesBefore s)) (leb mostVoices (length (voicesBefore s))) mid
 act-lines s k (lines.key x) true = refl
 act-lines s k (lines.key x) false = refl
 act-lines s k (lines.meter m) true = refl
@@ -556,7 +556,7 @@ kind-resets s t b v k i h lines.other n e = absurd n
 kind-resets s t b v k i h (lines.music hi es l) n e = absurd n
 
 row-resets : (s t : ScanState) (r : TextLine) (b : Items) → isV r ≡ true → elem (identifier r) (s .env .voices) ≡ true → indexOf (identifier r) (s .env .voices) ≡ s .part → step s r ≡ on t b → Resets s t b
-row-resets s t r b v k i e = kind-resets s t b (identifier r) k i (s .env .inHeader) (kindOf r) (voice-row r v) (went s t r b e .1)
+row-resets s t r b v k i e = kind-resets s t b (identifier r) k i (s .env .inHeader) (kindOf r) (voice-begins r v) (went s t r b e .1)
 
 -- WITHOUT THAT LINE the rows behind it do the same
 abbrev Left-out : List TextLine → List TextLine → ScanState → Items → ScanState → Items → Type 0
