@@ -12,7 +12,7 @@ use Rattle.reader.specs.State.{Note}
 use Rattle.reader.specs.Lyrics.{Syllable, sungBy}
 use Rattle.reader.specs.Steps.{itemsOf}
 use Rattle.reader.specs.Records as Records
-use Rattle.reader.specs.Records.{pitchBytes}
+use Rattle.reader.specs.Records.{pitchBytes, measureWidth}
 use Rattle.reader.specs.Part as Part
 use Rattle.part_layout.specs.Log.{Head, LogState}
 use Rattle.part_layout.specs.Ends.{dropped, close, marked, finished, build}
@@ -21,7 +21,7 @@ use Rattle.part_layout.proofs.Lines.{between-items}
 use Rattle.part_layout.proofs.Counts.{build-fits, sim-fits}
 use Rattle.part_layout.proofs.Same.{same-sections}
 use Rattle.part_rows.specs.Table.{Table, Only}
-use Rattle.part_rows.specs.Encoded.{noteRow}
+use Rattle.part_rows.specs.Encoded.{noteRow, noteRowWidth, pitchRowWidth}
 use Rattle.part_rows.proofs.Tables.{table-front, table-back}
 use Rattle.part_measures.specs.Heads.{headRow}
 use Rattle.part_ends.specs.Spans.{Small}
@@ -53,7 +53,7 @@ module _ (text s : List ℕ) (n p : ℕ) (header : Key) (t : Tables) (z : Sized 
   abbrev state : LogState
   state = after header text s p n
 
-  pub heads-inside : t .heads + 28 * r .counts .heads ≤ length s₁
+  pub heads-inside : t .heads + measureWidth * r .counts .heads ≤ length s₁
   heads-inside = omega (arith, b .room .for-heads, b .room .for-notes, b .room .for-pitches, b .room .for-scopes, b .room .ends)
 
   log-small : length (state .log) < 2 ^ 32
@@ -65,22 +65,22 @@ module _ (text s : List ℕ) (n p : ℕ) (header : Key) (t : Tables) (z : Sized 
       fits-small (state .heads) (state .log) (sim-fits state (w .part) (w .sim)) log-small
 
   -- and the part's end is done
-  module _ (short : length text ≤ 67108864) (s₂ : List ℕ) (m : ℕ) (o : Only (t .heads) (t .heads + 28 * r .counts .heads) s₁ s₂)
-      (e : (heads : List Head) → Table headRow 28 s₁ (t .heads) heads → length heads ≡ r .counts .heads → All Small heads → (m ≡ length (dropped heads)) × Table headRow 28 s₂ (t .heads) (marked header (close none (dropped heads)))) (most : m ≤ r .counts .heads) where
-    ended : (m ≡ length (dropped (state .heads))) × Table headRow 28 s₂ (t .heads) (marked header (close none (dropped (state .heads))))
+  module _ (short : length text ≤ 67108864) (s₂ : List ℕ) (m : ℕ) (o : Only (t .heads) (t .heads + measureWidth * r .counts .heads) s₁ s₂)
+      (e : (heads : List Head) → Table headRow measureWidth s₁ (t .heads) heads → length heads ≡ r .counts .heads → All Small heads → (m ≡ length (dropped heads)) × Table headRow measureWidth s₂ (t .heads) (marked header (close none (dropped heads)))) (most : m ≤ r .counts .heads) where
+    ended : (m ≡ length (dropped (state .heads))) × Table headRow measureWidth s₂ (t .heads) (marked header (close none (dropped (state .heads))))
     ended = e (state .heads) (b .represents .stored .heads-table) (sym (b .represents .stored .heads-are)) heads-small
 
     abbrev rows-left : Rows
     rows-left = record { measures = m; notes = r .counts .notes; pitches = r .counts .pitches; sounded = r .verses .sounded }
 
-    behind : t .heads + 28 * r .counts .heads ≤ t .notes
+    behind : t .heads + measureWidth * r .counts .heads ≤ t .notes
     behind = omega (arith, b .room .for-heads)
 
-    notes-now : Table noteRow 16 s₂ (t .notes) (state .log)
+    notes-now : Table noteRow noteRowWidth s₂ (t .notes) (state .log)
     notes-now = table-back (b .represents .stored .notes-table) o behind
 
-    pitches-now : Table pitchBytes 5 s₂ (t .pitches) (pitchesIn (state .log))
-    pitches-now = subst (λ (ps : List Pitch). Table pitchBytes 5 s₂ (t .pitches) ps) (append-nil (pitchesIn (state .log))) (table-back (b .represents .stored .pitches-table) o (omega (arith, behind, b .room .for-notes)))
+    pitches-now : Table pitchBytes pitchRowWidth s₂ (t .pitches) (pitchesIn (state .log))
+    pitches-now = subst (λ (ps : List Pitch). Table pitchBytes pitchRowWidth s₂ (t .pitches) ps) (append-nil (pitchesIn (state .log))) (table-back (b .represents .stored .pitches-table) o (omega (arith, behind, b .room .for-notes)))
 
     pitches-count : length (pitchesIn (state .log)) ≡ r .counts .pitches
     pitches-count = ap length (sym (append-nil (pitchesIn (state .log)))) ∙ sym (b .represents .stored .pitches-are)
@@ -103,7 +103,7 @@ module _ (text s : List ℕ) (n p : ℕ) (header : Key) (t : Tables) (z : Sized 
           small = omega (arith, b .room .for-pitches, b .room .for-scopes, b .room .small);
         }
 
-    before-heads : 256 + 16 * n ≤ t .heads
+    before-heads : 256 + noteRowWidth * n ≤ t .heads
     before-heads = omega (arith, z .behind-items)
 
     lines-now : linesIn text s₂ p n ≡ reverse (state .verses .lines)
@@ -139,7 +139,7 @@ module _ (text s : List ℕ) (n p : ℕ) (header : Key) (t : Tables) (z : Sized 
 -- ITS LYRICS ARE SUNG
 module _ (text s : List ℕ) (n p : ℕ) (header : Key) (t : Tables) (s₂ : List ℕ) (d : Rows) (q : PartRead text s n p header t s₂ d) (s₃ : List ℕ) (sheet : Sheet) (at : sheet ≡ sheetAt t d (sheet .count))
     (u : AllSung text s₂ s₃ n p (sheetAt t d 0) (replicate (d .sounded) []) (sheet .count)) where
-  sung-only : Only (t .scopes) (t .scopes + 4 * d .sounded + 16 * sheet .count) s₂ s₃
+  sung-only : Only (t .scopes) (t .scopes + 4 * d .sounded + noteRowWidth * sheet .count) s₂ s₃
   sung-only = record { same-length = u .outside .same-length; front = u .outside .low; back = u .outside .high }
 
   pub sung-items : itemsIn text s₃ n ≡ itemsIn text s n
@@ -170,7 +170,7 @@ module _ (text s : List ℕ) (n p : ℕ) (header : Key) (t : Tables) (s₂ : Lis
   inside = omega (arith, u .kept .apart, u .kept .inside)
 
   -- the sections can be written
-  pub part-stands : (t .heads + 28 * d .measures ≤ length s₃) × (d .measures < 2 ^ 32) × (t .notes + 16 * total s₃ (t .heads) (d .measures) ≤ length s₃) × (d .notes < 2 ^ 32) × (t .pitches + 5 * pitchTotal s₃ (t .notes) (total s₃ (t .heads) (d .measures)) ≤ length s₃) × (d .pitches < 2 ^ 32) × (walks.Tables s₃ sheet) × (sheet .count + 1 < 18446744073709551616)
+  pub part-stands : (t .heads + measureWidth * d .measures ≤ length s₃) × (d .measures < 2 ^ 32) × (t .notes + noteRowWidth * total s₃ (t .heads) (d .measures) ≤ length s₃) × (d .notes < 2 ^ 32) × (t .pitches + pitchRowWidth * pitchTotal s₃ (t .notes) (total s₃ (t .heads) (d .measures)) ≤ length s₃) × (d .pitches < 2 ^ 32) × (walks.Tables s₃ sheet) × (sheet .count + 1 < 18446744073709551616)
   part-stands =
       let all = notes-total (music-sung .represents) in
       let sounds = pitches-total music-sung in (

@@ -7,6 +7,8 @@ use Rattle.standard.specs.Keys.{Key}
 use Rattle.reader.specs.Lyrics.{sungBy}
 use Rattle.reader.specs.Steps.{itemsOf}
 use Rattle.part_layout.specs.Ends.{Laid, build}
+use Rattle.reader.specs.Records.{measureWidth}
+use Rattle.part_rows.specs.Encoded.{noteRowWidth, pitchRowWidth}
 use Rattle.scan_table.specs.Rows.{itemsIn}
 use Rattle.lyrics.specs.declared.Sheet.{Sheet}
 use Rattle.lyrics.specs.Items.{linesIn, Fits}
@@ -27,9 +29,9 @@ pub record PartRead (text s : List ℕ) (n p : ℕ) (header : Key) (t : Tables) 
   pub music : PitchesIn s′ (t .heads) (d .measures) (t .notes) (t .pitches) (d .pitches) (laidOf header text s n p .heads) (laidOf header text s n p .log)
   pub notes-are : length (laidOf header text s n p .log) ≡ d .notes
   pub words : laidOf header text s n p .words ≡ sungBy (linesIn text s′ p n) (replicate (d .sounded) [])
-  pub for-heads : t .heads + 28 * d .measures ≤ t .notes
-  pub for-notes : t .notes + 16 * d .notes ≤ t .pitches
-  pub for-pitches : t .pitches + 5 * d .pitches ≤ t .scopes
+  pub for-heads : t .heads + measureWidth * d .measures ≤ t .notes
+  pub for-notes : t .notes + noteRowWidth * d .notes ≤ t .pitches
+  pub for-pitches : t .pitches + pitchRowWidth * d .pitches ≤ t .scopes
   pub small : t .scopes < 2 ^ 32
   pub sheet : Fits text s′ n p (sheetAt t d 0)
   pub same-items : itemsIn text s′ n ≡ itemsIn text s n

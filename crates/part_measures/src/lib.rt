@@ -4,7 +4,8 @@ ghost use mathlib.Core.List.{[], _∷_, _++_};
 ghost use Prim.Native.Nat.{suc, _+_, _*_, _^_, _≤_, _<_};
 ghost use lib.ListN.{length};
 ghost use Rattle.laws.specs.Bytes.{splice, le32, u32At};
-ghost use Rattle.part_measures.specs.Heads.{newRow, noNotes};
+ghost use Rattle.reader.specs.Records.{measureWidth};
+ghost use Rattle.part_measures.specs.Heads.{newRow, noNotes, noteCount};
 
 // The bytes of a row: those of the measure record.
 pub const MEASURE: usize = 28;
@@ -118,4 +119,18 @@ pub fn set_volta(store: &mut [u8], at: usize, i: usize, first: u8, passes: u32)
     store::put_u8(store, place, 1);
     store::put_u8(store, place + 1, first);
     store::put_u32(store, place + 2, passes);
+}
+
+// READ BY THE WRITERS, by the place of a row
+
+// How many notes the row counts, in all four voices.
+pub fn note_count(store: &[u8], place: usize) -> usize
+    requires { ⌜ place + measureWidth ≤ length (now store) ⌝ }
+    ensures { λ r. ⌜ (r ≡ noteCount (now (store .entry)) place) × (r < 2 ^ 34) ⌝ }
+{
+    let a = store::get_u32(store, place);
+    let b = store::get_u32(store, place + 4);
+    let c = store::get_u32(store, place + 8);
+    let d = store::get_u32(store, place + 12);
+    a as usize + b as usize + c as usize + d as usize
 }
