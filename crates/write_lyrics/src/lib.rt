@@ -129,8 +129,7 @@ fn write_sung(
     if to.len() < COUNT {
         return Wrote::NoRoom;
     }
-    let Wrote::To(len) = write_measures(text, store, sheet, t, texts, &mut to[COUNT..])
-    else {
+    let Wrote::To(len) = write_measures(text, store, sheet, t, texts, &mut to[COUNT..]) else {
         return Wrote::NoRoom;
     };
     let count = count_of(texts, len);

@@ -99,4 +99,4 @@ returns-2 c =
     record { says = (written-all (l .inv .5) (rows-none _ _ _ _ _ _ _ (omega arith)), omega (arith, l .inv .3, sung-none (c .before .before .before .before .before .args .store .now) (l .p) (l .left) (omega arith))) }
 
 pub write-rows-spec : {M : Type 1} → statement M
-write-rows-spec = tie.close (tie.spec Inv-loop μ-loop loop-holds (λ c. search needs) (λ c. search needs) (λ c. search needs) (λ c. search needs) (λ c. search needs) loop-again (λ c. search needs) add-i (λ c. search needs) (λ c. search needs) (λ c. search needs) loop-again-2 sub-write-syllables part-write-syllables-start (λ c. search needs) (λ c κs. search needs) (λ c. search needs) (λ c. search needs) (λ c. search needs) returns add-at add-i-2 add-j (λ c. search needs) (λ c. search needs) (λ c. search needs) loop-again-3 (λ c. search needs) returns-2)
+write-rows-spec = tie.close (tie.spec Inv-loop μ-loop loop-holds (λ c κs. search needs) (λ c. search needs) (λ c. search needs) (λ c. search needs) loop-again (λ c κs. search needs) add-i (λ c. search needs) (λ c. search needs) (λ c. search needs) loop-again-2 sub-write-syllables part-write-syllables-start (λ c. search needs) (λ c κs. search needs) (λ c. search needs) (λ c. search needs) (λ c. search needs) returns add-at add-i-2 add-j (λ c. search needs) (λ c. search needs) (λ c. search needs) loop-again-3 (λ c. search needs) returns-2)
