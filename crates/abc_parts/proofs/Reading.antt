@@ -17,8 +17,7 @@ use Rattle.reader.specs.Part as Part
 use Rattle.part_layout.specs.Log.{Head, LogState}
 use Rattle.part_layout.specs.Ends.{dropped, close, marked, finished, build}
 use Rattle.part_layout.specs.Sections as layout
-use Rattle.part_layout.proofs.Lines.{between-items}
-use Rattle.part_layout.proofs.Counts.{build-fits, sim-fits}
+use Rattle.part_layout.proofs.Counts.{items-fit, build-fits}
 use Rattle.part_layout.proofs.Same.{same-sections}
 use Rattle.part_rows.specs.Table.{Table, Only}
 use Rattle.part_rows.specs.Encoded.{noteRow, noteRowWidth, pitchRowWidth}
@@ -60,9 +59,7 @@ module _ (text s : List ℕ) (n p : ℕ) (header : Key) (t : Tables) (z : Sized 
   log-small = omega (arith, b .represents .stored .notes-are, b .room .for-notes, b .room .for-pitches, b .room .for-scopes, b .room .small)
 
   heads-small : All Small (state .heads)
-  heads-small =
-      let w = between-items header (itemsOf p (itemsIn text s n)) in
-      fits-small (state .heads) (state .log) (sim-fits state (w .part) (w .sim)) log-small
+  heads-small = fits-small (state .heads) (state .log) (items-fit header (itemsOf p (itemsIn text s n))) log-small
 
   -- and the part's end is done
   module _ (short : length text ≤ 67108864) (s₂ : List ℕ) (m : ℕ) (o : Only (t .heads) (t .heads + measureWidth * r .counts .heads) s₁ s₂)

@@ -30,16 +30,10 @@ fn read_part(text: &[u8], scratch: &mut [u8], n: usize, part: u8, t: Tables, key
     requires { ⌜ (length (now text) ≤ 67108864) × Sized (now text) (now scratch) n part t ⌝ }
     ensures { λ r. ⌜ PartRead (now (text .entry)) (now (scratch .entry)) n part (keyAs key) t (now (scratch .exit)) r ⌝ }
 {
-    let r = part_items::build_items(text, scratch, n, part, t, key.fifths, key.minor);
+    let r = part_items::build_items(text, scratch, n, part, t, key);
     let counts = r.counts;
     let verses = r.verses;
-    let count = part_ends::end_part(
-        scratch,
-        t.heads,
-        counts.heads as usize,
-        key.fifths,
-        key.minor,
-    );
+    let count = part_ends::end_part(scratch, t.heads, counts.heads as usize, key);
     let measures = Rows { at: t.heads, count };
     let notes = Rows {
         at: t.notes,

@@ -15,7 +15,7 @@ use Rattle.token_pitches.specs.declared.Sign.the-variants as sign
 use Rattle.token_pitches.specs.declared.Pitch as code
 use Rattle.token_pitches.specs.Pitches.{signOf}
 use Rattle.part_rows.specs.Table.{Table, Only}
-use Rattle.part_rows.specs.Encoded.{Remembered, scopeRow, pitchFor}
+use Rattle.part_rows.specs.Encoded.{Remembered, scopeRow, pitchFor, scopeRowWidth, scopeAlterAt}
 use Rattle.part_rows.specs.declared.Sounded.{Sounded}
 use Rattle.part_rows.proofs.Tables.{only-none, only-splice}
 use Rattle.part_chains.specs.Chains.{row, Chain, placeIn, Scoped, Scopes}
@@ -24,7 +24,7 @@ use Rattle.part_accidentals.specs.declared.AbcPartParseState.{AbcPartPar
 use Rattle.part_accidentals.specs.declared.Resolved.{Resolved}
 use Rattle.part_accidentals.specs.Resolving.{signs, writtenOf, entered, ResolvedAs}
 
--- THE DEFINITION by the mark
+-- THE DEFINITION by the sign
 sound-marked : (k : Key) (sc : Scope) (w : Written) (a : Accidental) → w .sign ≡ some a → soundOf k sc w ≡ altered w a
 unfolding soundOf soundBy
 sound-marked k sc w a e = ap (soundBy k sc w) e
@@ -46,7 +46,7 @@ abbrev pub soundedBy : code.Pitch → ℕ → ℕ → Sounded
 soundedBy p alter cents = record { step = p .step; octave = p .octave; alter = alter; cents = cents }
 
 module _ (s : List ℕ) (at count : ℕ) (state : AbcPartParseState) (voice : ℕ) (p : code.Pitch) (in-four : voice < 4) (found : ℕ)
-    (lookup : (rows : List Remembered) (v : ℕ) (c : List Pitch) → Table scopeRow 8 s at rows → length rows < 2 ^ 32 → Chain rows v (getD (state .scopes) voice 0) c
+    (lookup : (rows : List Remembered) (v : ℕ) (c : List Pitch) → Table scopeRow scopeRowWidth s at rows → length rows < 2 ^ 32 → Chain rows v (getD (state .scopes) voice 0) c
     → found ≡ placeIn rows (getD (state .scopes) voice 0) c (p .step) (p .octave)) where
   w : Written
   w = writtenOf p
@@ -70,12 +70,12 @@ module _ (s : List ℕ) (at count : ℕ) (state : AbcPartParseState) (voice : �
     one = ap signs m
 
     -- its own accidental, for a step and octave that had one
-    pub by-revised : (h : Scopes s at count (state .scopes)) → 0 < found → (s′ : List ℕ) → s′ ≡ splice s (at + (8 * (found - 1) + 2)) (alter ∷ cents ∷ [])
+    pub by-revised : (h : Scopes s at count (state .scopes)) → 0 < found → (s′ : List ℕ) → s′ ≡ splice s (at + (scopeRowWidth * (found - 1) + scopeAlterAt)) (alter ∷ cents ∷ [])
         → ResolvedAs s at count state voice p s′ (record { sounded = soundedBy p alter cents; state = state; count = count })
     unfolding altered
     by-revised h l s′ e =
         record {
-          only = only-splice at (at + 8 * (count + signs (p .sign))) s s′ (at + (8 * (found - 1) + 2)) (alter ∷ cents ∷ []) e (omega arith) (omega (arith, one, found-inside h l));
+          only = only-splice at (at + scopeRowWidth * (count + signs (p .sign))) s s′ (at + (scopeRowWidth * (found - 1) + scopeAlterAt)) (alter ∷ cents ∷ []) e (omega arith) (omega (arith, one, found-inside h l));
           same-fifths = refl;
           same-minor = refl;
           rows-most = omega arith;
@@ -87,14 +87,14 @@ module _ (s : List ℕ) (at count : ℕ) (state : AbcPartParseState) (voice : �
         }
 
     -- its own accidental, a new one
-    pub by-new : (s′ : List ℕ) → s′ ≡ splice s (at + 8 * count) ((p .step ∷ p .octave ∷ alter ∷ cents ∷ []) ++ le32 (getD (state .scopes) voice 0))
-        → at + 8 * (count + signs (p .sign)) ≤ length s → count + signs (p .sign) < 2 ^ 32 → (t : AbcPartParseState) → t ≡ entered state voice (count + 1)
+    pub by-new : (s′ : List ℕ) → s′ ≡ splice s (at + scopeRowWidth * count) ((p .step ∷ p .octave ∷ alter ∷ cents ∷ []) ++ le32 (getD (state .scopes) voice 0))
+        → at + scopeRowWidth * (count + signs (p .sign)) ≤ length s → count + signs (p .sign) < 2 ^ 32 → (t : AbcPartParseState) → t ≡ entered state voice (count + 1)
         → ResolvedAs s at count state voice p s′ (record { sounded = soundedBy p alter cents; state = t; count = count + 1 })
     unfolding altered little
     by-new s′ e room small t d =
         record {
           only =
-              only-splice at (at + 8 * (count + signs (p .sign))) s s′ (at + 8 * count) ((p .step ∷ p .octave ∷ alter ∷ cents ∷ []) ++ le32 (getD (state .scopes) voice 0)) e (omega arith)
+              only-splice at (at + scopeRowWidth * (count + signs (p .sign))) s s′ (at + scopeRowWidth * count) ((p .step ∷ p .octave ∷ alter ∷ cents ∷ []) ++ le32 (getD (state .scopes) voice 0)) e (omega arith)
               (omega (arith, one));
           same-fifths = ap (λ (x : AbcPartParseState). x .fifths) d;
           same-minor = ap (λ (x : AbcPartParseState). x .minor) d;
@@ -116,7 +116,7 @@ module _ (s : List ℕ) (at count : ℕ) (state : AbcPartParseState) (voice : �
         → ResolvedAs s at count state voice p s (record { sounded = r; state = state; count = count })
     kept r e =
         record {
-          only = only-none at (at + 8 * (count + signs (p .sign))) s;
+          only = only-none at (at + scopeRowWidth * (count + signs (p .sign))) s;
           same-fifths = refl;
           same-minor = refl;
           rows-most = omega arith;

@@ -12,7 +12,7 @@ use Rattle.token_pitches.specs.declared.Sign.the-variants as sign
 use Rattle.token_pitches.specs.declared.Pitch as code
 use Rattle.token_pitches.specs.Pitches.{signOf}
 use Rattle.part_rows.specs.Table.{Only}
-use Rattle.part_rows.specs.Encoded.{pitchFor}
+use Rattle.part_rows.specs.Encoded.{pitchFor, scopeRowWidth}
 use Rattle.part_chains.specs.Chains.{Scoped}
 use Rattle.part_accidentals.specs.declared.AbcPartParseState.{AbcPartParseState}
 use Rattle.part_accidentals.specs.declared.Resolved.{Resolved}
@@ -31,7 +31,7 @@ entered t voice place = record { fifths = t .fifths; minor = t .minor; scopes = 
 
 -- the pitch is the definition's, and the chains after it remember what its scopes remember
 pub record ResolvedAs (s : List ℕ) (at count : ℕ) (state : AbcPartParseState) (voice : ℕ) (p : code.Pitch) (s′ : List ℕ) (r : Resolved) : Type 0 where
-  pub only : Only at (at + 8 * (count + signs (p .sign))) s s′
+  pub only : Only at (at + scopeRowWidth * (count + signs (p .sign))) s s′
   pub same-fifths : r .state .fifths ≡ state .fifths
   pub same-minor : r .state .minor ≡ state .minor
   pub rows-most : r .count ≤ count + signs (p .sign)

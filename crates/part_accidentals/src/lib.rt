@@ -8,12 +8,21 @@ ghost use Rattle.laws.specs.Bytes.{splice, le32};
 ghost use Rattle.standard.specs.Keys.{Key, keyAlter};
 ghost use Rattle.standard.specs.Pitches as standard;
 ghost use Rattle.part_rows.specs.Table.{Table};
-ghost use Rattle.part_rows.specs.Encoded.{Remembered, scopeRow};
+ghost use Rattle.part_rows.specs.Encoded.{Remembered, scopeRow, scopeRowWidth, scopeOctaveAt, scopeAlterAt, scopeCentsAt};
 ghost use Rattle.part_chains.specs.Chains.{Chain, Chained, placeIn, Scopes};
 ghost use Rattle.part_accidentals.specs.Resolving.{ResolvedAs, signs, entered};
 use part_rows::Sounded;
 use token_pitches::Pitch;
 use token_pitches::Sign;
+
+// Where the fields of an accidental's row stand, behind its step: the pitch, and the place of the one before it in its scope.
+const OCTAVE: usize = 1;
+
+const ALTER: usize = 2;
+
+const CENTS: usize = 3;
+
+const NEXT: usize = 4;
 
 // What is kept of a voice: its key, fifths with 128 added, and for each overlay voice the place of the last accidental in scratch, counted from 1; 0 for none.
 pub struct AbcPartParseState {
@@ -46,29 +55,29 @@ pub fn abc_key_alter(fifths: u8, step: u8) -> u8
 
 // The accidental at a place.
 fn accidental_at(store: &[u8], at: usize, place: u32) -> Sounded
-    requires { ⌜ (0 < place) × (at + 8 * place ≤ length (now store)) ⌝ }
-    ensures { λ r. ⌜ r ≡ record { step = getD (now (store .entry)) (at + 8 * (place - 1)) 0; octave = getD (now (store .entry)) (at + 8 * (place - 1) + 1) 0; alter = getD (now (store .entry)) (at + 8 * (place - 1) + 2) 0; cents = getD (now (store .entry)) (at + 8 * (place - 1) + 3) 0 } ⌝ }
+    requires { ⌜ (0 < place) × (at + scopeRowWidth * place ≤ length (now store)) ⌝ }
+    ensures { λ r. ⌜ r ≡ record { step = getD (now (store .entry)) (at + scopeRowWidth * (place - 1)) 0; octave = getD (now (store .entry)) (at + scopeRowWidth * (place - 1) + scopeOctaveAt) 0; alter = getD (now (store .entry)) (at + scopeRowWidth * (place - 1) + scopeAlterAt) 0; cents = getD (now (store .entry)) (at + scopeRowWidth * (place - 1) + scopeCentsAt) 0 } ⌝ }
 {
     let i = (place - 1) as usize;
-    let row = at + 8 * i;
+    let row = at + part_rows::SCOPE_ROW * i;
     Sounded {
         step: store[row],
-        octave: store[row + 1],
-        alter: store[row + 2],
-        cents: store[row + 3],
+        octave: store[row + OCTAVE],
+        alter: store[row + ALTER],
+        cents: store[row + CENTS],
     }
 }
 
 // The place of the accidental of this step and octave in the chain from `place` on; 0 if there is none.
 fn find_accidental(store: &[u8], at: usize, place: u32, step: u8, octave: u8) -> u32
     requires { ⌜ Chained (now store) at place ⌝ }
-    ensures { λ r. ⌜ ((rows : List Remembered) (v : ℕ) (c : List standard.Pitch) → Table scopeRow 8 (now (store .entry)) at rows → length rows < 2 ^ 32 → Chain rows v place c → r ≡ placeIn rows place c step octave) ⌝ }
+    ensures { λ r. ⌜ ((rows : List Remembered) (v : ℕ) (c : List standard.Pitch) → Table scopeRow scopeRowWidth (now (store .entry)) at rows → length rows < 2 ^ 32 → Chain rows v place c → r ≡ placeIn rows place c step octave) ⌝ }
 {
     let mut p = place;
     while p != 0 {
         let row = accidental_at(store, at, p);
         let i = (p - 1) as usize;
-        let next = store::get_u32(store, at + 8 * i + 4);
+        let next = store::get_u32(store, at + part_rows::SCOPE_ROW * i + NEXT);
         if row.step != step {
             p = next;
             continue;
@@ -84,24 +93,24 @@ fn find_accidental(store: &[u8], at: usize, place: u32, step: u8, octave: u8) ->
 
 // Another accidental at a place.
 fn revise(store: &mut [u8], at: usize, place: u32, alter: u8, cents: u8)
-    requires { ⌜ (0 < place) × (at + 8 * place ≤ length (now store)) ⌝ }
-    ensures { λ _. ⌜ now (store .exit) ≡ splice (now (store .entry)) (at + (8 * (place - 1) + 2)) (alter ∷ cents ∷ []) ⌝ }
+    requires { ⌜ (0 < place) × (at + scopeRowWidth * place ≤ length (now store)) ⌝ }
+    ensures { λ _. ⌜ now (store .exit) ≡ splice (now (store .entry)) (at + (scopeRowWidth * (place - 1) + scopeAlterAt)) (alter ∷ cents ∷ []) ⌝ }
 {
     let i = (place - 1) as usize;
-    let row = at + (8 * i + 2);
+    let row = at + (part_rows::SCOPE_ROW * i + ALTER);
     store::put_u8(store, row, alter);
     store::put_u8(store, row + 1, cents);
 }
 
 // Writes an accidental as row i, before the one at the place `next`.
 fn put_accidental(store: &mut [u8], at: usize, i: u32, p: Sounded, next: u32)
-    requires { ⌜ at + 8 * i + 8 ≤ length (now store) ⌝ }
-    ensures { λ _. ⌜ now (store .exit) ≡ splice (now (store .entry)) (at + 8 * i) ((p .step ∷ p .octave ∷ p .alter ∷ p .cents ∷ []) ++ le32 next) ⌝ }
+    requires { ⌜ at + scopeRowWidth * i + scopeRowWidth ≤ length (now store) ⌝ }
+    ensures { λ _. ⌜ now (store .exit) ≡ splice (now (store .entry)) (at + scopeRowWidth * i) ((p .step ∷ p .octave ∷ p .alter ∷ p .cents ∷ []) ++ le32 next) ⌝ }
 {
     let k = i as usize;
-    let row = at + 8 * k;
+    let row = at + part_rows::SCOPE_ROW * k;
     store::put_4(store, row, p.step, p.octave, p.alter, p.cents);
-    store::put_u32(store, row + 4, next);
+    store::put_u32(store, row + NEXT, next);
 }
 
 fn pick(yes: bool, a: u32, b: u32) -> u32
@@ -146,7 +155,7 @@ pub fn resolve_abc_pitch(
     voice: usize,
     pitch: Pitch,
 ) -> Resolved
-    requires { ⌜ (voice < 4) × (pitch .step < 7) × (at + 8 * (count + signs (pitch .sign)) ≤ length (now store)) × (count + signs (pitch .sign) < 2 ^ 32) × Scopes (now store) at count (state .scopes) ⌝ }
+    requires { ⌜ (voice < 4) × (pitch .step < 7) × (at + scopeRowWidth * (count + signs (pitch .sign)) ≤ length (now store)) × (count + signs (pitch .sign) < 2 ^ 32) × Scopes (now store) at count (state .scopes) ⌝ }
     ensures { λ r. ⌜ ResolvedAs (now (store .entry)) at count state voice pitch (now (store .exit)) r ⌝ }
 {
     let scopes = state.scopes;

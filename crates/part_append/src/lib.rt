@@ -5,6 +5,7 @@ ghost use lib.ListN.{length};
 ghost use Rattle.part_invariant.specs.Invariant.{Room, Appendable, Appends};
 ghost use Rattle.part_invariant.specs.Appended.{beforeStore, placed, soundedOn, appended};
 ghost use Rattle.part_registers.specs.Notes.{halvedRow, beamedRow};
+ghost use Rattle.part_rows.specs.Encoded.{noteRowWidth};
 use part_registers::Counts;
 use part_registers::Group;
 use part_registers::Half;
@@ -17,7 +18,7 @@ use part_rows::NoteRow;
 
 // A note of this kind and value, where a run goes on: the note at the place before it begins or continues the beam.
 pub fn beam_before(store: &mut [u8], at: usize, place: u32, run: u8, kind: u8, value: u8)
-    requires { ⌜ (0 < run → 0 < place) × (at + 16 * place ≤ length (now store)) ⌝ }
+    requires { ⌜ (0 < run → 0 < place) × (at + noteRowWidth * place ≤ length (now store)) ⌝ }
     ensures { λ _. ⌜ now (store .exit) ≡ beforeStore (now (store .entry)) at place run kind value ⌝ }
 {
     if run == 0 {

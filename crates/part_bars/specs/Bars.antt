@@ -7,7 +7,7 @@ use Rattle.token_symbols.specs.declared.Barline.the-variants.{Normal, RepeatSta
 use Rattle.part_accidentals.specs.declared.AbcPartParseState.{AbcPartParseState}
 use Rattle.part_registers.specs.declared.Registers.{Registers}
 
-unfoldable pub codeOf : Barline → ℕ
+abbrev pub codeOf : Barline → ℕ
 codeOf Normal = 0
 codeOf RepeatStart = 1
 codeOf RepeatEnd = 2
@@ -16,7 +16,7 @@ codeOf Double = 4
 codeOf Final = 5
 
 -- the left barline that a measure without notes gets, at its place in a store
-unfoldable pub leftStore : List ℕ → ℕ → Barline → List ℕ
+abbrev pub leftStore : List ℕ → ℕ → Barline → List ℕ
 leftStore s at Normal = s
 leftStore s at RepeatStart = splice s at (1 ∷ [])
 leftStore s at RepeatEnd = s

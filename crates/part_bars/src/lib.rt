@@ -1,17 +1,16 @@
-// Barlines, endings and inline fields: the open measure's head, and what a barline or a key ends.
+// Barlines, endings and inline M fields: the open measure's row, and what a barline ends.
 ghost use mathlib.Core.Path.{_≡_};
 ghost use mathlib.Core.List.{List};
 ghost use Prim.Native.Nat.{ℕ, _+_, _*_, _^_, _≤_, _<_};
 ghost use lib.ListN.{length, getD};
 ghost use Rattle.standard.specs.Bars as standard;
-ghost use Rattle.standard.specs.Keys.{Key};
-ghost use Rattle.reader.specs.Records.{passBits};
-ghost use Rattle.reader.specs.Codes.{modeCode};
+ghost use Rattle.reader.specs.Records.{passBits, measureWidth};
 ghost use Rattle.reader.specs.Barlines.{leftOf};
 ghost use Rattle.reader.specs.Token as token;
 ghost use Rattle.part_layout.specs.Log.{onBarline, onToken};
 ghost use Rattle.token_symbols.specs.Bars.{barlineFor};
 ghost use Rattle.part_invariant.specs.Invariant.{Room, RepresentedInLine, Simulates};
+ghost use Rattle.part_measures.specs.Heads.{leftAt};
 ghost use Rattle.part_bars.specs.Bars.{codeOf, leftStore, cleared, ended, opened};
 use part_accidentals::AbcPartParseState;
 use part_registers::Counts;
@@ -37,8 +36,8 @@ fn barline_code(b: Barline) -> u8
 
 // A barline on a measure without notes sets its left one, and that only to 1, 3 or 4.
 fn set_empty_left(store: &mut [u8], at: usize, i: usize, b: Barline)
-    requires { ⌜ at + 28 * i + 28 ≤ length (now store) ⌝ }
-    ensures { λ _. ⌜ now (store .exit) ≡ leftStore (now (store .entry)) (at + 28 * i + 16) b ⌝ }
+    requires { ⌜ at + measureWidth * i + measureWidth ≤ length (now store) ⌝ }
+    ensures { λ _. ⌜ now (store .exit) ≡ leftStore (now (store .entry)) (at + measureWidth * i + leftAt) b ⌝ }
 {
     match b {
         Barline::Normal => {}
@@ -126,7 +125,7 @@ pub fn on_barline(
     }
     part_measures::set_right(store, t.heads, i, barline_code(right));
     if opens {
-        part_measures::put_head(
+        part_measures::put_measure(
             store,
             t.heads,
             i + 1,
@@ -145,7 +144,14 @@ pub fn on_volta(store: &mut [u8], t: Tables, r: Registers, first: u8, passes: u3
     ensures { λ _. ⌜ ((ps : List ℕ) → first ≡ getD ps 0 0 → passes ≡ passBits ps → Simulates t (now (store .entry)) r (now (store .exit)) r 0 0 0 0 (λ l. onToken l (token.volta ps))) ⌝ }
 {
     let i = (r.counts.heads - 1) as usize;
-    part_measures::set_volta(store, t.heads, i, first, passes);
+    part_measures::set_volta(
+        store,
+        t.heads,
+        i,
+        part_measures::VOLTA_BEGINS,
+        first,
+        passes,
+    );
 }
 
 // An inline M field.

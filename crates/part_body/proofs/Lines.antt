@@ -1,4 +1,4 @@
--- THE LOOP over the tokens of a line: what is still to come of the line does the rest to every part that was held where it began.
+-- THE LOOP over the tokens of a line: what is still to come of the line does the rest to every part that was represented where it began.
 use Prim.Native.Nat.{ℕ, _+_, _≤_, _<_, max}
 use mathlib.Core.Path.{_≡_, refl, sym, subst, _∙_}
 use mathlib.Core.List.{List, []}
@@ -28,9 +28,9 @@ use Rattle.tokens.specs.Tokens.{tokenisedFor}
 use Rattle.tokens.proofs.Chords.{chord-pitches}
 use Rattle.tokens.proofs.Past.{token-past}
 use Rattle.part_body.specs.Body.{Ready, SimulatesToken}
-use Rattle.part_body.proofs.Tokens.{token-ready, token-does}
+use Rattle.part_body.proofs.Tokens.{token-ready, token-simulates}
 
--- a part is held in a line, with room for what these bytes can make
+-- a part is represented in a line, with room for what these bytes can make
 pub record Begun (line : List ℕ) (t : Tables) (s : List ℕ) (r : Registers) : Type 0 where
   pub room : RoomForBytes t (r .counts) (length s) line
   pub state : LogState
@@ -89,9 +89,9 @@ module _ {t : Tables} {s s₁ : List ℕ} {r r₁ : Registers} (u : ℕ) (m : Me
       }
 
   -- AFTER THEM the line has done what it does
-  pub line-takes : {line s₂ : List ℕ} {r₂ : Registers} {at : ℕ} → Going line t s₁ r₁ s₂ r₂ at → length line ≤ at → SimulatesItem t s r s₂ r₂ line (onLine u m line)
+  pub line-simulates : {line s₂ : List ℕ} {r₂ : Registers} {at : ℕ} → Going line t s₁ r₁ s₂ r₂ at → length line ≤ at → SimulatesItem t s r s₂ r₂ line (onLine u m line)
   unfolding onLine bars letters rests signs
-  line-takes {line} {s₂} {r₂} {at} g h =
+  line-simulates {line} {s₂} {r₂} {at} g h =
       let a = b .grows in
       record {
         only = only-then (b .only) (g .only);
@@ -130,22 +130,22 @@ module _ {line : List ℕ} {t : Tables} {s₀ s : List ℕ} {r₀ r : Registers}
   abbrev used : ℕ
   used = tokenOf (drop at line) .used
 
-  pays : CoversBoth tok (drop at line) (drop (at + used) line)
-  pays = token-spends line at h
+  covered : CoversBoth tok (drop at line) (drop (at + used) line)
+  covered = token-spends line at h
 
   room : Room t (r .counts) (length s) (makes tok .heads) (makes tok .notes) (makes tok .pitches) (makes tok .scopes)
   room =
       let a = b .room in
       record {
-        for-heads = omega (arith, a .for-heads, g .heads-left, pays .bars-left);
-        for-notes = omega (arith, a .for-notes, g .notes-left, pays .tones-left);
-        for-pitches = omega (arith, a .for-pitches, g .pitches-left, pays .letters-left);
-        for-scopes = omega (arith, a .for-scopes, g .scopes-left, pays .signs-left);
+        for-heads = omega (arith, a .for-heads, g .heads-left, covered .bars-left);
+        for-notes = omega (arith, a .for-notes, g .notes-left, covered .tones-left);
+        for-pitches = omega (arith, a .for-pitches, g .pitches-left, covered .letters-left);
+        for-scopes = omega (arith, a .for-scopes, g .scopes-left, covered .signs-left);
         ends = omega (arith, a .ends, g .only .same-length);
         small = a .small;
       }
 
-  -- some part is held
+  -- some part is represented
   holding : RepresentedInLine t s r
   holding =
       let e = g .holds (b .state) (b .in-line) (b .represents) in
@@ -163,7 +163,7 @@ module _ {line : List ℕ} {t : Tables} {s₀ s : List ℕ} {r₀ r : Registers}
   going-turn s′ r′ a = subst (λ (x : Tokenised). Going line t s₀ r₀ s′ r′ (x .next)) (sym k) turned
     where
       does : Simulates t s r s′ r′ (makes tok .heads) (makes tok .notes) (makes tok .pitches) (makes tok .scopes) (λ l. onToken l tok)
-      does = token-does line at tok (chord-pitches line at) (subst (λ (x : Tokenised). SimulatesToken line t s r s′ r′ (x .token)) k a)
+      does = token-simulates line at tok (chord-pitches line at) (subst (λ (x : Tokenised). SimulatesToken line t s r s′ r′ (x .token)) k a)
 
       turned : Going line t s₀ r₀ s′ r′ (at + used)
       turned =
@@ -171,10 +171,10 @@ module _ {line : List ℕ} {t : Tables} {s₀ s : List ℕ} {r₀ r : Registers}
           record {
             within = token-within line at h;
             only = only-then (g .only) (does .only);
-            heads-left = omega (arith, g .heads-left, d .more-heads, pays .bars-left);
-            notes-left = omega (arith, g .notes-left, d .more-notes, pays .tones-left);
-            pitches-left = omega (arith, g .pitches-left, d .more-pitches, pays .letters-left);
-            scopes-left = omega (arith, g .scopes-left, d .more-scopes, pays .signs-left);
+            heads-left = omega (arith, g .heads-left, d .more-heads, covered .bars-left);
+            notes-left = omega (arith, g .notes-left, d .more-notes, covered .tones-left);
+            pitches-left = omega (arith, g .pitches-left, d .more-pitches, covered .letters-left);
+            scopes-left = omega (arith, g .scopes-left, d .more-scopes, covered .signs-left);
             holds =
                 λ l i q.
                 let p = g .holds l i q in

@@ -31,8 +31,8 @@ use Rattle.part_chords.proofs.Pushing.{written-back, signs-are}
 use Rattle.part_body.specs.Body.{Ready, SimulatesToken}
 
 -- A TOKEN THAT DOES NOTHING
-pub does-nothing : (t : Tables) (s : List ℕ) (r : Registers) → Simulates t s r s r 0 0 0 0 (λ l. l)
-does-nothing t s r =
+pub simulates-nothing : (t : Tables) (s : List ℕ) (r : Registers) → Simulates t s r s r 0 0 0 0 (λ l. l)
+simulates-nothing t s r =
     record {
       only = only-none (t .heads) (t .end) s;
       grows = record { more-heads = omega arith; more-notes = omega arith; more-pitches = omega arith; more-scopes = omega arith };
@@ -114,28 +114,28 @@ module _ (line : List ℕ) (at : ℕ) {t : Tables} {s : List ℕ} {r : Registers
   token-ready (refused n) c f room h = (room, h)
 
   -- what it does is what the definition's token does
-  pub token-does : {s′ : List ℕ} {r′ : Registers} (tok : Token) → ChordStands line at tok → SimulatesToken line t s r s′ r′ (tokenFor at (r .line .unit) tok)
+  pub token-simulates : {s′ : List ℕ} {r′ : Registers} (tok : Token) → ChordStands line at tok → SimulatesToken line t s r s′ r′ (tokenFor at (r .line .unit) tok)
       → Simulates t s r s′ r′ (makes tok .heads) (makes tok .notes) (makes tok .pitches) (makes tok .scopes) (λ l. onToken l tok)
   unfolding tokenFor SimulatesToken onToken
-  token-does space c a = a
-  token-does overlay c a = a
-  token-does quoted c a = a
-  token-does (broken up n) c a = a
-  token-does (tuplet x) c a = a
-  token-does slur c a = a
-  token-does graceOpen c a = a
-  token-does graceClose c a = a
-  token-does decoration c a = a
-  token-does (barline b o) c a = a b refl refl
-  token-does (volta ps) c a = a ps refl refl
-  token-does (unit u) c a = a
-  token-does (meter m) c a = a
-  token-does (key k) c a = a
-  token-does field c a = a
-  token-does {s′} {r′} (chord ws l b) c a =
+  token-simulates space c a = a
+  token-simulates overlay c a = a
+  token-simulates quoted c a = a
+  token-simulates (broken up n) c a = a
+  token-simulates (tuplet x) c a = a
+  token-simulates slur c a = a
+  token-simulates graceOpen c a = a
+  token-simulates graceClose c a = a
+  token-simulates decoration c a = a
+  token-simulates (barline b o) c a = a b refl refl
+  token-simulates (volta ps) c a = a ps refl refl
+  token-simulates (unit u) c a = a
+  token-simulates (meter m) c a = a
+  token-simulates (key k) c a = a
+  token-simulates field c a = a
+  token-simulates {s′} {r′} (chord ws l b) c a =
       let d = subst (λ (x : List Written). SimulatesChord t s r s′ r′ x (lengthAs (valueOf (r .line .unit) l)) (b .tie) (b .slur)) (chord-is line at ws (c ws l b refl)) a in
       record { only = d .only; grows = d .grows; holds = λ x st h. d .holds x b l st refl refl (ap (λ (u : ℕ). valueOf u l) (unit-is x h)) h }
-  token-does {s′} {r′} (rest k l) c a =
+  token-simulates {s′} {r′} (rest k l) c a =
       record {
         only = a .only;
         grows = a .grows;
@@ -143,7 +143,7 @@ module _ (line : List ℕ) (at : ℕ) {t : Tables} {s : List ℕ} {r : Registers
             λ x st h. a .holds x (restNote k (valueOf (x .line .unit) l)) st
             (rest-row-is k (r .line .unit) l ∙ ap (λ (u : ℕ). rowFor (restNote k (valueOf u l))) (unit-is x h)) (no-pitch k (valueOf (x .line .unit) l)) h;
       }
-  token-does {s′} {r′} (note w l b) c a =
+  token-simulates {s′} {r′} (note w l b) c a =
       record {
         only = a .only;
         grows = subst (λ (n : ℕ). Grows (r .counts) (r′ .counts) 0 1 1 n) (signs-are w) (a .grows);
@@ -151,6 +151,6 @@ module _ (line : List ℕ) (at : ℕ) {t : Tables} {s : List ℕ} {r : Registers
             λ x st h. subst (λ (v : Written). Represents t s′ r′ [] (onSound (v ∷ []) l b x)) (written-back w)
             (a .holds x b l st refl refl (ap (λ (u : ℕ). valueOf u l) (unit-is x h)) h);
       }
-  token-does nothing c a = a
-  token-does skipped c a = a
-  token-does (refused n) c a = a
+  token-simulates nothing c a = a
+  token-simulates skipped c a = a
+  token-simulates (refused n) c a = a

@@ -1,4 +1,4 @@
--- ONE TOKEN OF A MUSIC LINE, by the code's token: what must hold before it, and what it does to every part that is held.
+-- ONE TOKEN OF A MUSIC LINE, by the code's token: what must hold before it, and what it does to every part that is represented.
 use Prim.Native.Nat.{ℕ, _<_}
 use mathlib.Core.Path.{_≡_}
 use mathlib.Core.List.{List}
@@ -19,7 +19,7 @@ use Rattle.part_sounds.specs.Sounds.{Restable, SimulatesRest, SimulatesNote}
 use Rattle.capacity.specs.Covers.{signsIn}
 use Rattle.part_chords.specs.Chords.{chordIn, ChordAt, SimulatesChord}
 
--- a part is held, with room for so many rows more
+-- a part is represented, with room for so many rows more
 abbrev pub RepresentedWith : Tables → List ℕ → Registers → ℕ → ℕ → ℕ → ℕ → Type 0
 RepresentedWith t s r heads notes pitches scopes = Room t (r .counts) (length s) heads notes pitches scopes × RepresentedInLine t s r
 

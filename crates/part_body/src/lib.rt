@@ -1,9 +1,10 @@
-// A music line of a part: its tokens from left to right, each done to what scratch and registers hold (000, parse_body_line).
+// A music line of a part: its tokens from left to right, each applied to the part in scratch and registers (000, parse_body_line).
 ghost use lib.ListN.{length};
 ghost use Rattle.part_layout.specs.Log.{onLine};
 ghost use Rattle.part_invariant.specs.Lines.{RepresentedBetween, RoomForBytes, SimulatesItem};
 ghost use Rattle.part_sounds.specs.Sounds.{OnceAppended};
 ghost use Rattle.part_body.specs.Body.{Ready, SimulatesToken};
+use field_keys::Key;
 use part_registers::Registers;
 use part_registers::Tables;
 use part_sounds::Deferred;
@@ -12,7 +13,7 @@ use tokens::Token;
 // What a token does, but for the row that it leaves to be appended. Quoted texts, decorations, other fields and bytes that mean nothing do nothing.
 fn on_token(line: &[u8], store: &mut [u8], t: Tables, r: Registers, token: Token) -> Deferred
     requires { ⌜ Ready (now line) t (now store) r token ⌝ }
-    ensures { λ left. ⌜ OnceAppended t (now (store .exit)) left (λ s x. SimulatesToken (now (line .entry)) t (now (store .entry)) r s x token) ⌝ }
+    ensures { λ d. ⌜ OnceAppended t (now (store .exit)) d (λ s x. SimulatesToken (now (line .entry)) t (now (store .entry)) r s x token) ⌝ }
 {
     match token {
         Token::Space => part_sounds::defer_nothing(part_steps::on_space(r)),
@@ -58,8 +59,7 @@ fn on_token(line: &[u8], store: &mut [u8], t: Tables, r: Registers, token: Token
             store,
             t,
             r,
-            fifths,
-            minor,
+            Key { fifths, minor },
         )),
         Token::Field => part_sounds::defer_nothing(r),
         Token::Chord {
@@ -69,7 +69,7 @@ fn on_token(line: &[u8], store: &mut [u8], t: Tables, r: Registers, token: Token
             tie,
             slur,
         } => part_chords::append_abc_chord_note(line, store, t, r, place, count, length, tie, slur),
-        Token::RoomForBytes { kind, length } => part_sounds::append_abc_rest_note(r, kind, length),
+        Token::Rest { kind, length } => part_sounds::append_abc_rest_note(r, kind, length),
         Token::Note {
             pitch,
             length,
@@ -102,8 +102,8 @@ pub fn parse_body_line(
         let kept = x.line;
         let taken = tokens::token_at(line, at, kept.unit, &classes);
         let token = taken.token;
-        let left = on_token(line, store, t, x, token);
-        x = part_sounds::append_deferred(store, t, left);
+        let deferred = on_token(line, store, t, x, token);
+        x = part_sounds::append_deferred(store, t, deferred);
         at = taken.next;
     }
     x

@@ -19,7 +19,7 @@ use Rattle.laws.proofs.Splices.{length-spliced}
 use Rattle.standard.specs.Pitches.{Accidental, Written, Pitch, altered}
 use Rattle.reader.specs.Pitches.{Scope, remembered}
 use Rattle.part_rows.specs.Table.{Table}
-use Rattle.part_rows.specs.Encoded.{Remembered, scopeRow, pitchFor}
+use Rattle.part_rows.specs.Encoded.{Remembered, scopeRow, pitchFor, scopeRowWidth, scopeOctaveAt, scopeAlterAt, scopeCentsAt, scopeNextAt}
 use Rattle.part_rows.specs.declared.Sounded.{Sounded}
 use Rattle.part_rows.proofs.Bytes.{length-scope}
 use Rattle.part_rows.proofs.Tables.{table-byte, table-u32, table-push, table-alter}
@@ -29,62 +29,62 @@ use Rattle.part_chains.proofs.Chains.{fits, first-link, chain-most, See
 -- A ROW READ BACK
 -- the four bytes at a place
 abbrev pub readAt : List ℕ → ℕ → ℕ → Sounded
-readAt s at p = record { step = getD s (at + 8 * (p - 1)) 0; octave = getD s (at + 8 * (p - 1) + 1) 0; alter = getD s (at + 8 * (p - 1) + 2) 0; cents = getD s (at + 8 * (p - 1) + 3) 0 }
+readAt s at p = record { step = getD s (at + scopeRowWidth * (p - 1)) 0; octave = getD s (at + scopeRowWidth * (p - 1) + scopeOctaveAt) 0; alter = getD s (at + scopeRowWidth * (p - 1) + scopeAlterAt) 0; cents = getD s (at + scopeRowWidth * (p - 1) + scopeCentsAt) 0 }
 
 scope-step : (x : Remembered) → getD (scopeRow x) 0 0 ≡ x .pitch .step
 unfolding scopeRow
 scope-step x = refl
 
-scope-octave : (x : Remembered) → getD (scopeRow x) 1 0 ≡ x .pitch .octave
+scope-octave : (x : Remembered) → getD (scopeRow x) scopeOctaveAt 0 ≡ x .pitch .octave
 unfolding scopeRow
 scope-octave x = refl
 
-scope-alter : (x : Remembered) → getD (scopeRow x) 2 0 ≡ x .pitch .alter
+scope-alter : (x : Remembered) → getD (scopeRow x) scopeAlterAt 0 ≡ x .pitch .alter
 unfolding scopeRow
 scope-alter x = refl
 
-scope-cents : (x : Remembered) → getD (scopeRow x) 3 0 ≡ x .pitch .cents
+scope-cents : (x : Remembered) → getD (scopeRow x) scopeCentsAt 0 ≡ x .pitch .cents
 unfolding scopeRow
 scope-cents x = refl
 
-scope-next : (x : Remembered) → x .next < 2 ^ 32 → u32At (scopeRow x) 4 ≡ x .next
+scope-next : (x : Remembered) → x .next < 2 ^ 32 → u32At (scopeRow x) scopeNextAt ≡ x .next
 unfolding scopeRow little part
-scope-next x h = littleAt-own 4 (scopeRow x) 4 ∙ littleAt-little 4 (x .next) h
+scope-next x h = littleAt-own 4 (scopeRow x) scopeNextAt ∙ littleAt-little 4 (x .next) h
 
-module _ {s : List ℕ} {at : ℕ} {rows : List Remembered} (t : Table scopeRow 8 s at rows) (p : ℕ) (l : 0 < p) (i : p ≤ length rows) where
+module _ {s : List ℕ} {at : ℕ} {rows : List Remembered} (t : Table scopeRow scopeRowWidth s at rows) (p : ℕ) (l : 0 < p) (i : p ≤ length rows) where
   pub row-read : readAt s at p ≡ pitchFor (row rows p .pitch)
   row-read =
       let k : p - 1 < length rows = omega arith in
-      let e = ap (λ (n : ℕ). getD s n 0) (sym (add-zero (at + 8 * (p - 1)))) ∙ table-byte scopeRow 8 length-scope t (p - 1) 0 noRow k (omega arith) ∙ scope-step (row rows p) in
-      let f = table-byte scopeRow 8 length-scope t (p - 1) 1 noRow k (omega arith) ∙ scope-octave (row rows p) in
-      let g = table-byte scopeRow 8 length-scope t (p - 1) 2 noRow k (omega arith) ∙ scope-alter (row rows p) in
-      let h = table-byte scopeRow 8 length-scope t (p - 1) 3 noRow k (omega arith) ∙ scope-cents (row rows p) in
+      let e = ap (λ (n : ℕ). getD s n 0) (sym (add-zero (at + scopeRowWidth * (p - 1)))) ∙ table-byte scopeRow scopeRowWidth length-scope t (p - 1) 0 noRow k (omega arith) ∙ scope-step (row rows p) in
+      let f = table-byte scopeRow scopeRowWidth length-scope t (p - 1) scopeOctaveAt noRow k (omega arith) ∙ scope-octave (row rows p) in
+      let g = table-byte scopeRow scopeRowWidth length-scope t (p - 1) scopeAlterAt noRow k (omega arith) ∙ scope-alter (row rows p) in
+      let h = table-byte scopeRow scopeRowWidth length-scope t (p - 1) scopeCentsAt noRow k (omega arith) ∙ scope-cents (row rows p) in
       λ j. record { step = e j; octave = f j; alter = g j; cents = h j }
 
-  pub next-read : row rows p .next < 2 ^ 32 → u32At s (at + 8 * (p - 1) + 4) ≡ row rows p .next
-  next-read h = table-u32 scopeRow 8 length-scope t (p - 1) 4 noRow (omega arith) (omega arith) ∙ scope-next (row rows p) h
+  pub next-read : row rows p .next < 2 ^ 32 → u32At s (at + scopeRowWidth * (p - 1) + scopeNextAt) ≡ row rows p .next
+  next-read h = table-u32 scopeRow scopeRowWidth length-scope t (p - 1) scopeNextAt noRow (omega arith) (omega arith) ∙ scope-next (row rows p) h
 
 -- A CHAIN WALKED
 module _ {s : List ℕ} {at p : ℕ} (h : Chained s at p) (l : 0 < p) where
-  pub chained-inside : at + 8 * p ≤ length s
+  pub chained-inside : at + scopeRowWidth * p ≤ length s
   chained-inside = omega (arith, h .room, first-link (h .rows) (h .voice) p (h .chain) (h .linked) l .0)
 
   step-on : (c : List Pitch) → Chain (h .rows) (h .voice) p c → Chained s at (row (h .rows) p .next)
   step-on [] k = absurd (omega arith)
   step-on (x ∷ xs) k = record { rows = h .rows; voice = h .voice; chain = xs; table = h .table; small = h .small; room = h .room; linked = k .1 }
 
-  next-is : u32At s (at + 8 * (p - 1) + 4) ≡ row (h .rows) p .next
+  next-is : u32At s (at + scopeRowWidth * (p - 1) + scopeNextAt) ≡ row (h .rows) p .next
   next-is =
       let f = first-link (h .rows) (h .voice) p (h .chain) (h .linked) l in
       next-read (h .table) p l (f .0) (omega (arith, f, h .small))
 
-  pub chained-next : (n : ℕ) → n ≡ u32At s (at + 8 * (p - 1) + 4) → Chained s at n
+  pub chained-next : (n : ℕ) → n ≡ u32At s (at + scopeRowWidth * (p - 1) + scopeNextAt) → Chained s at n
   chained-next n e = subst (λ (k : ℕ). Chained s at k) (sym (e ∙ next-is)) (step-on (h .chain) (h .linked))
 
-  pub chained-less : (n : ℕ) → n ≡ u32At s (at + 8 * (p - 1) + 4) → n < p
+  pub chained-less : (n : ℕ) → n ≡ u32At s (at + scopeRowWidth * (p - 1) + scopeNextAt) → n < p
   chained-less n e = omega (arith, e ∙ next-is, first-link (h .rows) (h .voice) p (h .chain) (h .linked) l .1)
 
-module _ {s : List ℕ} {at : ℕ} {rows : List Remembered} (t : Table scopeRow 8 s at rows) (small : length rows < 2 ^ 32) {v p step octave q : ℕ} (k : Seeks rows v p step octave q) (l : 0 < p)
+module _ {s : List ℕ} {at : ℕ} {rows : List Remembered} (t : Table scopeRow scopeRowWidth s at rows) (small : length rows < 2 ^ 32) {v p step octave q : ℕ} (k : Seeks rows v p step octave q) (l : 0 < p)
     (r : Sounded) (e : r ≡ readAt s at p) where
   links : (p ≤ length rows) × (row rows p .next < p)
   links = first-link rows v p (k .rest) (k .linked) l
@@ -95,13 +95,13 @@ module _ {s : List ℕ} {at : ℕ} {rows : List Remembered} (t : Table scopeRow 
   read-octave : r .octave ≡ row rows p .pitch .octave
   read-octave = ap (λ (x : Sounded). x .octave) (e ∙ row-read t p l (links .0))
 
-  on : (n : ℕ) → n ≡ u32At s (at + 8 * (p - 1) + 4) → fits (row rows p .pitch) step octave ≡ false → Seeks rows v n step octave q
+  on : (n : ℕ) → n ≡ u32At s (at + scopeRowWidth * (p - 1) + scopeNextAt) → fits (row rows p .pitch) step octave ≡ false → Seeks rows v n step octave q
   on n d f = subst (λ (m : ℕ). Seeks rows v m step octave q) (sym (d ∙ next-read t p l (links .0) (omega (arith, links, small)))) (seeks-on rows v step octave q p k l f)
 
-  pub other-step : (n : ℕ) → n ≡ u32At s (at + 8 * (p - 1) + 4) → (r .step ≡ step → ⊥) → Seeks rows v n step octave q
+  pub other-step : (n : ℕ) → n ≡ u32At s (at + scopeRowWidth * (p - 1) + scopeNextAt) → (r .step ≡ step → ⊥) → Seeks rows v n step octave q
   other-step n d f = on n d (and-no-left _ _ (ne-eqb (row rows p .pitch .step) step (λ z. f (read-step ∙ z))))
 
-  pub other-octave : (n : ℕ) → n ≡ u32At s (at + 8 * (p - 1) + 4) → (r .octave ≡ octave → ⊥) → Seeks rows v n step octave q
+  pub other-octave : (n : ℕ) → n ≡ u32At s (at + scopeRowWidth * (p - 1) + scopeNextAt) → (r .octave ≡ octave → ⊥) → Seeks rows v n step octave q
   other-octave n d f = on n d (and-no-right (eqb (row rows p .pitch .step) step) _ (ne-eqb (row rows p .pitch .octave) octave (λ z. f (read-octave ∙ z))))
 
   pub found-here : r .step ≡ step → r .octave ≡ octave → p ≡ q
@@ -156,11 +156,11 @@ module _ {s : List ℕ} {at count : ℕ} {places : List ℕ} {scopes : List Scop
     pub place-recalls : remembered (getD scopes voice []) w ≡ some (row (h .rows) q .pitch)
     place-recalls = sym (h .keeps voice in-four .same w) ∙ is .recalls
 
-    scope-revised : (x : Remembered) → splice (scopeRow x) 2 (a .alter ∷ a .cents ∷ []) ≡ scopeRow (revisedRow (a .alter) (a .cents) x)
+    scope-revised : (x : Remembered) → splice (scopeRow x) scopeAlterAt (a .alter ∷ a .cents ∷ []) ≡ scopeRow (revisedRow (a .alter) (a .cents) x)
     unfolding scopeRow splice
     scope-revised x = refl
 
-    pub scoped-revised : (s′ : List ℕ) → s′ ≡ splice s (at + (8 * (q - 1) + 2)) (a .alter ∷ a .cents ∷ []) → Scoped s′ at count places (alterAt voice (λ old. altered w a ∷ old) scopes)
+    pub scoped-revised : (s′ : List ℕ) → s′ ≡ splice s (at + (scopeRowWidth * (q - 1) + scopeAlterAt)) (a .alter ∷ a .cents ∷ []) → Scoped s′ at count places (alterAt voice (λ old. altered w a ∷ old) scopes)
     scoped-revised s′ e =
         let f = revisedRow (a .alter) (a .cents) in
         let rows′ = alterAt (q - 1) f (h .rows) in
@@ -168,7 +168,7 @@ module _ {s : List ℕ} {at count : ℕ} {places : List ℕ} {scopes : List Scop
         let n = length-alterAt (q - 1) f (h .rows) in
         record {
           rows = rows′;
-          table = table-alter scopeRow 8 length-scope (h .table) s′ (q - 1) 2 (a .alter ∷ a .cents ∷ []) f noRow e (omega (arith, is .inside)) (omega arith) (scope-revised (row (h .rows) q));
+          table = table-alter scopeRow scopeRowWidth length-scope (h .table) s′ (q - 1) scopeAlterAt (a .alter ∷ a .cents ∷ []) f noRow e (omega (arith, is .inside)) (omega arith) (scope-revised (row (h .rows) q));
           count-is = h .count-is ∙ sym n;
           small = h .small;
           room = omega (arith, h .room, length-spliced s s′ _ _ e);
@@ -201,8 +201,8 @@ module _ {s : List ℕ} {at count : ℕ} {places : List ℕ} {scopes : List Scop
       sym (k .same w) ∙ place-none (h .rows) voice w (getD places voice 0) (k .chain) (k .linked) (sym (found (k .chain) (k .linked)))
 
   -- one accidental more
-  pub scoped-push : (y : Pitch) (s′ : List ℕ) → s′ ≡ splice s (at + 8 * count) ((y .step ∷ y .octave ∷ y .alter ∷ y .cents ∷ []) ++ le32 (getD places voice 0))
-      → at + 8 * count + 8 ≤ length s → count + 1 < 2 ^ 32 → Scoped s′ at (count + 1) (set places voice (count + 1)) (alterAt voice (λ old. y ∷ old) scopes)
+  pub scoped-push : (y : Pitch) (s′ : List ℕ) → s′ ≡ splice s (at + scopeRowWidth * count) ((y .step ∷ y .octave ∷ y .alter ∷ y .cents ∷ []) ++ le32 (getD places voice 0))
+      → at + scopeRowWidth * count + scopeRowWidth ≤ length s → count + 1 < 2 ^ 32 → Scoped s′ at (count + 1) (set places voice (count + 1)) (alterAt voice (λ old. y ∷ old) scopes)
   unfolding scopeRow
   scoped-push y s′ e more small =
       let x : Remembered = record { pitch = y; next = getD places voice 0; voice = voice } in
@@ -217,7 +217,7 @@ module _ {s : List ℕ} {at count : ℕ} {places : List ℕ} {scopes : List Scop
       let here : getD (set places voice (count + 1)) voice 0 ≡ count + 1 = getD-set-same places voice (count + 1) 0 (omega (arith, h .places-4)) in
       record {
         rows = rows′;
-        table = table-push scopeRow 8 length-scope (h .table) s′ x (e ∙ ap (λ (m : ℕ). splice s (at + 8 * m) (scopeRow x)) (h .count-is)) (omega (arith, h .count-is));
+        table = table-push scopeRow scopeRowWidth length-scope (h .table) s′ x (e ∙ ap (λ (m : ℕ). splice s (at + scopeRowWidth * m) (scopeRow x)) (h .count-is)) (omega (arith, h .count-is));
         count-is = omega (arith, n, h .count-is);
         small = small;
         room = omega (arith, length-spliced s s′ _ _ e);

@@ -9,7 +9,7 @@ use lib.ListN.{length, getD}
 use Rattle.standard.specs.Pitches.{Written, Pitch}
 use Rattle.reader.specs.Pitches.{Scope, remembered}
 use Rattle.part_rows.specs.Table.{Table}
-use Rattle.part_rows.specs.Encoded.{Remembered, scopeRow}
+use Rattle.part_rows.specs.Encoded.{Remembered, scopeRow, scopeRowWidth}
 
 abbrev pub noRow : Remembered
 noRow = record { pitch = record { step = 0; octave = 0; alter = 0; cents = 0 }; next = 0; voice = 0 }
@@ -42,9 +42,9 @@ pub record Chained (s : List ℕ) (at p : ℕ) : Type 0 where
   pub rows : List Remembered
   pub voice : ℕ
   pub chain : List Pitch
-  pub table : Table scopeRow 8 s at rows
+  pub table : Table scopeRow scopeRowWidth s at rows
   pub small : length rows < 2 ^ 32
-  pub room : at + 8 * length rows ≤ length s
+  pub room : at + scopeRowWidth * length rows ≤ length s
   pub linked : Chain rows voice p chain
 
 -- a chain that remembers what a scope remembers
@@ -56,10 +56,10 @@ pub record Keeps (rows : List Remembered) (v p : ℕ) (scope : Scope) : Type 0 w
 -- THE FOUR SCOPES, by their places, in a table of so many rows
 pub record Scoped (s : List ℕ) (at count : ℕ) (places : List ℕ) (scopes : List Scope) : Type 0 where
   pub rows : List Remembered
-  pub table : Table scopeRow 8 s at rows
+  pub table : Table scopeRow scopeRowWidth s at rows
   pub count-is : count ≡ length rows
   pub small : count < 2 ^ 32
-  pub room : at + 8 * count ≤ length s
+  pub room : at + scopeRowWidth * count ≤ length s
   pub places-4 : length places ≡ 4
   pub scopes-4 : length scopes ≡ 4
   pub keeps : (v : ℕ) → v < 4 → Keeps rows v (getD places v 0) (getD scopes v [])

@@ -16,7 +16,7 @@ use Rattle.reader.specs.Pitches.{chordOf, Scope, soundOf, scopeAfter, soundsOf,
 use Rattle.reader.specs.Part.{soundNote}
 use Rattle.bounds.proofs.TokenRanges.{pitches-fit}
 use Rattle.part_layout.specs.Log.{LogState, setScopes, setPending, append, onSound}
-use Rattle.part_layout.proofs.Lines.{Standing}
+use Rattle.part_layout.specs.Lines.{Standing}
 use Rattle.token_lengths.specs.declared.Length.{Length}
 use Rattle.token_pitches.specs.declared.Pitch.{Pitch}
 use Rattle.token_pitches.specs.declared.Met.the-variants as met-as
@@ -32,8 +32,8 @@ use Rattle.part_invariant.specs.Invariant.{Room, Represents, RepresentedInLine}
 use Rattle.part_sounds.specs.Sounds.{deferredSound, OnceAppended, Pushable, SimulatesPitch, Soundable, SimulatesSound}
 use Rattle.part_sounds.specs.declared.Deferred.{Deferred}
 use Rattle.part_sounds.proofs.Sounding.{standing-scopes}
-use Rattle.part_sounds.proofs.Leaving.{sound-leaves}
-use Rattle.capacity.specs.Covers.{flags, signsIn}
+use Rattle.part_sounds.proofs.Deferring.{once-appended-sound}
+use Rattle.capacity.specs.Covers.{signCount, signsIn}
 use Rattle.part_chords.specs.Chords.{chordIn, ChordAt, SimulatesPitches, SimulatesChord}
 use Rattle.part_chords.proofs.Pitches.{sounds-more, scope-more, marked-both, length-sounds}
 
@@ -41,10 +41,10 @@ use Rattle.part_chords.proofs.Pitches.{sounds-more, scope-more, marked-
 pub written-back : (w : Written) → writtenOf (pitchFor w) ≡ w
 written-back w = λ i. record { step = w .step; octave = w .octave; sign = mark-back (w .sign) i }
 
-pub signs-are : (w : Written) → signs (signFor (w .sign)) ≡ flags (w .sign)
+pub signs-are : (w : Written) → signs (signFor (w .sign)) ≡ signCount (w .sign)
 signs-are w = by (w .sign)
   where
-    by : (a : Option standard.Accidental) → signs (signFor a) ≡ flags a
+    by : (a : Option standard.Accidental) → signs (signFor a) ≡ signCount a
     by none = refl
     by (some a) = refl
 
@@ -91,8 +91,8 @@ module _ {t : Tables} {s s₁ s₂ : List ℕ} {r r₁ r₂ : Registers} {ws : L
         ∙ (λ i. alterAt (l .line .overlay) (λ old. scopeAfter (scopeAfterAll (getD (l .scopes) (l .line .overlay) []) ws) (written-back w i)) (l .scopes))
         ∙ ap (λ (x : Scope). alterAt (l .line .overlay) (λ old. x) (l .scopes)) (sym (scope-more (getD (l .scopes) (l .line .overlay) []) ws w))
 
-    more-held : Represents t s₂ r₂ (soundsOf (l .key) (getD (l .scopes) (l .line .overlay) []) (ws ++ (w ∷ []))) (setScopes (scopesAfter l (ws ++ (w ∷ []))) l)
-    more-held =
+    more-represented : Represents t s₂ r₂ (soundsOf (l .key) (getD (l .scopes) (l .line .overlay) []) (ws ++ (w ∷ []))) (setScopes (scopesAfter l (ws ++ (w ∷ []))) l)
+    more-represented =
         subst (λ (c : List Scope). Represents t s₂ r₂ (soundsOf (l .key) (getD (l .scopes) (l .line .overlay) []) (ws ++ (w ∷ []))) (setScopes c l)) scopes-are
         (subst (λ (ps : List standard.Pitch). Represents t s₂ r₂ ps (setScopes (alterAt (l .line .overlay) (λ old. scopeAfter old (writtenOf (pitchFor w))) (scopesAfter l ws)) l)) extra-is
         (b .holds (setScopes (scopesAfter l ws) l) (soundsOf (l .key) (getD (l .scopes) (l .line .overlay) []) ws) (st .overlay-4) (a .holds l st h)))
@@ -107,7 +107,7 @@ module _ {t : Tables} {s s₁ s₂ : List ℕ} {r r₁ r₂ : Registers} {ws : L
       record {
         only = only-then (a .only) (b .only);
         grows = record { more-heads = omega (arith, f, g); more-notes = omega (arith, f, g); more-pitches = omega (arith, f, g, n); more-scopes = omega (arith, f, g, m, k) };
-        holds = more-held;
+        holds = more-represented;
       }
 
 -- THE LOOP at i with n pitches pushed: those before i are, those from i on are still to come
@@ -184,8 +184,8 @@ module _ {line : List ℕ} {t : Tables} {s s′ : List ℕ} {r r′ : Registers}
     turn-room room =
         let g = p .pushed .grows in
         let a : length (chordIn line place) ≡ length (p .done) + suc (length (u .behind)) = ap length whole ∙ length-append (p .done) (u .first ∷ u .behind) in
-        let b : signsIn (chordIn line place) ≡ signsIn (p .done) + (flags (u .first .sign) + signsIn (u .behind)) = ap signsIn whole ∙ marked-both (p .done) (u .first ∷ u .behind) in
-        let d : signs (q .sign) ≡ flags (u .first .sign) = ap (λ (x : Pitch). signs (x .sign)) (u .pitch-is) ∙ signs-are (u .first) in
+        let b : signsIn (chordIn line place) ≡ signsIn (p .done) + (signCount (u .first .sign) + signsIn (u .behind)) = ap signsIn whole ∙ marked-both (p .done) (u .first ∷ u .behind) in
+        let d : signs (q .sign) ≡ signCount (u .first .sign) = ap (λ (x : Pitch). signs (x .sign)) (u .pitch-is) ∙ signs-are (u .first) in
         record {
           for-heads = omega (arith, room .for-heads, g);
           for-notes = omega (arith, room .for-notes, g);
@@ -269,8 +269,8 @@ module _ {t : Tables} {s s₁ : List ℕ} {r r₁ : Registers} {ws : List Writte
             (b .holds (setScopes (scopesAfter l ws) l) e ps (standing-after l ws st) i j (k ∙ sym (length-sounds (l .key) sc ws)) (a .holds l st h));
       }
 
-  pub chord-leaves : {left : Deferred} {w : Length} {tie slur : Bool} {count : ℕ} → left ≡ deferredSound r₁ w tie slur count → count ≡ length ws
+  pub once-appended-chord : {left : Deferred} {w : Length} {tie slur : Bool} {count : ℕ} → left ≡ deferredSound r₁ w tie slur count → count ≡ length ws
       → Room t (r .counts) (length s) 0 1 (length ws) (signsIn ws) → RepresentedInLine t s r → OnceAppended t s₁ left (λ s₂ r₂. SimulatesChord t s r s₂ r₂ ws w tie slur)
-  chord-leaves e k room h =
-      let b = sound-leaves e (chord-room room) (chord-able k h) in
+  once-appended-chord e k room h =
+      let b = once-appended-sound e (chord-room room) (chord-able k h) in
       record { able = b .able; done = λ s₂ r₂ f. chords-as k (b .done s₂ r₂ f) }

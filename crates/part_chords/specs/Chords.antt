@@ -1,4 +1,4 @@
--- CHORDS: a chord's pitches by its place in the line, and what a chord does to every part that is held.
+-- CHORDS: a chord's pitches by its place in the line, and what a chord does to every part that is represented.
 use Prim.Native.Nat.{ℕ}
 use mathlib.Core.Path.{_≡_}
 use mathlib.Core.Bool.{Bool}
@@ -12,7 +12,7 @@ use Rattle.reader.specs.Lengths as reader
 use Rattle.reader.specs.Lengths.{valueOf}
 use Rattle.reader.specs.Pitches.{chordOf, soundsOf, scopeAfterAll}
 use Rattle.part_layout.specs.Log.{LogState, setScopes, onSound}
-use Rattle.part_layout.proofs.Lines.{Standing}
+use Rattle.part_layout.specs.Lines.{Standing}
 use Rattle.token_lengths.specs.declared.Length.{Length}
 use Rattle.token_lengths.specs.Values.{asValue}
 use Rattle.capacity.specs.Covers.{signsIn}

@@ -1,4 +1,4 @@
-// Chords: the pitches, read again from the line, are pushed one by one; the chord's row is left to be appended.
+// Chords: the pitches, read again from the line, are pushed one by one; the chord's row is deferred (part_sounds::Deferred).
 ghost use lib.ListN.{length};
 ghost use Rattle.part_invariant.specs.Invariant.{Room, RepresentedInLine};
 ghost use Rattle.capacity.specs.Covers.{signsIn};
@@ -49,7 +49,7 @@ pub fn append_abc_chord_note(
     slur: bool,
 ) -> Deferred
     requires { ⌜ Room t (r .counts) (length (now store)) 0 1 (length (chordIn (now line) place)) (signsIn (chordIn (now line) place)) × RepresentedInLine t (now store) r × ChordAt (now line) place count ⌝ }
-    ensures { λ left. ⌜ OnceAppended t (now (store .exit)) left (λ s x. SimulatesChord t (now (store .entry)) r s x (chordIn (now (line .entry)) place) written tie slur) ⌝ }
+    ensures { λ d. ⌜ OnceAppended t (now (store .exit)) d (λ s x. SimulatesChord t (now (store .entry)) r s x (chordIn (now (line .entry)) place) written tie slur) ⌝ }
 {
     let x = push_pitches(line, store, t, r, place, count);
     part_sounds::append_sound(x, written, tie, slur, count as u32)

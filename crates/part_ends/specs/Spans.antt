@@ -1,4 +1,4 @@
--- CLOSING ENDINGS (layout's `close`) one measure at a time, and what the code keeps meanwhile.
+-- CLOSING ENDINGS (part_layout's `close`) one measure at a time, and what the code keeps meanwhile.
 use Prim.Native.Nat.{ℕ, _+_, _<_, _^_}
 use mathlib.Core.Path.{_≡_}
 use mathlib.Core.Bool.{true, false}
@@ -7,7 +7,7 @@ use mathlib.Core.List.{List, _∷_, _++_}
 use lib.ListN.{length, getD}
 use Rattle.laws.specs.Bytes.{le32}
 use Rattle.reader.specs.State.{voltaEnds, voltaAlone}
-use Rattle.reader.specs.Records.{passBits}
+use Rattle.reader.specs.Records.{passBits, measureWidth}
 use Rattle.part_layout.specs.Log.{Head, withVolta}
 use Rattle.part_layout.specs.Ends.{starts, endsAt}
 use Rattle.part_rows.specs.Table.{Table}
@@ -21,7 +21,7 @@ pub record Small (m : Head) : Type 0 where
 
 -- row i of n is m, behind a and before b
 pub record Stands (s : List ℕ) (at n i : ℕ) (a : List Head) (m : Head) (b : List Head) : Type 0 where
-  pub table : Table headRow 28 s at (a ++ (m ∷ b))
+  pub table : Table headRow measureWidth s at (a ++ (m ∷ b))
   pub here : length a ≡ i
   pub all : length a + (length b + 1) ≡ n
 

@@ -23,11 +23,12 @@ use Rattle.reader.specs.Codes.{kindCode, beamCode}
 use Rattle.reader.specs.State as State
 use Rattle.reader.specs.State.{Note, Verses, withBeam}
 use Rattle.reader.specs.Part.{canBeam, runAfter, grouped, oneFewer, afterHalf, countedIn, restWith}
+use Rattle.reader.specs.Records.{measureWidth}
 use Rattle.part_layout.specs.Log.{Head, LogState, newHead, withCounts, onLastHead, onOpen, lastPlace, atPlace, beamedNew, beamedBefore, append}
-use Rattle.part_layout.proofs.Lines.{Standing}
+use Rattle.part_layout.specs.Lines.{Standing}
 use Rattle.part_rows.specs.declared.NoteRow.{NoteRow}
 use Rattle.part_rows.specs.Table.{Table, Only}
-use Rattle.part_rows.specs.Encoded.{rowFor, rowBytes, noteRow}
+use Rattle.part_rows.specs.Encoded.{rowFor, rowBytes, noteRow, noteRowWidth, beamAt}
 use Rattle.part_rows.proofs.Bytes.{length-note, note-set-beam}
 use Rattle.part_rows.proofs.Tables.{table-u32, only-splice, only-then}
 use Rattle.part_measures.specs.Heads.{headRow}
@@ -80,22 +81,22 @@ module _ {t : Tables} {c : Counts} {s : List ℕ} {heads : List Head} {log : Lis
       }
 
   beam-written : (place : ℕ) (b : Notes.Beam) (f : Note → Note) → ((x : Note) → withBeam b x ≡ f x) → 0 < place → place ≤ length log
-      → Before t c s (splice s (t .notes + 16 * (place - 1) + 4) (beamCode b ∷ [])) heads (atPlace place f log) ps
+      → Before t c s (splice s (t .notes + noteRowWidth * (place - 1) + beamAt) (beamCode b ∷ [])) heads (atPlace place f log) ps
   beam-written place b f e l k =
       let g : ℕ × Note → ℕ × Note = λ x. (x .0, f (x .1)) in
-      let s′ = splice s (t .notes + 16 * (place - 1) + 4) (beamCode b ∷ []) in
+      let s′ = splice s (t .notes + noteRowWidth * (place - 1) + beamAt) (beamCode b ∷ []) in
       let x = getD log (place - 1) someNote in
       let room′ : Room t c (length s) m 0 p a =
       record { for-heads = room .for-heads; for-notes = omega (arith, room .for-notes); for-pitches = room .for-pitches; for-scopes = room .for-scopes; ends = room .ends; small = room .small } in
       record {
-        place = t .notes + 16 * (place - 1) + 4;
+        place = t .notes + noteRowWidth * (place - 1) + beamAt;
         bytes = beamCode b ∷ [];
         is = refl;
         low = omega arith;
         high = omega (arith, room .for-notes, h .notes-are);
         stored =
             subst (λ (q : List (ℕ × Note)). Stored t c s′ heads q ps) (sym (place-at place f log l))
-            (note-altered h s′ room′ (place - 1) 4 (beamCode b ∷ []) g someNote refl (omega arith) (omega arith) (note-set-beam x b ∙ ap (λ (y : Note). noteRow (x .0, y)) (e (x .1))));
+            (note-altered h s′ room′ (place - 1) beamAt (beamCode b ∷ []) g someNote refl (omega arith) (omega arith) (note-set-beam x b ∙ ap (λ (y : Note). noteRow (x .0, y)) (e (x .1))));
       }
 
   run-code : (r : ℕ) → cond (eqb (min 2 (suc r)) 1) 1 2 ≡ beamCode (cond (eqb r 0) Notes.begins Notes.continues)
@@ -160,7 +161,7 @@ module _ {t : Tables} {s : List ℕ} {r : Registers} (room : Room t (r .counts) 
       ∙ ap (λ (q : List Pitch). pitchesIn (l .log) ++ q) (final-pitches (l .line .tuplet) (l .line .run) (l .line .half) n))
 
   module _ (s₁ s₂ : List ℕ) (e₁ : s₁ ≡ beforeStore s (t .notes) (lastPlace l) (min 2 (l .line .run)) (kindCode (grouped (l .line .tuplet) n .kind)) (grouped (l .line .tuplet) n .value)) (row : NoteRow)
-      (row-is : row ≡ rowFor (afterHalf (l .line .half) (beamedNew (l .line .run) (grouped (l .line .tuplet) n)))) (e₂ : s₂ ≡ splice s₁ (t .notes + 16 * r .counts .notes) (rowBytes row (l .line .overlay))) where
+      (row-is : row ≡ rowFor (afterHalf (l .line .half) (beamedNew (l .line .run) (grouped (l .line .tuplet) n)))) (e₂ : s₂ ≡ splice s₁ (t .notes + noteRowWidth * r .counts .notes) (rowBytes row (l .line .overlay))) where
     B : Before t (r .counts) s s₁ (l .heads) (atPlace (lastPlace l) (beamedBefore (l .line .run) (grouped (l .line .tuplet) n)) (l .log)) (pitchesIn (l .log) ++ n .pitches)
     B = subst (λ (q : List ℕ). Before t (r .counts) s q (l .heads) (atPlace (lastPlace l) (beamedBefore (l .line .run) (grouped (l .line .tuplet) n)) (l .log)) (pitchesIn (l .log) ++ n .pitches)) (sym e₁) beam-before
 
@@ -189,13 +190,13 @@ module _ {t : Tables} {s : List ℕ} {r : Registers} (room : Room t (r .counts) 
     i-in : r .counts .heads - 1 < length (l .heads)
     i-in = omega (arith, heads-some, h .stored .heads-are)
 
-    count-is : u32At s₂ (t .heads + 28 * (r .counts .heads - 1) + 4 * l .line .overlay) ≡ getD (getD (l .heads) (r .counts .heads - 1) someHead .counts) (l .line .overlay) 0
+    count-is : u32At s₂ (t .heads + measureWidth * (r .counts .heads - 1) + 4 * l .line .overlay) ≡ getD (getD (l .heads) (r .counts .heads - 1) someHead .counts) (l .line .overlay) 0
     count-is =
-        table-u32 headRow 28 length-head (written₂ .heads-table) (r .counts .heads - 1) (4 * l .line .overlay) someHead i-in (omega (arith, st .overlay-4))
+        table-u32 headRow measureWidth length-head (written₂ .heads-table) (r .counts .heads - 1) (4 * l .line .overlay) someHead i-in (omega (arith, st .overlay-4))
         ∙ head-count (getD (l .heads) (r .counts .heads - 1) someHead) (l .line .overlay) (st .overlay-4)
         (omega (arith, count-most l st (r .counts .heads - 1) (l .line .overlay) someHead i-in, h .stored .notes-are, room .for-notes, room .for-pitches, room .for-scopes, room .small))
 
-    pub count-small : u32At s₂ (t .heads + 28 * (r .counts .heads - 1) + 4 * l .line .overlay) + 1 < 2 ^ 32
+    pub count-small : u32At s₂ (t .heads + measureWidth * (r .counts .heads - 1) + 4 * l .line .overlay) + 1 < 2 ^ 32
     count-small =
         omega (arith, count-is, count-most l st (r .counts .heads - 1) (l .line .overlay) someHead i-in, h .stored .notes-are, room .for-notes, room .for-pitches, room .for-scopes, room .small)
 
@@ -204,7 +205,7 @@ module _ {t : Tables} {s : List ℕ} {r : Registers} (room : Room t (r .counts) 
     bytes-4 v = refl
 
     module _ (s₃ : List ℕ)
-        (e₃ : s₃ ≡ splice s₂ (t .heads + 28 * (r .counts .heads - 1) + 4 * l .line .overlay) (le32 (suc (u32At s₂ (t .heads + 28 * (r .counts .heads - 1) + 4 * l .line .overlay))))) where
+        (e₃ : s₃ ≡ splice s₂ (t .heads + measureWidth * (r .counts .heads - 1) + 4 * l .line .overlay) (le32 (suc (u32At s₂ (t .heads + measureWidth * (r .counts .heads - 1) + 4 * l .line .overlay))))) where
       written₃ : Stored t (withNotes (r .counts) (r .counts .notes + 1)) s₃ (onLastHead (λ m. withCounts (alterAt (l .line .overlay) suc (m .counts)) m) (l .heads))
           (atPlace (lastPlace l) (beamedBefore (l .line .run) (grouped (l .line .tuplet) n)) (l .log) ++ ((l .line .overlay, afterHalf (l .line .half) (beamedNew (l .line .run) (grouped (l .line .tuplet) n))) ∷ []))
           (pitchesIn (l .log) ++ n .pitches)
@@ -212,25 +213,25 @@ module _ {t : Tables} {s : List ℕ} {r : Registers} (room : Room t (r .counts) 
           let f : Head → Head = λ m. withCounts (alterAt (l .line .overlay) suc (m .counts)) m in
           let k : r .counts .heads - 1 ≡ length (l .heads) - 1 = omega (arith, h .stored .heads-are) in
           let y = getD (l .heads) (r .counts .heads - 1) someHead in
-          let bs = le32 (suc (u32At s₂ (t .heads + 28 * (r .counts .heads - 1) + 4 * l .line .overlay))) in
+          let bs = le32 (suc (u32At s₂ (t .heads + measureWidth * (r .counts .heads - 1) + 4 * l .line .overlay))) in
           subst
           (λ (hs : List Head).
           Stored t (withNotes (r .counts) (r .counts .notes + 1)) s₃ hs
           (atPlace (lastPlace l) (beamedBefore (l .line .run) (grouped (l .line .tuplet) n)) (l .log) ++ ((l .line .overlay, afterHalf (l .line .half) (beamedNew (l .line .run) (grouped (l .line .tuplet) n))) ∷ []))
           (pitchesIn (l .log) ++ n .pitches))
           (ap (λ (j : ℕ). alterAt j f (l .heads)) k ∙ sym (last-head f (l .heads) heads-some))
-          (head-altered written₂ s₃ room₂ (r .counts .heads - 1) (4 * l .line .overlay) bs f someHead e₃ i-in (omega (arith, st .overlay-4, bytes-4 (suc (u32At s₂ (t .heads + 28 * (r .counts .heads - 1) + 4 * l .line .overlay)))))
+          (head-altered written₂ s₃ room₂ (r .counts .heads - 1) (4 * l .line .overlay) bs f someHead e₃ i-in (omega (arith, st .overlay-4, bytes-4 (suc (u32At s₂ (t .heads + measureWidth * (r .counts .heads - 1) + 4 * l .line .overlay)))))
           (ap (λ (v : ℕ). splice (headRow y) (4 * l .line .overlay) (le32 (suc v))) count-is ∙ head-counted y (l .line .overlay) (st .overlay-4) (counts-4 l st (r .counts .heads - 1) someHead i-in)))
 
       pub append-only : Only (t .heads) (t .end) s s₃
       append-only =
           only-then (only-splice (t .heads) (t .end) s s₁ _ _ (B .is) (omega (arith, B .low, room .for-heads)) (omega (arith, B .high, room .for-pitches, room .for-scopes)))
           (only-then (note-pushed-only (B .stored) s₂ (room-same length₁ room) (l .line .overlay, afterHalf (l .line .half) (beamedNew (l .line .run) (grouped (l .line .tuplet) n))) (rowBytes row (l .line .overlay)) (ap (λ (q : NoteRow). rowBytes q (l .line .overlay)) row-is) e₂)
-          (only-splice (t .heads) (t .end) s₂ s₃ _ _ e₃ (omega arith) (omega (arith, i-in, h .stored .heads-are, st .overlay-4, bytes-4 (suc (u32At s₂ (t .heads + 28 * (r .counts .heads - 1) + 4 * l .line .overlay))), room .for-heads, room .for-notes, room .for-pitches, room .for-scopes))))
+          (only-splice (t .heads) (t .end) s₂ s₃ _ _ e₃ (omega arith) (omega (arith, i-in, h .stored .heads-are, st .overlay-4, bytes-4 (suc (u32At s₂ (t .heads + measureWidth * (r .counts .heads - 1) + 4 * l .line .overlay))), room .for-heads, room .for-notes, room .for-pitches, room .for-scopes))))
 
-      pub append-held : Represents t s₃ (appended r (kindCode (grouped (l .line .tuplet) n .kind)) (grouped (l .line .tuplet) n .value)) [] (append n l)
+      pub append-represented : Represents t s₃ (appended r (kindCode (grouped (l .line .tuplet) n .kind)) (grouped (l .line .tuplet) n .value)) [] (append n l)
       unfolding append onOpen soundedOn
-      append-held =
+      append-represented =
           let v = counted-fields (l .line .overlay) (grouped (l .line .tuplet) n) (l .verses) in
           let ov : r .line .overlay ≡ l .line .overlay = ap (λ (y : _). y .overlay) (h .line-is) in
           record {
@@ -239,7 +240,7 @@ module _ {t : Tables} {s : List ℕ} {r : Registers} (room : Room t (r .counts) 
                 scoped-behind
                 (scoped-behind (scoped-behind (h .scoped) s₁ _ _ (B .is) (omega (arith, B .high, room .for-pitches))) s₂ _ _ e₂
                 (omega (arith, room .for-notes, room .for-pitches, ap (λ (q : NoteRow). length (rowBytes q (l .line .overlay))) row-is, length-note (l .line .overlay, afterHalf (l .line .half) (beamedNew (l .line .run) (grouped (l .line .tuplet) n))))))
-                s₃ _ _ e₃ (omega (arith, i-in, h .stored .heads-are, st .overlay-4, bytes-4 (suc (u32At s₂ (t .heads + 28 * (r .counts .heads - 1) + 4 * l .line .overlay))), room .for-heads, room .for-notes, room .for-pitches));
+                s₃ _ _ e₃ (omega (arith, i-in, h .stored .heads-are, st .overlay-4, bytes-4 (suc (u32At s₂ (t .heads + measureWidth * (r .counts .heads - 1) + 4 * l .line .overlay))), room .for-heads, room .for-notes, room .for-pitches));
             key-is = h .key-is;
             last-is =
                 ap (λ (ps : List ℕ). set ps (r .line .overlay) (r .counts .notes + 1)) (h .last-is) ∙ ap (λ (k : ℕ). set (l .last) k (r .counts .notes + 1)) ov
@@ -301,27 +302,27 @@ module _ {t : Tables} {s : List ℕ} {r : Registers} {n : NoteRow} (room : Room 
     append-head = omega (arith, heads-some room (a .state) (a .note) (a .standing) (a .represents), a .represents .stored .heads-are)
 
   module _ (s₁ s₂ : List ℕ) (e₁ : s₁ ≡ beforeStore s (t .notes) (getD (r .last .places) (r .line .overlay) 0) (r .line .run) (inTuplet r n .kind) (inTuplet r n .value))
-      (e₂ : s₂ ≡ splice s₁ (t .notes + 16 * r .counts .notes) (rowBytes (asWritten r n) (r .line .overlay))) where
+      (e₂ : s₂ ≡ splice s₁ (t .notes + noteRowWidth * r .counts .notes) (rowBytes (asWritten r n) (r .line .overlay))) where
     to₁ : (l : LogState) (m : Note) → Standing l → n ≡ rowFor m → Represents t s r (m .pitches) l
         → s₁ ≡ beforeStore s (t .notes) (lastPlace l) (min 2 (l .line .run)) (kindCode (grouped (l .line .tuplet) m .kind)) (grouped (l .line .tuplet) m .value)
     to₁ l m st e h =
         e₁ ∙ (λ i. beforeStore s (t .notes) (place-is room l m st h i) (run-row l m e h i) (tuplet-row l m e h i .kind) (tuplet-row l m e h i .value))
 
-    to₂ : (l : LogState) (m : Note) → n ≡ rowFor m → Represents t s r (m .pitches) l → s₂ ≡ splice s₁ (t .notes + 16 * r .counts .notes) (rowBytes (asWritten r n) (l .line .overlay))
-    to₂ l m e h = e₂ ∙ ap (λ (k : ℕ). splice s₁ (t .notes + 16 * r .counts .notes) (rowBytes (asWritten r n) k)) (overlay-row l m e h)
+    to₂ : (l : LogState) (m : Note) → n ≡ rowFor m → Represents t s r (m .pitches) l → s₂ ≡ splice s₁ (t .notes + noteRowWidth * r .counts .notes) (rowBytes (asWritten r n) (l .line .overlay))
+    to₂ l m e h = e₂ ∙ ap (λ (k : ℕ). splice s₁ (t .notes + noteRowWidth * r .counts .notes) (rowBytes (asWritten r n) k)) (overlay-row l m e h)
 
-    pub append-small : Appendable t s r n → u32At s₂ (t .heads + 28 * (r .counts .heads - 1) + 4 * r .line .overlay) + 1 < 2 ^ 32
+    pub append-small : Appendable t s r n → u32At s₂ (t .heads + measureWidth * (r .counts .heads - 1) + 4 * r .line .overlay) + 1 < 2 ^ 32
     append-small a =
-        subst (λ (k : ℕ). u32At s₂ (t .heads + 28 * (r .counts .heads - 1) + 4 * k) + 1 < 2 ^ 32) (sym (overlay-row (a .state) (a .note) (a .row-is) (a .represents)))
+        subst (λ (k : ℕ). u32At s₂ (t .heads + measureWidth * (r .counts .heads - 1) + 4 * k) + 1 < 2 ^ 32) (sym (overlay-row (a .state) (a .note) (a .row-is) (a .represents)))
         (count-small room (a .state) (a .note) (a .standing) (a .represents) s₁ s₂ (to₁ (a .state) (a .note) (a .standing) (a .row-is) (a .represents)) (asWritten r n) (written-row (a .state) (a .note) (a .row-is) (a .represents))
         (to₂ (a .state) (a .note) (a .row-is) (a .represents)))
 
     module _ (s₃ : List ℕ)
-        (e₃ : s₃ ≡ splice s₂ (t .heads + 28 * (r .counts .heads - 1) + 4 * r .line .overlay) (le32 (suc (u32At s₂ (t .heads + 28 * (r .counts .heads - 1) + 4 * r .line .overlay))))) where
+        (e₃ : s₃ ≡ splice s₂ (t .heads + measureWidth * (r .counts .heads - 1) + 4 * r .line .overlay) (le32 (suc (u32At s₂ (t .heads + measureWidth * (r .counts .heads - 1) + 4 * r .line .overlay))))) where
       to₃ : (l : LogState) (m : Note) → n ≡ rowFor m → Represents t s r (m .pitches) l
-          → s₃ ≡ splice s₂ (t .heads + 28 * (r .counts .heads - 1) + 4 * l .line .overlay) (le32 (suc (u32At s₂ (t .heads + 28 * (r .counts .heads - 1) + 4 * l .line .overlay))))
+          → s₃ ≡ splice s₂ (t .heads + measureWidth * (r .counts .heads - 1) + 4 * l .line .overlay) (le32 (suc (u32At s₂ (t .heads + measureWidth * (r .counts .heads - 1) + 4 * l .line .overlay))))
       to₃ l m e h =
-          e₃ ∙ ap (λ (k : ℕ). splice s₂ (t .heads + 28 * (r .counts .heads - 1) + 4 * k) (le32 (suc (u32At s₂ (t .heads + 28 * (r .counts .heads - 1) + 4 * k))))) (overlay-row l m e h)
+          e₃ ∙ ap (λ (k : ℕ). splice s₂ (t .heads + measureWidth * (r .counts .heads - 1) + 4 * k) (le32 (suc (u32At s₂ (t .heads + measureWidth * (r .counts .heads - 1) + 4 * k))))) (overlay-row l m e h)
 
       pub appends : Appendable t s r n → (r′ : Registers) → r′ ≡ appended r (inTuplet r n .kind) (inTuplet r n .value) → Appends t s r s₃ r′ n
       appends a r′ d =
@@ -338,5 +339,5 @@ module _ {t : Tables} {s : List ℕ} {r : Registers} {n : NoteRow} (room : Room 
                 };
             holds =
                 λ l m st e h. subst (λ (x : Registers). Represents t s₃ x [] (append m l)) (sym (d ∙ (λ i. appended r (tuplet-row l m e h i .kind) (tuplet-row l m e h i .value))))
-                (append-held room l m st h s₁ s₂ (to₁ l m st e h) (asWritten r n) (written-row l m e h) (to₂ l m e h) s₃ (to₃ l m e h));
+                (append-represented room l m st h s₁ s₂ (to₁ l m st e h) (asWritten r n) (written-row l m e h) (to₂ l m e h) s₃ (to₃ l m e h));
           }

@@ -18,8 +18,8 @@ use Rattle.reader.specs.State.{Note}
 use Rattle.reader.specs.Part.{canBeam, grouped, groupIn, brokenNote, halvedNote, afterHalf}
 use Rattle.part_layout.specs.Log.{Head, LogState, onLastHead, atPlace, beamedNew, beamedBefore}
 use Rattle.part_layout.specs.Sections.{notesIn}
-use Rattle.part_layout.proofs.Counts.{Fits}
-use Rattle.part_layout.proofs.Lines.{Standing}
+use Rattle.part_layout.specs.Lines.{Fits}
+use Rattle.part_layout.specs.Lines.{Standing}
 use Rattle.part_invariant.specs.Invariant.{pitchesIn}
 
 -- THE OPEN HEAD is the last one

@@ -6,6 +6,7 @@ use lib.Dec.{eqb}
 use lib.ListN.{set}
 use Rattle.laws.specs.Bytes.{splice}
 use Rattle.part_rows.specs.declared.NoteRow.{NoteRow}
+use Rattle.part_rows.specs.Encoded.{noteRowWidth, beamAt}
 use Rattle.part_registers.specs.declared.Line.{Line}
 use Rattle.part_registers.specs.declared.Last.{Last}
 use Rattle.part_registers.specs.declared.Verses.{Verses}
@@ -15,7 +16,7 @@ use Rattle.part_registers.specs.Notes.{beams, fewer, runAgain}
 
 -- a note of this kind and value goes on with a run: the voice's last note begins or continues the beam
 unfoldable pub beforeStore : List ℕ → ℕ → ℕ → ℕ → ℕ → ℕ → List ℕ
-beforeStore s at place run kind value = cond (eqb run 0) s (cond (beams kind value) (splice s (at + 16 * (place - 1) + 4) (cond (eqb run 1) 1 2 ∷ [])) s)
+beforeStore s at place run kind value = cond (eqb run 0) s (cond (beams kind value) (splice s (at + noteRowWidth * (place - 1) + beamAt) (cond (eqb run 1) 1 2 ∷ [])) s)
 
 abbrev pub ranOn : Line → ℕ → Line
 ranOn l run = record { unit = l .unit; top = l .top; bottom = l .bottom; overlay = l .overlay; run = run }

@@ -1,4 +1,4 @@
--- SCRATCH AND REGISTERS HOLD A PART: what it means that they are a LogState, and what a step does to them.
+-- SCRATCH AND REGISTERS REPRESENT A PART: what it means that they are a LogState, and what a step does to them.
 use Prim.Native.Nat.{ℕ, _+_, _*_, _^_, _≤_, _<_}
 use mathlib.Core.Path.{_≡_}
 use mathlib.Core.List.{List, [], _∷_, _++_, map}
@@ -6,11 +6,11 @@ use lib.ListN.{length}
 use Rattle.laws.specs.Lists.{concat}
 use Rattle.standard.specs.Pitches.{Pitch}
 use Rattle.reader.specs.State.{Note}
-use Rattle.reader.specs.Records.{pitchBytes}
+use Rattle.reader.specs.Records.{pitchBytes, measureWidth}
 use Rattle.part_layout.specs.Log.{Head, LogState, append}
-use Rattle.part_layout.proofs.Lines.{Standing}
+use Rattle.part_layout.specs.Lines.{Standing}
 use Rattle.part_rows.specs.Table.{Table, Only}
-use Rattle.part_rows.specs.Encoded.{noteRow, rowFor}
+use Rattle.part_rows.specs.Encoded.{noteRow, rowFor, noteRowWidth, pitchRowWidth, scopeRowWidth}
 use Rattle.part_rows.specs.declared.NoteRow.{NoteRow}
 use Rattle.part_measures.specs.Heads.{headRow}
 use Rattle.part_chains.specs.Chains.{Scoped}
@@ -21,18 +21,18 @@ use Rattle.part_registers.specs.States.{pendingFor, halfFor, runningFor, lineFo
 
 -- the tables stand one behind the other, with room for so many rows more in each
 pub record Room (t : Tables) (c : Counts) (size heads notes pitches scopes : ℕ) : Type 0 where
-  pub for-heads : t .heads + 28 * (c .heads + heads) ≤ t .notes
-  pub for-notes : t .notes + 16 * (c .notes + notes) ≤ t .pitches
-  pub for-pitches : t .pitches + 5 * (c .pitches + pitches) ≤ t .scopes
-  pub for-scopes : t .scopes + 8 * (c .scopes + scopes) ≤ t .end
+  pub for-heads : t .heads + measureWidth * (c .heads + heads) ≤ t .notes
+  pub for-notes : t .notes + noteRowWidth * (c .notes + notes) ≤ t .pitches
+  pub for-pitches : t .pitches + pitchRowWidth * (c .pitches + pitches) ≤ t .scopes
+  pub for-scopes : t .scopes + scopeRowWidth * (c .scopes + scopes) ≤ t .end
   pub ends : t .end ≤ size
   pub small : t .end < 2 ^ 32
 
 -- heads, notes and pitches
 pub record Stored (t : Tables) (c : Counts) (s : List ℕ) (heads : List Head) (log : List (ℕ × Note)) (pitches : List Pitch) : Type 0 where
-  pub heads-table : Table headRow 28 s (t .heads) heads
-  pub notes-table : Table noteRow 16 s (t .notes) log
-  pub pitches-table : Table pitchBytes 5 s (t .pitches) pitches
+  pub heads-table : Table headRow measureWidth s (t .heads) heads
+  pub notes-table : Table noteRow noteRowWidth s (t .notes) log
+  pub pitches-table : Table pitchBytes pitchRowWidth s (t .pitches) pitches
   pub heads-are : c .heads ≡ length heads
   pub notes-are : c .notes ≡ length log
   pub pitches-are : c .pitches ≡ length pitches
@@ -41,7 +41,7 @@ pub record Stored (t : Tables) (c : Counts) (s : List ℕ) (heads : List Head) (
 abbrev pub pitchesIn : List (ℕ × Note) → List Pitch
 pitchesIn log = concat (map (λ (x : ℕ × Note). x .1 .pitches) log)
 
--- A PART IS HELD; `extra` are pitches that wait for their note
+-- A PART IS REPRESENTED; `extra` are pitches whose note is not there yet
 pub record Represents (t : Tables) (s : List ℕ) (r : Registers) (extra : List Pitch) (l : LogState) : Type 0 where
   pub stored : Stored t (r .counts) s (l .heads) (l .log) (pitchesIn (l .log) ++ extra)
   pub scoped : Scoped s (t .scopes) (r .counts .scopes) (r .key .scopes) (l .scopes)
@@ -56,7 +56,7 @@ pub record Represents (t : Tables) (s : List ℕ) (r : Registers) (extra : List 
   pub start-is : r .verses .start ≡ l .verses .start
   pub verse-is : r .verses .verse ≡ l .verses .verse
 
--- a part is held, while a line is read
+-- a part is represented, while a line is read
 pub record RepresentedInLine (t : Tables) (s : List ℕ) (r : Registers) : Type 0 where
   pub state : LogState
   pub standing : Standing state
@@ -77,13 +77,13 @@ pub record Grows (c c′ : Counts) (heads notes pitches scopes : ℕ) : Type 0 w
   pub more-pitches : c′ .pitches ≤ c .pitches + pitches
   pub more-scopes : c′ .scopes ≤ c .scopes + scopes
 
--- A NOTE APPENDED: of every part that is held, with the note's pitches already there
+-- A NOTE APPENDED: of every part that is represented, with the note's pitches already there
 pub record Appends (t : Tables) (s : List ℕ) (r : Registers) (s′ : List ℕ) (r′ : Registers) (n : NoteRow) : Type 0 where
   pub only : Only (t .heads) (t .end) s s′
   pub grows : Grows (r .counts) (r′ .counts) 0 1 0 0
   pub holds : (l : LogState) (m : Note) → Standing l → n ≡ rowFor m → Represents t s r (m .pitches) l → Represents t s′ r′ [] (append m l)
 
--- A STEP: scratch and registers do what f does to every part that they hold, and nothing outside the tables changes
+-- A STEP: scratch and registers do what f does to every part that they represent, and nothing outside the tables changes
 pub record Simulates (t : Tables) (s : List ℕ) (r : Registers) (s′ : List ℕ) (r′ : Registers) (heads notes pitches scopes : ℕ) (f : LogState → LogState) : Type 0 where
   pub only : Only (t .heads) (t .end) s s′
   pub grows : Grows (r .counts) (r′ .counts) heads notes pitches scopes

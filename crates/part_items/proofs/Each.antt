@@ -14,7 +14,7 @@ use Rattle.laws.proofs.Bools.{by-test}
 use Rattle.standard.specs.Keys.{Key, plainKey}
 use Rattle.standard.specs.Notes.{isSounded}
 use Rattle.reader.specs.Codes.{modeCode}
-use Rattle.reader.specs.Records.{signed8}
+use Rattle.reader.specs.Records.{signed8, measureWidth}
 use Rattle.reader.specs.Scan.{Item, voiceDeclared, reset, keyInHeader, keyChange, meterChange, lyricLine, musicLine}
 use Rattle.reader.specs.Part.{firstKey, countedIn}
 use Rattle.reader.specs.State.{Note, Sung, Verses, newLine}
@@ -22,10 +22,10 @@ use Rattle.reader.specs.Token.{Token, space, overlay, quoted, broken, tuplet, s
 use Rattle.reader.specs.Tokens.{tokens}
 use Rattle.part_layout.specs.Log.{Head, LogState, setKey, setHeads, withKeyMark, withMeter, newLog, onLastHead, onOpen, hears, lastPlace, noteAt, onBroken, onNothing, append, onSound, onBarline, onToken, lineBegins, onLine}
 use Rattle.part_layout.specs.Ends.{onLyric, onKey, onItem}
-use Rattle.part_rows.specs.Encoded.{noteRow}
+use Rattle.part_rows.specs.Encoded.{noteRow, noteRowWidth, pitchRowWidth}
 use Rattle.reader.specs.Records.{pitchBytes}
 use Rattle.part_rows.proofs.Tables.{table-none, only-none}
-use Rattle.part_measures.specs.Heads.{headRow}
+use Rattle.part_measures.specs.Heads.{headRow, meterAt, keyMarkAt}
 use Rattle.part_measures.proofs.Heads.{head-mark, head-meter}
 use Rattle.part_registers.specs.declared.Tables.{Tables}
 use Rattle.part_registers.specs.declared.Counts.{Counts}
@@ -33,21 +33,21 @@ use Rattle.part_registers.specs.declared.Registers.{Registers}
 use Rattle.part_invariant.specs.Invariant.{Represents}
 use Rattle.part_invariant.specs.Lines.{RoomForBytes, RepresentedBetween, GrowsBy, SimulatesItem}
 use Rattle.part_invariant.proofs.Appending.{someHead}
-use Rattle.part_bars.proofs.Heads.{open-held, open-only, no-scopes, stored-as}
+use Rattle.part_bars.proofs.Heads.{open-represented, open-only, no-scopes, stored-as}
 use Rattle.part_steps.specs.Steps.{hearing}
 use Rattle.part_items.specs.Items.{begun, keyedAs}
 use Rattle.part_items.proofs.Music.{grows-none, rest-room}
 
 -- THE BEGINNING
-pub begun-held : (t : Tables) (s : List ℕ) → t .scopes ≤ length s → Represents t s begun [] newLog
+pub begun-represented : (t : Tables) (s : List ℕ) → t .scopes ≤ length s → Represents t s begun [] newLog
 unfolding newLog plainKey newLine
-begun-held t s h =
+begun-represented t s h =
     record {
       stored =
           record {
-            heads-table = table-none headRow 28 s (t .heads);
-            notes-table = table-none noteRow 16 s (t .notes);
-            pitches-table = table-none pitchBytes 5 s (t .pitches);
+            heads-table = table-none headRow measureWidth s (t .heads);
+            notes-table = table-none noteRow noteRowWidth s (t .notes);
+            pitches-table = table-none pitchBytes pitchRowWidth s (t .pitches);
             heads-are = refl;
             notes-are = refl;
             pitches-are = refl;
@@ -66,16 +66,16 @@ begun-held t s h =
     }
 
 -- registers by another name
-pub takes-as : {t : Tables} {s s′ : List ℕ} {r r′ r″ : Registers} {bs : List ℕ} {f : LogState → LogState} → r′ ≡ r″ → SimulatesItem t s r s′ r″ bs f → SimulatesItem t s r s′ r′ bs f
-takes-as {t} {s} {s′} {r} {r′} {r″} {bs} {f} e d = subst (λ (x : Registers). SimulatesItem t s r s′ x bs f) (sym e) d
+pub simulates-item-as : {t : Tables} {s s′ : List ℕ} {r r′ r″ : Registers} {bs : List ℕ} {f : LogState → LogState} → r′ ≡ r″ → SimulatesItem t s r s′ r″ bs f → SimulatesItem t s r s′ r′ bs f
+simulates-item-as {t} {s} {s′} {r} {r′} {r″} {bs} {f} e d = subst (λ (x : Registers). SimulatesItem t s r s′ x bs f) (sym e) d
 
 -- nothing is written
-takes-none : {t : Tables} {s : List ℕ} {r r′ : Registers} {f : LogState → LogState} → r′ .counts ≡ r .counts → ((l : LogState) → Represents t s r [] l → Represents t s r′ [] (f l)) → SimulatesItem t s r s r′ [] f
-takes-none {t} {s} {r} e h = record { only = only-none (t .heads) (t .end) s; grows = rw e (grows-none (r .counts) []); holds = λ l b. h l }
+simulates-item-alone : {t : Tables} {s : List ℕ} {r r′ : Registers} {f : LogState → LogState} → r′ .counts ≡ r .counts → ((l : LogState) → Represents t s r [] l → Represents t s r′ [] (f l)) → SimulatesItem t s r s r′ [] f
+simulates-item-alone {t} {s} {r} e h = record { only = only-none (t .heads) (t .end) s; grows = rw e (grows-none (r .counts) []); holds = λ l b. h l }
 
 -- A KEY, whose accidentals stay
-keyed-held : {t : Tables} {s : List ℕ} {r : Registers} (k : Key) (l : LogState) → Represents t s r [] l → Represents t s (keyedAs r (k .fifths) (k .minor)) [] (setKey k l)
-keyed-held k l h =
+keyed-represented : {t : Tables} {s : List ℕ} {r : Registers} (k : Key) (l : LogState) → Represents t s r [] l → Represents t s (keyedAs r k) [] (setKey k l)
+keyed-represented k l h =
     record {
       stored = h .stored;
       scoped = h .scoped;
@@ -92,17 +92,17 @@ keyed-held k l h =
     }
 
 module _ {t : Tables} {s : List ℕ} {r : Registers} (header : Key) where
-  pub born-takes : (b : Bool) → b ≡ true → SimulatesItem t s r s (keyedAs r 128 false) [] (λ l. onItem header l (voiceDeclared b))
+  pub declared-in-header : (b : Bool) → b ≡ true → SimulatesItem t s r s (keyedAs r (record { fifths = 128; minor = false })) [] (λ l. onItem header l (voiceDeclared b))
   unfolding onItem firstKey plainKey
-  born-takes b e = takes-none refl (λ l h. rw e (keyed-held plainKey l h))
+  declared-in-header b e = simulates-item-alone refl (λ l h. rw e (keyed-represented plainKey l h))
 
-  pub late-takes : (b : Bool) → b ≡ false → SimulatesItem t s r s (keyedAs r (header .fifths) (header .minor)) [] (λ l. onItem header l (voiceDeclared b))
+  pub declared-in-body : (b : Bool) → b ≡ false → SimulatesItem t s r s (keyedAs r header) [] (λ l. onItem header l (voiceDeclared b))
   unfolding onItem firstKey
-  late-takes b e = takes-none refl (λ l h. rw e (keyed-held header l h))
+  declared-in-body b e = simulates-item-alone refl (λ l h. rw e (keyed-represented header l h))
 
-  pub headed-takes : SimulatesItem t s r s (keyedAs r (header .fifths) (header .minor)) [] (λ l. onItem header l keyInHeader)
+  pub key-in-header-simulates : SimulatesItem t s r s (keyedAs r header) [] (λ l. onItem header l keyInHeader)
   unfolding onItem
-  headed-takes = takes-none refl (λ l h. keyed-held header l h)
+  key-in-header-simulates = simulates-item-alone refl (λ l h. keyed-represented header l h)
 
 -- NOTHING WAITS
 abbrev pub unpending : Registers → Registers
@@ -118,10 +118,10 @@ unpending r =
       verses = r .verses;
     }
 
-pub reset-takes : {t : Tables} {s : List ℕ} {r : Registers} (header : Key) → SimulatesItem t s r s (unpending r) [] (λ l. onItem header l reset)
+pub reset-simulates : {t : Tables} {s : List ℕ} {r : Registers} (header : Key) → SimulatesItem t s r s (unpending r) [] (λ l. onItem header l reset)
 unfolding onItem
-reset-takes header =
-    takes-none refl
+reset-simulates header =
+    simulates-item-alone refl
     (λ l h. record {
       stored = h .stored;
       scoped = h .scoped;
@@ -138,9 +138,9 @@ reset-takes header =
     })
 
 -- A K LINE: a key is heard
-hears-held : {t : Tables} {s : List ℕ} {r : Registers} (k : Key) (l : LogState) → t .scopes ≤ length s → Represents t s r [] l → Represents t s (hearing r (k .fifths) (k .minor)) [] (hears k l)
+hears-represented : {t : Tables} {s : List ℕ} {r : Registers} (k : Key) (l : LogState) → t .scopes ≤ length s → Represents t s r [] l → Represents t s (hearing r k) [] (hears k l)
 unfolding hears
-hears-held {t} {s} k l room h =
+hears-represented {t} {s} k l room h =
     record {
       stored = stored-as (h .stored) refl refl refl;
       scoped = no-scopes s (t .scopes) room;
@@ -166,7 +166,7 @@ unfolding onKey hears onOpen
 key-measured header k [] l h = absurd (not-suc-le-zero h)
 key-measured header k (m ∷ ms) l h = refl
 
-hearing-grows : (r : Registers) (k : Key) → GrowsBy (r .counts) (hearing r (k .fifths) (k .minor) .counts) []
+hearing-grows : (r : Registers) (k : Key) → GrowsBy (r .counts) (hearing r k .counts) []
 hearing-grows r k = record { more-heads = omega arith; more-notes = omega arith; more-pitches = omega arith; more-scopes = omega arith }
 
 scopes-inside : {t : Tables} {c : Counts} {size : ℕ} {bs : List ℕ} → RoomForBytes t c size bs → t .scopes ≤ size
@@ -174,46 +174,45 @@ scopes-inside room = omega (arith, room .for-scopes, room .ends)
 
 module _ {t : Tables} {s : List ℕ} {r : Registers} (room : RoomForBytes t (r .counts) (length s) []) (header k : Key) where
   -- where there is no measure
-  pub key-none : r .counts .heads ≡ 0 → SimulatesItem t s r s (hearing r (header .fifths) (header .minor)) [] (λ l. onItem header l (keyChange k))
+  pub key-none : r .counts .heads ≡ 0 → SimulatesItem t s r s (hearing r header) [] (λ l. onItem header l (keyChange k))
   unfolding onItem
   key-none e =
       record {
         only = only-none (t .heads) (t .end) s;
         grows = hearing-grows r header;
         holds =
-            λ l b h. subst (λ (x : LogState). Represents t s (hearing r (header .fifths) (header .minor)) [] x) (key-unmeasured header k (l .heads) l (sym (h .stored .heads-are) ∙ e)) (hears-held header l (scopes-inside room) h);
+            λ l b h. subst (λ (x : LogState). Represents t s (hearing r header) [] x) (key-unmeasured header k (l .heads) l (sym (h .stored .heads-are) ∙ e)) (hears-represented header l (scopes-inside room) h);
       }
 
   module _ (some : 0 < r .counts .heads) (w : RepresentedBetween t s r) (s′ : List ℕ) where
     -- a write into the open head
-    open-takes : (f : ℕ) (bs : List ℕ) → s′ ≡ splice s (t .heads + 28 * (r .counts .heads - 1) + f) bs → f + length bs ≤ 28 → (g : Head → Head) → ((m : Head) → splice (headRow m) f bs ≡ headRow (g m)) → SimulatesItem t s r s′ r [] (onOpen g)
-    open-takes f bs e q g m =
+    open-simulates-item : (f : ℕ) (bs : List ℕ) → s′ ≡ splice s (t .heads + measureWidth * (r .counts .heads - 1) + f) bs → f + length bs ≤ measureWidth → (g : Head → Head) → ((m : Head) → splice (headRow m) f bs ≡ headRow (g m)) → SimulatesItem t s r s′ r [] (onOpen g)
+    open-simulates-item f bs e q g m =
         let there : (l : LogState) → Represents t s r [] l → 0 < length (l .heads) = λ l h. omega (arith, some, h .stored .heads-are) in
         record {
           only = open-only (rest-room room) s′ f bs e q (w .state) (there (w .state) (w .represents)) (w .represents);
           grows = grows-none (r .counts) [];
-          holds = λ l b h. open-held (rest-room room) s′ f bs e q l (there l h) h g (m (getD (l .heads) (r .counts .heads - 1) someHead));
+          holds = λ l b h. open-represented (rest-room room) s′ f bs e q l (there l h) h g (m (getD (l .heads) (r .counts .heads - 1) someHead));
         }
 
     -- where there is one
-    pub key-some : (mode fifths : ℕ) → mode ≡ modeCode (k .minor) → fifths ≡ signed8 (k .fifths) → s′ ≡ splice s (t .heads + 28 * (r .counts .heads - 1) + 20) (mode ∷ fifths ∷ [])
-        → SimulatesItem t s r s′ (hearing r (k .fifths) (k .minor)) [] (λ l. onItem header l (keyChange k))
+    pub key-some : s′ ≡ splice s (t .heads + measureWidth * (r .counts .heads - 1) + keyMarkAt) (modeCode (k .minor) ∷ signed8 (k .fifths) ∷ [])
+        → SimulatesItem t s r s′ (hearing r k) [] (λ l. onItem header l (keyChange k))
     unfolding onItem
-    key-some mode fifths em ef e =
-        let flags : (m : Head) → splice (headRow m) 20 (mode ∷ fifths ∷ []) ≡ headRow (withKeyMark k m) = λ m. (λ i. splice (headRow m) 20 (em i ∷ ef i ∷ [])) ∙ head-mark m k in
-        let o = open-takes 20 (mode ∷ fifths ∷ []) e (omega arith) (withKeyMark k) flags in
+    key-some e =
+        let o = open-simulates-item keyMarkAt (modeCode (k .minor) ∷ signed8 (k .fifths) ∷ []) e (omega arith) (withKeyMark k) (λ m. head-mark m k) in
         record {
           only = o .only;
           grows = hearing-grows r k;
           holds =
-              λ l b h. subst (λ (x : LogState). Represents t s′ (hearing r (k .fifths) (k .minor)) [] x) (key-measured header k (l .heads) l (omega (arith, some, h .stored .heads-are)))
-              (hears-held k (onOpen (withKeyMark k) l) (omega (arith, scopes-inside room, o .only .same-length)) (o .holds l b h));
+              λ l b h. subst (λ (x : LogState). Represents t s′ (hearing r k) [] x) (key-measured header k (l .heads) l (omega (arith, some, h .stored .heads-are)))
+              (hears-represented k (onOpen (withKeyMark k) l) (omega (arith, scopes-inside room, o .only .same-length)) (o .holds l b h));
         }
 
     -- AN M LINE on the open measure
-    pub meter-some : (top bottom : ℕ) → s′ ≡ splice s (t .heads + 28 * (r .counts .heads - 1) + 18) (top ∷ bottom ∷ []) → SimulatesItem t s r s′ r [] (λ l. onItem header l (meterChange (top, bottom)))
+    pub meter-some : (top bottom : ℕ) → s′ ≡ splice s (t .heads + measureWidth * (r .counts .heads - 1) + meterAt) (top ∷ bottom ∷ []) → SimulatesItem t s r s′ r [] (λ l. onItem header l (meterChange (top, bottom)))
     unfolding onItem
-    meter-some top bottom e = open-takes 18 (top ∷ bottom ∷ []) e (omega arith) (withMeter (top, bottom)) (λ m. head-meter m (top, bottom))
+    meter-some top bottom e = open-simulates-item meterAt (top ∷ bottom ∷ []) e (omega arith) (withMeter (top, bottom)) (λ m. head-meter m (top, bottom))
 
 -- or on none
 none-changed : (g : Head → Head) (hs : List Head) → length hs ≡ 0 → hs ≡ onLastHead g hs
@@ -228,7 +227,7 @@ open-none g l e = ap (λ (hs : List Head). setHeads hs l) (none-changed g (l .he
 pub meter-none : {t : Tables} {s : List ℕ} {r : Registers} (header : Key) (top bottom : ℕ) → r .counts .heads ≡ 0 → SimulatesItem t s r s r [] (λ l. onItem header l (meterChange (top, bottom)))
 unfolding onItem
 meter-none {t} {s} {r} header top bottom e =
-    takes-none refl (λ l h. subst (λ (x : LogState). Represents t s r [] x) (open-none (withMeter (top, bottom)) l (sym (h .stored .heads-are) ∙ e)) h)
+    simulates-item-alone refl (λ l h. subst (λ (x : LogState). Represents t s r [] x) (open-none (withMeter (top, bottom)) l (sym (h .stored .heads-are) ∙ e)) h)
 
 -- LINES: only a lyric line adds one
 counted-lines : (o : ℕ) (n : Note) (v : Verses) → countedIn o n v .lines ≡ v .lines

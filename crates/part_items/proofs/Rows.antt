@@ -1,4 +1,4 @@
--- A LYRIC LINE'S ROW: with its verse and first note it is the same item still, and a part that is held stays held.
+-- A LYRIC LINE'S ROW: with its verse and first note it is the same item still, and a part stays represented.
 use Prim.Native.Nat.{ℕ, _+_, _^_, _≤_, _<_}
 use mathlib.Core.Path.{_≡_, refl, ap, _∙_}
 use mathlib.Core.List.{List, [], _∷_}
@@ -53,10 +53,10 @@ only-lined s i verse start =
     only-then (only-splice (rowFrom i) (rowFrom i + itemBytes) s m (rowFrom i + 3) (verse ∷ []) refl (omega arith) (omega arith))
     (only-splice (rowFrom i) (rowFrom i + itemBytes) m (lined s i verse start) (rowFrom i + 12) (le32 start) refl (omega arith) (omega (arith, length-little 4 start)))
 
--- A WRITE BEFORE THE TABLES leaves a part held
+-- A WRITE BEFORE THE TABLES: a part stays represented
 module _ {t : Tables} {s : List ℕ} {r : Registers} (room : Room t (r .counts) (length s) 0 0 0 0) (s′ : List ℕ) (k : ℕ) (bs : List ℕ) (e : s′ ≡ splice s k bs) (q : k + length bs ≤ t .heads) where
-  pub held-behind : (l : LogState) → Represents t s r [] l → Represents t s′ r [] l
-  held-behind l h =
+  pub represented-behind : (l : LogState) → Represents t s r [] l → Represents t s′ r [] l
+  represented-behind l h =
       record {
         stored =
             record {

@@ -40,8 +40,8 @@ use Rattle.part_invariant.specs.Lines.{RoomForBytes, RepresentedBetween, GrowsB
 use Rattle.capacity.specs.Music.{musicIn, musicOf}
 use Rattle.part_items.specs.Items.{begun, versed, rowFrom, lined, ownAt, Ready, Taken, after, Built}
 use Rattle.part_items.proofs.Music.{music-append, mine-append, rest-first, rest-then, rest-as, rest-room, grows-none}
-use Rattle.part_items.proofs.Each.{begun-held, addedBy, item-lines}
-use Rattle.part_items.proofs.Rows.{withLine, row-lined, only-lined, held-behind}
+use Rattle.part_items.proofs.Each.{begun-represented, addedBy, item-lines}
+use Rattle.part_items.proofs.Rows.{withLine, row-lined, only-lined, represented-behind}
 
 -- ONE ITEM
 -- whose it is
@@ -67,25 +67,25 @@ unfolding lineOf
 one-line text p q e = ap (map (lineIn text)) (filter-yes (isLine p) q [] e)
 
 -- A KIND past the lyric lines' is a music line
-played-kind : (k : ℕ) (text : List ℕ) (q : Row) → (k ≡ 0 → ⊥) → (k ≡ 1 → ⊥) → (k ≡ 2 → ⊥) → (k ≡ 3 → ⊥) → (k ≡ 4 → ⊥) → (k ≡ 5 → ⊥) → itemAs k text q ≡ musicLine (q .unit) (q .a, q .b) (between text (q .at) (q .end))
+music-line-kind : (k : ℕ) (text : List ℕ) (q : Row) → (k ≡ 0 → ⊥) → (k ≡ 1 → ⊥) → (k ≡ 2 → ⊥) → (k ≡ 3 → ⊥) → (k ≡ 4 → ⊥) → (k ≡ 5 → ⊥) → itemAs k text q ≡ musicLine (q .unit) (q .a, q .b) (between text (q .at) (q .end))
 unfolding itemAs
-played-kind zero text q a b c d e f = absurd (a refl)
-played-kind (suc zero) text q a b c d e f = absurd (b refl)
-played-kind (suc (suc zero)) text q a b c d e f = absurd (c refl)
-played-kind (suc (suc (suc zero))) text q a b c d e f = absurd (d refl)
-played-kind (suc (suc (suc (suc zero)))) text q a b c d e f = absurd (e refl)
-played-kind (suc (suc (suc (suc (suc zero))))) text q a b c d e f = absurd (f refl)
-played-kind (suc (suc (suc (suc (suc (suc k)))))) text q a b c d e f = refl
+music-line-kind zero text q a b c d e f = absurd (a refl)
+music-line-kind (suc zero) text q a b c d e f = absurd (b refl)
+music-line-kind (suc (suc zero)) text q a b c d e f = absurd (c refl)
+music-line-kind (suc (suc (suc zero))) text q a b c d e f = absurd (d refl)
+music-line-kind (suc (suc (suc (suc zero)))) text q a b c d e f = absurd (e refl)
+music-line-kind (suc (suc (suc (suc (suc zero))))) text q a b c d e f = absurd (f refl)
+music-line-kind (suc (suc (suc (suc (suc (suc k)))))) text q a b c d e f = refl
 
 -- a lyric line with its verse and first note is the same item
-same-sung : (k : ℕ) (text : List ℕ) (q : Row) (verse start : ℕ) → k ≡ 5 → itemAs k text (withLine q verse start) ≡ itemAs k text q
+same-lyrics : (k : ℕ) (text : List ℕ) (q : Row) (verse start : ℕ) → k ≡ 5 → itemAs k text (withLine q verse start) ≡ itemAs k text q
 unfolding itemAs
-same-sung k text q verse start e = ap (λ (j : ℕ). itemAs j text (withLine q verse start)) e ∙ sym (ap (λ (j : ℕ). itemAs j text q) e)
+same-lyrics k text q verse start e = ap (λ (j : ℕ). itemAs j text (withLine q verse start)) e ∙ sym (ap (λ (j : ℕ). itemAs j text q) e)
 
--- WHAT A LYRIC LINE NEEDS of a part that is held: the next verse
-versed-held : {t : Tables} {s : List ℕ} {r : Registers} (header : Key) (placed : Bool) (words : List ℕ) (l : LogState) → Represents t s r [] l → Represents t s (versed r placed) [] (onItem header l (lyricLine placed words))
+-- WHAT A LYRIC LINE NEEDS of a part that is represented: the next verse
+versed-represented : {t : Tables} {s : List ℕ} {r : Registers} (header : Key) (placed : Bool) (words : List ℕ) (l : LogState) → Represents t s r [] l → Represents t s (versed r placed) [] (onItem header l (lyricLine placed words))
 unfolding onItem onLyric
-versed-held header placed words l h =
+versed-represented header placed words l h =
     record {
       stored = h .stored;
       scoped = h .scoped;
@@ -141,12 +141,12 @@ module _ (text : List ℕ) (t : Tables) (header : Key) (i : ℕ) (s : List ℕ) 
   own-music : (x : Item) → itemAs (row .kind) text row ≡ x → musicOf (ownAt text (row .part) s i) ≡ musicIn x
   own-music x e = ap musicOf (own-is x e) ∙ music-one x
 
-  held-lined : Ready text t (row .part) i s r → (l : LogState) → Represents t s r [] l → Represents t (lined s i (r .verses .verse) (r .verses .start)) r [] l
-  held-lined ready l h =
+  represented-lined : Ready text t (row .part) i s r → (l : LogState) → Represents t s r [] l → Represents t (lined s i (r .verses .verse) (r .verses .start)) r [] l
+  represented-lined ready l h =
       let m = splice s (rowFrom i + 3) (r .verses .verse ∷ []) in
       let room = rest-room (ready .room) in
-      held-behind (room-same (length-splice s (rowFrom i + 3) (r .verses .verse ∷ [])) room) _ (rowFrom i + 12) (le32 (r .verses .start)) refl (omega (arith, ready .before, length-little 4 (r .verses .start))) l
-      (held-behind room m (rowFrom i + 3) (r .verses .verse ∷ []) refl (omega (arith, ready .before)) l h)
+      represented-behind (room-same (length-splice s (rowFrom i + 3) (r .verses .verse ∷ [])) room) _ (rowFrom i + 12) (le32 (r .verses .start)) refl (omega (arith, ready .before, length-little 4 (r .verses .start))) l
+      (represented-behind room m (rowFrom i + 3) (r .verses .verse ∷ []) refl (omega (arith, ready .before)) l h)
 
   -- none but a lyric line
   pub taken-plain : (x : Item) → itemAs (row .kind) text row ≡ x → (row .kind ≡ 5 → ⊥) → ((l : LogState) → addedBy l x ≡ []) → {s′ : List ℕ} {r′ : Registers} {bs : List ℕ} → musicIn x ≡ bs → SimulatesItem t s r s′ r′ bs (λ l. onItem header l x)
@@ -168,31 +168,31 @@ module _ (text : List ℕ) (t : Tables) (header : Key) (i : ℕ) (s : List ℕ) 
       }
 
   -- each kind of them
-  pub taken-born : {r′ : Registers} → row .kind ≡ 0 → SimulatesItem t s r s r′ [] (λ l. onItem header l (voiceDeclared (eqb (row .a) 1))) → Taken text t header (row .part) i s r s r′
+  pub taken-voice-declared : {r′ : Registers} → row .kind ≡ 0 → SimulatesItem t s r s r′ [] (λ l. onItem header l (voiceDeclared (eqb (row .a) 1))) → Taken text t header (row .part) i s r s r′
   unfolding itemAs addedBy musicIn
-  taken-born e k = taken-plain (voiceDeclared (eqb (row .a) 1)) (ap (λ (j : ℕ). itemAs j text row) e) (λ f. omega (arith, e, f)) (λ l. refl) refl k
+  taken-voice-declared e k = taken-plain (voiceDeclared (eqb (row .a) 1)) (ap (λ (j : ℕ). itemAs j text row) e) (λ f. omega (arith, e, f)) (λ l. refl) refl k
 
   pub taken-reset : {r′ : Registers} → row .kind ≡ 1 → SimulatesItem t s r s r′ [] (λ l. onItem header l reset) → Taken text t header (row .part) i s r s r′
   unfolding itemAs addedBy musicIn
   taken-reset e k = taken-plain reset (ap (λ (j : ℕ). itemAs j text row) e) (λ f. omega (arith, e, f)) (λ l. refl) refl k
 
-  pub taken-headed : {r′ : Registers} → row .kind ≡ 2 → SimulatesItem t s r s r′ [] (λ l. onItem header l keyInHeader) → Taken text t header (row .part) i s r s r′
+  pub taken-key-in-header : {r′ : Registers} → row .kind ≡ 2 → SimulatesItem t s r s r′ [] (λ l. onItem header l keyInHeader) → Taken text t header (row .part) i s r s r′
   unfolding itemAs addedBy musicIn
-  taken-headed e k = taken-plain keyInHeader (ap (λ (j : ℕ). itemAs j text row) e) (λ f. omega (arith, e, f)) (λ l. refl) refl k
+  taken-key-in-header e k = taken-plain keyInHeader (ap (λ (j : ℕ). itemAs j text row) e) (λ f. omega (arith, e, f)) (λ l. refl) refl k
 
-  pub taken-keyed : {s′ : List ℕ} {r′ : Registers} → row .kind ≡ 3 → SimulatesItem t s r s′ r′ [] (λ l. onItem header l (keyChange (record { fifths = row .a; minor = eqb (row .b) 1 }))) → Taken text t header (row .part) i s r s′ r′
+  pub taken-key-change : {s′ : List ℕ} {r′ : Registers} → row .kind ≡ 3 → SimulatesItem t s r s′ r′ [] (λ l. onItem header l (keyChange (record { fifths = row .a; minor = eqb (row .b) 1 }))) → Taken text t header (row .part) i s r s′ r′
   unfolding itemAs addedBy musicIn
-  taken-keyed e k = taken-plain (keyChange (record { fifths = row .a; minor = eqb (row .b) 1 })) (ap (λ (j : ℕ). itemAs j text row) e) (λ f. omega (arith, e, f)) (λ l. refl) refl k
+  taken-key-change e k = taken-plain (keyChange (record { fifths = row .a; minor = eqb (row .b) 1 })) (ap (λ (j : ℕ). itemAs j text row) e) (λ f. omega (arith, e, f)) (λ l. refl) refl k
 
-  pub taken-metered : {s′ : List ℕ} {r′ : Registers} → row .kind ≡ 4 → SimulatesItem t s r s′ r′ [] (λ l. onItem header l (meterChange (row .a, row .b))) → Taken text t header (row .part) i s r s′ r′
+  pub taken-meter-change : {s′ : List ℕ} {r′ : Registers} → row .kind ≡ 4 → SimulatesItem t s r s′ r′ [] (λ l. onItem header l (meterChange (row .a, row .b))) → Taken text t header (row .part) i s r s′ r′
   unfolding itemAs addedBy musicIn
-  taken-metered e k = taken-plain (meterChange (row .a, row .b)) (ap (λ (j : ℕ). itemAs j text row) e) (λ f. omega (arith, e, f)) (λ l. refl) refl k
+  taken-meter-change e k = taken-plain (meterChange (row .a, row .b)) (ap (λ (j : ℕ). itemAs j text row) e) (λ f. omega (arith, e, f)) (λ l. refl) refl k
 
   -- a lyric line
-  pub taken-sung : row .kind ≡ 5 → Ready text t (row .part) i s r → (s′ : List ℕ) (r′ : Registers) → r′ ≡ versed r (eqb (row .a) 1) → r .verses .start < 2 ^ 32 → s′ ≡ lined s i (r .verses .verse) (r .verses .start)
+  pub taken-lyric-line : row .kind ≡ 5 → Ready text t (row .part) i s r → (s′ : List ℕ) (r′ : Registers) → r′ ≡ versed r (eqb (row .a) 1) → r .verses .start < 2 ^ 32 → s′ ≡ lined s i (r .verses .verse) (r .verses .start)
       → Taken text t header (row .part) i s r s′ r′
   unfolding itemIn isLine lineIn addedBy itemAs musicIn
-  taken-sung e ready s′ r′ er small es =
+  taken-lyric-line e ready s′ r′ er small es =
       let words = between text (row .at) (row .end) in
       let x : Item = lyricLine (eqb (row .a) 1) words in
       let a : itemAs (row .kind) text row ≡ x = ap (λ (j : ℕ). itemAs j text row) e in
@@ -210,12 +210,12 @@ module _ (text : List ℕ) (t : Tables) (header : Key) (i : ℕ) (s : List ℕ) 
         middle = m;
         own-row = only-lined s i (r .verses .verse) (r .verses .start);
         tables = subst (λ (u : List ℕ). Only (t .heads) (t .end) m u) (sym es) (only-none (t .heads) (t .end) m);
-        same-item = ap (itemIn text) now ∙ ap (λ (y : Item). (q .part, y)) (same-sung (q .kind) text q (r .verses .verse) (r .verses .start) five);
+        same-item = ap (itemIn text) now ∙ ap (λ (y : Item). (q .part, y)) (same-lyrics (q .kind) text q (r .verses .verse) (r .verses .start) five);
         grows = rw er (grows-none (r .counts) (musicOf (ownAt text (row .part) s i)));
         holds =
             λ l b h.
-            let w = held-lined ready l h in
-            subst (λ (xs : List Item). Represents t s′ r′ [] (foldl (onItem header) l xs)) (sym o) (subst (λ (u : List ℕ). Represents t u r′ [] (onItem header l x)) (sym es) (subst (λ (u : Registers). Represents t m u [] (onItem header l x)) (sym er) (versed-held header (eqb (row .a) 1) words l w)));
+            let w = represented-lined ready l h in
+            subst (λ (xs : List Item). Represents t s′ r′ [] (foldl (onItem header) l xs)) (sym o) (subst (λ (u : List ℕ). Represents t u r′ [] (onItem header l x)) (sym es) (subst (λ (u : Registers). Represents t m u [] (onItem header l x)) (sym er) (versed-represented header (eqb (row .a) 1) words l w)));
         lines =
             λ l h. ap (λ (xs : List Item). reverse (foldl (onItem header) l xs .verses .lines)) o ∙ ap reverse (item-lines header l x)
             ∙ reverse-one (record { start = l .verses .start; verse = l .verses .verse; text = words }) (l .verses .lines)
@@ -225,17 +225,17 @@ module _ (text : List ℕ) (t : Tables) (header : Key) (i : ℕ) (s : List ℕ) 
 
   -- a music line
   module _ (n0 : row .kind ≡ 0 → ⊥) (n1 : row .kind ≡ 1 → ⊥) (n2 : row .kind ≡ 2 → ⊥) (n3 : row .kind ≡ 3 → ⊥) (n4 : row .kind ≡ 4 → ⊥) (n5 : row .kind ≡ 5 → ⊥) where
-    is-played : itemAs (row .kind) text row ≡ musicLine (row .unit) (row .a, row .b) (between text (row .at) (row .end))
-    is-played = played-kind (row .kind) text row n0 n1 n2 n3 n4 n5
+    is-music-line : itemAs (row .kind) text row ≡ musicLine (row .unit) (row .a, row .b) (between text (row .at) (row .end))
+    is-music-line = music-line-kind (row .kind) text row n0 n1 n2 n3 n4 n5
 
-    pub played-room : Ready text t (row .part) i s r → (line : List ℕ) → line ≡ between text (row .at) (row .end) → RoomForBytes t (r .counts) (length s) line × RepresentedBetween t s r
+    pub music-line-room : Ready text t (row .part) i s r → (line : List ℕ) → line ≡ between text (row .at) (row .end) → RoomForBytes t (r .counts) (length s) line × RepresentedBetween t s r
     unfolding musicIn
-    played-room ready line e = (rest-as (own-music (musicLine (row .unit) (row .a, row .b) (between text (row .at) (row .end))) is-played ∙ sym e) (ready .room), ready .waits)
+    music-line-room ready line e = (rest-as (own-music (musicLine (row .unit) (row .a, row .b) (between text (row .at) (row .end))) is-music-line ∙ sym e) (ready .room), ready .waits)
 
-    pub taken-played : {s′ : List ℕ} {r′ : Registers} (line : List ℕ) → line ≡ between text (row .at) (row .end) → SimulatesItem t s r s′ r′ line (onLine (row .unit) (row .a, row .b) line) → Taken text t header (row .part) i s r s′ r′
+    pub taken-music-line : {s′ : List ℕ} {r′ : Registers} (line : List ℕ) → line ≡ between text (row .at) (row .end) → SimulatesItem t s r s′ r′ line (onLine (row .unit) (row .a, row .b) line) → Taken text t header (row .part) i s r s′ r′
     unfolding addedBy musicIn onItem
-    taken-played {s′} {r′} line e k =
-        taken-plain (musicLine (row .unit) (row .a, row .b) (between text (row .at) (row .end))) is-played n5 (λ l. refl) refl
+    taken-music-line {s′} {r′} line e k =
+        taken-plain (musicLine (row .unit) (row .a, row .b) (between text (row .at) (row .end))) is-music-line n5 (λ l. refl) refl
         (subst (λ (b : List ℕ). SimulatesItem t s r s′ r′ b (onLine (row .unit) (row .a, row .b) b)) e k)
 
 -- what the other kinds need
@@ -294,7 +294,7 @@ module _ (text : List ℕ) (t : Tables) (header : Key) (p n : ℕ) (s₀ : List 
         lines =
             ap (λ (rs : List Row). map (lineIn text) (filter (isLine p) rs)) (rows-none decItem itemBytes s₀ itemsFrom)
             ∙ sym (ap (λ (xs : List (ℕ × Item)). reverse (foldl (onItem header) newLog (itemsOf p xs) .verses .lines)) none);
-        represents = rw (none, e) (begun-held t s₀ (omega (arith, room .for-scopes, room .ends)));
+        represents = rw (none, e) (begun-represented t s₀ (omega (arith, room .for-scopes, room .ends)));
         room = rw e room;
       }
 

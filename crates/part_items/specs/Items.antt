@@ -12,9 +12,9 @@ use Rattle.reader.specs.Scan.{Item}
 use Rattle.reader.specs.Steps.{itemsOf}
 use Rattle.part_layout.specs.Log.{LogState, newLog}
 use Rattle.part_layout.specs.Ends.{onItem}
-use Rattle.part_layout.proofs.Lines.{Between}
+use Rattle.part_layout.specs.Lines.{Between}
 use Rattle.capacity.specs.Music.{musicOf}
-use Rattle.scan_table.specs.Rows.{itemsFrom, itemBytes, itemIn, itemsIn}
+use Rattle.scan_table.specs.Rows.{itemsFrom, itemBytes, tableEnd, itemIn, itemsIn}
 use Rattle.lyrics.specs.Items.{itemAt, lineOf, linesIn}
 use Rattle.part_rows.specs.Table.{Only}
 use Rattle.part_registers.specs.declared.Tables.{Tables}
@@ -40,11 +40,11 @@ begun =
     }
 
 -- with another key
-abbrev pub keyedAs : Registers → ℕ → Bool → Registers
-keyedAs r fifths minor =
+abbrev pub keyedAs : Registers → Key → Registers
+keyedAs r k =
     record {
       counts = r .counts;
-      key = record { fifths = fifths; minor = minor; scopes = r .key .scopes };
+      key = record { fifths = k .fifths; minor = k .minor; scopes = r .key .scopes };
       last = r .last;
       pending = r .pending;
       line = r .line;
@@ -73,7 +73,7 @@ versed r placed = withVerse r (cond placed (nextVerse (r .verses .verse)) (r .ve
 
 -- where item i stands
 abbrev pub rowFrom : ℕ → ℕ
-rowFrom i = itemsFrom + itemBytes * i
+rowFrom i = tableEnd i
 
 -- its row with a verse and a first note
 abbrev pub lined : List ℕ → ℕ → ℕ → ℕ → List ℕ
@@ -83,7 +83,7 @@ lined s i verse start = splice (splice s (rowFrom i + 3) (verse ∷ [])) (rowFro
 abbrev pub ownAt : List ℕ → ℕ → List ℕ → ℕ → List Item
 ownAt text p s i = itemsOf p (itemIn text (itemAt s i) ∷ [])
 
--- ITEM i CAN BE TAKEN: a part is held, there is room, and the row stands before the tables
+-- ITEM i CAN BE TAKEN: a part is represented, there is room, and the row stands before the tables
 pub record Ready (text : List ℕ) (t : Tables) (p i : ℕ) (s : List ℕ) (r : Registers) : Type 0 where
   pub room : RoomForBytes t (r .counts) (length s) (musicOf (ownAt text p s i))
   pub waits : RepresentedBetween t s r
@@ -103,7 +103,7 @@ pub record Taken (text : List ℕ) (t : Tables) (header : Key) (p i : ℕ) (s : 
 abbrev pub after : Key → List ℕ → List ℕ → ℕ → ℕ → LogState
 after header text s p n = foldl (onItem header) newLog (itemsOf p (itemsIn text s n))
 
--- ALL ITEMS were taken: the part is held, the line table is the same, and its lyric lines have their verses and first notes
+-- ALL ITEMS were taken: the part is represented, the line table is the same, and its lyric lines have their verses and first notes
 pub record Built (text : List ℕ) (t : Tables) (header : Key) (p n : ℕ) (s s′ : List ℕ) (r : Registers) : Type 0 where
   pub represents : Represents t s′ r [] (after header text s p n)
   pub room : RoomForBytes t (r .counts) (length s′) []

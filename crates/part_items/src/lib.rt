@@ -1,19 +1,21 @@
-// The items of a part in order (the line table, crate table): what each does to the part's tables and registers.
+// The items of a part in order (the line table, crate scan_table): what each does to the part's tables and registers.
 ghost use mathlib.Core.Path.{_≡_};
 ghost use mathlib.Core.Bool.{cond};
 ghost use mathlib.Core.List.{List, []};
 ghost use Prim.Native.Nat.{ℕ, _+_, _*_, _^_, _≤_, _<_};
 ghost use lib.ListN.{length};
-ghost use Rattle.standard.specs.Keys.{Key};
+ghost use Rattle.standard.specs.Keys.{Key as StandardKey};
 ghost use Rattle.standard.specs.Lyrics.{nextVerse};
 ghost use Rattle.reader.specs.Scan as scan;
 ghost use Rattle.reader.specs.Steps.{itemsOf};
+ghost use Rattle.field_keys.specs.Passed.{keyAs};
 ghost use Rattle.part_layout.specs.Ends.{onItem};
 ghost use Rattle.capacity.specs.Music.{musicOf};
-ghost use Rattle.scan_table.specs.Rows.{itemsIn, RowIs};
+ghost use Rattle.scan_table.specs.Rows.{itemsIn, RowIs, tableEnd};
 ghost use Rattle.lyrics.specs.Items.{itemAt};
 ghost use Rattle.part_invariant.specs.Lines.{RoomForBytes, RepresentedBetween, SimulatesItem};
 ghost use Rattle.part_items.specs.Items.{begun, keyedAs, versed, lined, Ready, Taken, Built};
+use field_keys::Key;
 use part_accidentals::AbcPartParseState;
 use part_registers::Counts;
 use part_registers::Group;
@@ -74,35 +76,39 @@ pub fn begin_part() -> Registers
 }
 
 // The registers with another key.
-fn set_key(r: Registers, fifths: u8, minor: bool) -> Registers
-    ensures { λ x. ⌜ x ≡ keyedAs r fifths minor ⌝ }
+fn set_key(r: Registers, key: Key) -> Registers
+    ensures { λ x. ⌜ x ≡ keyedAs r (keyAs key) ⌝ }
 {
     let mut x = r;
-    x.key.fifths = fifths;
-    x.key.minor = minor;
+    x.key.fifths = key.fifths;
+    x.key.minor = key.minor;
     x
 }
 
 // The part is named for the first time: in the header it begins with C major, else with the header's key.
-fn on_voice_declared(r: Registers, in_header: bool, fifths: u8, minor: bool) -> Registers
-    ensures { λ x. ⌜ ((t : Tables) (s : List ℕ) → SimulatesItem t s r s x [] (λ l. onItem (record { fifths = fifths; minor = minor }) l (scan.voiceDeclared in_header))) ⌝ }
+fn on_voice_declared(r: Registers, in_header: bool, header: Key) -> Registers
+    ensures { λ x. ⌜ ((t : Tables) (s : List ℕ) → SimulatesItem t s r s x [] (λ l. onItem (keyAs header) l (scan.voiceDeclared in_header))) ⌝ }
 {
     if in_header {
-        return set_key(r, 128, false);
+        let plain = Key {
+            fifths: 128,
+            minor: false,
+        };
+        return set_key(r, plain);
     }
-    set_key(r, fifths, minor)
+    set_key(r, header)
 }
 
 // The part hears the header's key.
-fn on_header_key(r: Registers, fifths: u8, minor: bool) -> Registers
-    ensures { λ x. ⌜ ((t : Tables) (s : List ℕ) → SimulatesItem t s r s x [] (λ l. onItem (record { fifths = fifths; minor = minor }) l scan.keyInHeader)) ⌝ }
+fn on_header_key(r: Registers, header: Key) -> Registers
+    ensures { λ x. ⌜ ((t : Tables) (s : List ℕ) → SimulatesItem t s r s x [] (λ l. onItem (keyAs header) l scan.keyInHeader)) ⌝ }
 {
-    set_key(r, fifths, minor)
+    set_key(r, header)
 }
 
-// A V line: nothing waits any more.
+// A V line: nothing is pending any more.
 fn on_reset(r: Registers) -> Registers
-    ensures { λ x. ⌜ ((t : Tables) (s : List ℕ) (header : Key) → SimulatesItem t s r s x [] (λ l. onItem header l scan.reset)) ⌝ }
+    ensures { λ x. ⌜ ((t : Tables) (s : List ℕ) (header : StandardKey) → SimulatesItem t s r s x [] (λ l. onItem header l scan.reset)) ⌝ }
 {
     let none = Pending {
         tie: false,
@@ -115,37 +121,23 @@ fn on_reset(r: Registers) -> Registers
 }
 
 // A K line of the body: it marks the open measure. Where there is none, the header's key is heard.
-fn on_key(
-    store: &mut [u8],
-    t: Tables,
-    r: Registers,
-    fifths: u8,
-    minor: bool,
-    sharps: u8,
-    mode: bool,
-) -> Registers
+fn on_key(store: &mut [u8], t: Tables, r: Registers, header: Key, key: Key) -> Registers
     requires { ⌜ RoomForBytes t (r .counts) (length (now store)) [] × RepresentedBetween t (now store) r ⌝ }
-    ensures { λ x. ⌜ SimulatesItem t (now (store .entry)) r (now (store .exit)) x [] (λ l. onItem (record { fifths = fifths; minor = minor }) l (scan.keyChange (record { fifths = sharps; minor = mode }))) ⌝ }
+    ensures { λ x. ⌜ SimulatesItem t (now (store .entry)) r (now (store .exit)) x [] (λ l. onItem (keyAs header) l (scan.keyChange (keyAs key))) ⌝ }
 {
     let counts = r.counts;
     if counts.heads == 0 {
-        return part_steps::hear(r, fifths, minor);
+        return part_steps::hear(r, header);
     }
     let i = (counts.heads - 1) as usize;
-    part_measures::set_key_mark(
-        store,
-        t.heads,
-        i,
-        part_ends::mode_code(mode),
-        part_rows::signed(sharps),
-    );
-    part_steps::hear(r, sharps, mode)
+    part_measures::set_key_mark(store, t.heads, i, key);
+    part_steps::hear(r, key)
 }
 
 // An M line of the body, on the open measure, if there is one.
 fn on_meter(store: &mut [u8], t: Tables, r: Registers, top: u8, bottom: u8)
     requires { ⌜ RoomForBytes t (r .counts) (length (now store)) [] × RepresentedBetween t (now store) r ⌝ }
-    ensures { λ _. ⌜ ((header : Key) → SimulatesItem t (now (store .entry)) r (now (store .exit)) r [] (λ l. onItem header l (scan.meterChange (top, bottom)))) ⌝ }
+    ensures { λ _. ⌜ ((header : StandardKey) → SimulatesItem t (now (store .entry)) r (now (store .exit)) r [] (λ l. onItem header l (scan.meterChange (top, bottom)))) ⌝ }
 {
     let counts = r.counts;
     if counts.heads == 0 {
@@ -170,7 +162,7 @@ fn next_verse(verse: u8, placed: bool) -> u8
 
 // A lyric line is kept for the end: its row gets its verse and its first note.
 fn on_lyric(store: &mut [u8], i: usize, r: Registers, placed: bool) -> Registers
-    requires { ⌜ 256 + 16 * i + 16 ≤ length (now store) ⌝ }
+    requires { ⌜ tableEnd (i + 1) ≤ length (now store) ⌝ }
     ensures { λ x. ⌜ (x ≡ versed r placed) × (r .verses .start < 2 ^ 32) ⌝ }
     ensures { λ _. ⌜ now (store .exit) ≡ lined (now (store .entry)) i (r .verses .verse) (r .verses .start) ⌝ }
 {
@@ -192,24 +184,27 @@ fn on_item(
     row: Row,
     t: Tables,
     r: Registers,
-    fifths: u8,
-    minor: bool,
+    header: Key,
 ) -> Registers
     requires { ⌜ Ready (now text) t (row .part) i (now store) r × RowIs (now text) (itemAt (now store) i) row ⌝ }
-    ensures { λ x. ⌜ Taken (now (text .entry)) t (record { fifths = fifths; minor = minor }) (row .part) i (now (store .entry)) r (now (store .exit)) x ⌝ }
+    ensures { λ x. ⌜ Taken (now (text .entry)) t (keyAs header) (row .part) i (now (store .entry)) r (now (store .exit)) x ⌝ }
 {
     let kind = row.kind;
     if kind == 0 {
-        return on_voice_declared(r, row.a == 1, fifths, minor);
+        return on_voice_declared(r, row.a == 1, header);
     }
     if kind == 1 {
         return on_reset(r);
     }
     if kind == 2 {
-        return on_header_key(r, fifths, minor);
+        return on_header_key(r, header);
     }
     if kind == 3 {
-        return on_key(store, t, r, fifths, minor, row.a, row.b == 1);
+        let key = Key {
+            fifths: row.a,
+            minor: row.b == 1,
+        };
+        return on_key(store, t, r, header, key);
     }
     if kind == 4 {
         on_meter(store, t, r, row.a, row.b);
@@ -231,17 +226,16 @@ fn take_item(
     part: u8,
     t: Tables,
     r: Registers,
-    fifths: u8,
-    minor: bool,
+    header: Key,
 ) -> Registers
     requires { ⌜ Ready (now text) t part i (now store) r ⌝ }
-    ensures { λ x. ⌜ Taken (now (text .entry)) t (record { fifths = fifths; minor = minor }) part i (now (store .entry)) r (now (store .exit)) x ⌝ }
+    ensures { λ x. ⌜ Taken (now (text .entry)) t (keyAs header) part i (now (store .entry)) r (now (store .exit)) x ⌝ }
 {
     let row = scan_table::get_item(text, store, i);
     if row.part != part {
         return r;
     }
-    on_item(text, store, i, row, t, r, fifths, minor)
+    on_item(text, store, i, row, t, r, header)
 }
 
 // The part's items among the first n, in order, into empty tables.
@@ -251,16 +245,15 @@ pub fn build_items(
     n: usize,
     part: u8,
     t: Tables,
-    fifths: u8,
-    minor: bool,
+    header: Key,
 ) -> Registers
-    requires { ⌜ (256 + 16 * n ≤ t .heads) × RoomForBytes t (begun .counts) (length (now scratch)) (musicOf (itemsOf part (itemsIn (now text) (now scratch) n))) ⌝ }
-    ensures { λ r. ⌜ Built (now (text .entry)) t (record { fifths = fifths; minor = minor }) part n (now (scratch .entry)) (now (scratch .exit)) r ⌝ }
+    requires { ⌜ (tableEnd n ≤ t .heads) × RoomForBytes t (begun .counts) (length (now scratch)) (musicOf (itemsOf part (itemsIn (now text) (now scratch) n))) ⌝ }
+    ensures { λ r. ⌜ Built (now (text .entry)) t (keyAs header) part n (now (scratch .entry)) (now (scratch .exit)) r ⌝ }
 {
     let mut r = begin_part();
     let mut i: usize = 0;
     while i < n {
-        r = take_item(text, scratch, i, part, t, r, fifths, minor);
+        r = take_item(text, scratch, i, part, t, r, header);
         i += 1;
     }
     r

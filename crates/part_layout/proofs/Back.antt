@@ -9,6 +9,7 @@ use lib.Dec.{eqb}
 use lib.ListN.{length, getD, length-append}
 use Rattle.laws.specs.Lists.{alterAt, onFirst, All}
 use Rattle.laws.proofs.Lists.{map-append, All-append}
+use Rattle.part_layout.specs.Lines.{four}
 
 -- `xs`, newest first, in the order written behind `older`
 abbrev pub back {ℓ} : {A : Type ℓ} → List A → List A → List A
@@ -76,9 +77,6 @@ map-back f [] = refl
 map-back {B = B} f (x ∷ xs) = map-append f (back [] xs) (x ∷ []) ∙ ap (λ (l : List B). l ++ (f x ∷ [])) (map-back f xs)
 
 -- FOUR: one for each overlay voice
-abbrev pub four {ℓ} : {A : Type ℓ} → (ℕ → A) → List A
-four f = f 0 ∷ f 1 ∷ f 2 ∷ f 3 ∷ []
-
 module _ {ℓ} {A : Type ℓ} where
   -- one of them
   pub getD-four : (f : ℕ → A) (o : ℕ) (d : A) → o < 4 → getD (four f) o d ≡ f o

@@ -14,7 +14,8 @@ use Rattle.standard.specs.Fields.{Meter}
 use Rattle.reader.specs.Pitches.{Scope}
 use Rattle.reader.specs.State.{Note, Volta, noVolta, Measure, Line, Verses, PartState, isEmpty}
 use Rattle.part_layout.specs.Log.{Head, LogState, noCounts}
-use Rattle.part_layout.proofs.Back.{back, four}
+use Rattle.part_layout.specs.Lines.{four}
+use Rattle.part_layout.proofs.Back.{back}
 use Rattle.part_layout.proofs.Voices.{voice, lastOf}
 
 -- a measure

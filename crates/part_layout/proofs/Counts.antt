@@ -16,24 +16,13 @@ use Rattle.reader.specs.Records.{tagged}
 use Rattle.part_layout.specs.Log.{Head, LogState, newLog}
 use Rattle.part_layout.specs.Ends
 use Rattle.part_layout.specs.Sections.{notesIn, ofVoice}
-use Rattle.part_layout.proofs.Back.{back, length-back, All-back, map-back, four}
+use Rattle.part_layout.specs.Lines.{four, Counted, Fits}
+use Rattle.part_layout.proofs.Back.{back, length-back, All-back, map-back}
 use Rattle.part_layout.proofs.Voices.{voice}
 use Rattle.part_layout.proofs.Bars.{Bar, headOf, headsOf, logOf, measureOf, Below, Inv, Sim}
 use Rattle.part_layout.proofs.Closing.{chunk, finalOf, log-chunks, sim-final}
 use Rattle.part_layout.proofs.Same.{count-chunk, voice-order}
 use Rattle.part_layout.proofs.Reading.{sim-items}
-
--- each head's counts are those of the notes that stand for it, and no note is left
-abbrev pub Counted : List Head → List (ℕ × Note) → Type 0
-Counted [] log = log ≡ []
-Counted (m ∷ ms) log = (m .counts ≡ four (λ v. length (ofVoice v (take (notesIn m) log)))) × Counted ms (drop (notesIn m) log)
-
--- a log and its heads, as the code and the section writers need them
-pub record Fits (heads : List Head) (log : List (ℕ × Note)) : Type 0 where
-  pub four-counts : All (λ (m : Head). length (m .counts) ≡ 4) heads
-  pub counted : Counted heads log
-  pub all-notes : sum notesIn heads ≡ length log
-  pub voices-below : All (λ (x : ℕ × Note). x .0 < 4) log
 
 -- OF BARS, the oldest first
 -- a voice's notes in the log are as many as in the measure
@@ -95,6 +84,10 @@ sim-measures l p s =
     ∙ ap (λ (x : PartState). length (x .measures)) (s .plain-is)
 
 -- EVERY PART
+pub items-fit : (header : Key) (items : List Item) → Fits (foldl (Ends.onItem header) newLog items .heads) (foldl (Ends.onItem header) newLog items .log)
+items-fit header items = sim-fits _ _ (sim-items header items)
+
+-- once it is ended
 pub build-fits : (header : Key) (items : List Item) → Fits (Ends.build header items .heads) (Ends.build header items .log)
 unfolding Ends.build Ends.finished
 build-fits header items =

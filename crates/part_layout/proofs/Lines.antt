@@ -1,5 +1,4 @@
--- WHILE A LINE IS READ as the code keeps it: a measure is open, the overlay is one of four voices, each last place is 0 or holds a note of its voice in the
--- open measure, and where a beam runs there is one. Every token keeps it, and every line of a part begins so.
+-- WHILE A LINE IS READ, as the code keeps it, the state is Standing: every line of a part begins so, and every token keeps it.
 use Prim.Native.Nat.{ℕ, zero, suc, _-_, _≤_, _<_}
 use mathlib.Core.Path.{_≡_, refl, sym, ap, subst, _∙_}
 use mathlib.Core.List.{List, [], _∷_, _++_}
@@ -19,32 +18,13 @@ use Rattle.part_layout.specs.Log
 use Rattle.part_layout.specs.Log.{Head, LogState, newLog, lastPlace}
 use Rattle.part_layout.specs.Ends
 use Rattle.part_layout.specs.Sections.{notesIn}
+use Rattle.part_layout.specs.Lines.{Place, Standing, Between}
 use Rattle.part_layout.proofs.Back.{length-back, getD-four}
 use Rattle.part_layout.proofs.Voices.{voice, lastOf, lastOf-le, lastOf-open, lastOf-voice, lastOf-none, none-lastOf}
 use Rattle.part_layout.proofs.Bars.{Bar, BarState, setBars, headOf, headsOf, logOf, lastsOf, laid, measureOf, plain, Reads, Inv, Reading, Sim, sim-step}
 use Rattle.part_layout.proofs.Measures.{sim-begins}
 use Rattle.part_layout.proofs.Reading.{sim-token, sim-between, sim-item, sim-items}
-use Rattle.part_layout.proofs.Counts.{Fits, fits-list}
-
--- place p of voice v, which has `count` notes in the open measure, where `before` notes stand before that
-pub record Place (log : List (ℕ × Note)) (before count v p : ℕ) : Type 0 where
-  pub inside : p ≤ length log
-  pub behind : 0 < p → before < p
-  pub of-voice : (d : ℕ × Note) → 0 < p → getD log (p - 1) d .0 ≡ v
-  pub none : p ≡ 0 → count ≡ 0
-  pub only-none : count ≡ 0 → p ≡ 0
-
--- what holds of the state
-pub record Standing (l : LogState) : Type 0 where
-  pub older : List Head
-  pub open-head : Head
-  pub heads-are : l .heads ≡ older ++ (open-head ∷ [])
-  pub overlay-4 : l .line .overlay < 4
-  pub scopes-4 : length (l .scopes) ≡ 4
-  pub last-4 : length (l .last) ≡ 4
-  pub fits : Fits (l .heads) (l .log)
-  pub places : (v : ℕ) → v < 4 → Place (l .log) (sum notesIn older) (getD (open-head .counts) v 0) v (getD (l .last) v 0)
-  pub run-has-note : 0 < l .line .run → 0 < lastPlace l
+use Rattle.part_layout.proofs.Counts.{fits-list}
 
 -- the place of a voice's last note
 last-is : (v : ℕ) (b : Bar) (bs : List Bar) → Place (logOf (b ∷ bs)) (length (logOf bs)) (length (voice v (b .notes))) v (lastOf v (length (logOf bs)) (b .notes))
@@ -94,8 +74,8 @@ standing-open s (b ∷ bs) r q =
           (λ e. let z = lastOf-none o k (b .notes) (sym (at o (r .good .place)) ∙ e) in omega (arith, q .seen u, ap length sings, z));
     }
 
--- A PART BETWEEN LINES AND IN A LINE, as the code keeps it
-pub record Between (l : LogState) : Type 0 where
+-- A PART BETWEEN LINES AND IN A LINE: a plain state beside the code's, made from the same one
+pub record KeptBetween (l : LogState) : Type 0 where
   pub part : PartState
   pub sim : Sim Inv l part
   pub kept : Kept part
@@ -106,25 +86,30 @@ pub record InLine (l : LogState) : Type 0 where
   pub ready : Ready part
 
 -- so a part begins
-pub between-new : Between newLog
-between-new = record { part = newPart; sim = sim-items plainKey []; kept = kept-after plainKey [] }
+kept-new : KeptBetween newLog
+kept-new = record { part = newPart; sim = sim-items plainKey []; kept = kept-after plainKey [] }
 
 -- each item keeps it
-pub between-item : (header : Key) (l : LogState) (i : Item) → Between l → Between (Ends.onItem header l i)
-between-item header l i b =
+kept-by-item : (header : Key) (l : LogState) (i : Item) → KeptBetween l → KeptBetween (Ends.onItem header l i)
+kept-by-item header l i b =
     record {
       part = Part.onItem header (b .part) i;
       sim = sim-step Inv Inv (λ x. Ends.onItem header x i) (λ x. Part.onItem header x i) (λ s k. sim-item header s i k) l (b .part) (b .sim);
       kept = kept-item header (b .part) i (b .kept);
     }
 
+-- so any items
+kept-between : (l : LogState) → Between l → KeptBetween l
+kept-between l b = subst KeptBetween (b .made) (foldl-holds KeptBetween (Ends.onItem (b .header)) (kept-by-item (b .header)) newLog (b .items) kept-new)
+
 -- a line begins
 pub in-line-begins : (u : ℕ) (t : Meter) (l : LogState) → Between l → InLine (Log.lineBegins u t l)
 in-line-begins u t l b =
+    let k = kept-between l b in
     record {
-      part = Part.lineBegins u t (b .part);
-      sim = sim-step Inv Reading (Log.lineBegins u t) (Part.lineBegins u t) (sim-begins u t) l (b .part) (b .sim);
-      ready = ready-begins u t (b .part) (b .kept .voices-kept) (b .kept .scopes-kept);
+      part = Part.lineBegins u t (k .part);
+      sim = sim-step Inv Reading (Log.lineBegins u t) (Part.lineBegins u t) (sim-begins u t) l (k .part) (k .sim);
+      ready = ready-begins u t (k .part) (k .kept .voices-kept) (k .kept .scopes-kept);
     }
 
 -- each token keeps it
@@ -135,11 +120,6 @@ in-line-token l t b =
       sim = sim-step Reading Reading (λ x. Log.onToken x t) (λ x. Part.onToken x t) (λ s k. sim-token s t k) l (b .part) (b .sim);
       ready = ready-token (b .part) t (b .ready);
     }
-
--- after a line the part is between lines again
-pub in-line-ends : (l : LogState) → InLine l → Between l
-in-line-ends l b =
-    record { part = b .part; sim = sim-between l (b .part) (b .sim); kept = record { scopes-kept = b .ready .scopes-4; voices-kept = b .ready .voices-4 } }
 
 -- what it says
 pub standing : (l : LogState) → InLine l → Standing l
@@ -166,7 +146,7 @@ last-voice l b = let s = standing l b in s .places (l .line .overlay) (s .overla
 
 -- AFTER ANY ITEMS a part is between lines
 pub between-items : (header : Key) (items : List Item) → Between (foldl (Ends.onItem header) newLog items)
-between-items header items = foldl-holds Between (Ends.onItem header) (between-item header) newLog items between-new
+between-items header items = record { header = header; items = items; made = refl }
 
 -- AFTER ANY TOKENS of a line that began so it is in a line
 pub in-line-tokens : (u : ℕ) (t : Meter) (ts : List Token) (l : LogState) → Between l → InLine (foldl Log.onToken (Log.lineBegins u t l) ts)

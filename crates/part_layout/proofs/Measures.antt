@@ -19,7 +19,8 @@ use Rattle.reader.specs.Part
 use Rattle.reader.specs.Part.{ended}
 use Rattle.part_layout.specs.Log
 use Rattle.part_layout.specs.Log.{Head, noCounts, onLastHead, isEmptyHead, openIsEmpty, newHead, endedHeads, endedLast}
-use Rattle.part_layout.proofs.Back.{back, four}
+use Rattle.part_layout.specs.Lines.{four}
+use Rattle.part_layout.proofs.Back.{back}
 use Rattle.part_layout.proofs.Voices.{voice, lastOf}
 use Rattle.part_layout.proofs.Bars.{Bar, BarState, barLeft, barRight, newBar, setBars, headOf, headsOf, logOf, lastsOf, laid, measureOf, measuresOf, plain, Good, Reads, Inv, Reading, Sim}
 use Rattle.part_layout.proofs.Writing.{onLastHead-snoc}

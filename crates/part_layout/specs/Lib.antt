@@ -1,4 +1,5 @@
 pub mod Log
 pub mod Ends
 pub mod Sections
+pub mod Lines
 pub mod All

@@ -14,7 +14,7 @@ use Rattle.reader.specs.Records.{keyMarkBytes, passBits, noteBytes, pitchBytes,
 use Rattle.part_layout.specs.Log.{Head}
 use Rattle.part_layout.specs.Ends.{Laid}
 
--- MEASURE, 28 bytes
+-- MEASURE: measureWidth bytes, where its counts are four
 unfoldable pub headBytes : Head → List ℕ
 headBytes m =
     concat (map le32 (m .counts))

@@ -18,18 +18,18 @@ use Rattle.standard.specs.Bars.{Barline, normal}
 use Rattle.standard.specs.Fields.{Meter}
 use Rattle.reader.specs.State.{Volta, noVolta, voltaBegins}
 use Rattle.reader.specs.Codes.{barlineCode, voltaCode, modeCode}
-use Rattle.reader.specs.Records.{keyMarkBytes, passBits, signed8}
+use Rattle.reader.specs.Records.{keyMarkBytes, passBits, signed8, measureWidth}
 use Rattle.part_layout.specs.Log.{Head, newHead, withCounts, withLeft, withRight, withMeter, withKeyMark, withVolta, isEmptyHead}
 use Rattle.part_layout.specs.Sections.{headBytes}
-use Rattle.part_measures.specs.Heads.{headRow, newRow, noNotes}
+use Rattle.part_measures.specs.Heads.{headRow, newRow, noNotes, leftAt, rightAt, meterAt, keyMarkAt, voltaAt}
 
 -- WIDTH
-length-by : (m : Head) (k : Option Key) → m .key ≡ k → length (headRow m) ≡ 28
+length-by : (m : Head) (k : Option Key) → m .key ≡ k → length (headRow m) ≡ measureWidth
 unfolding headRow little keyMarkBytes
 length-by m none e = rw (e, keyMarkBytes)
 length-by m (some k) e = rw (e, keyMarkBytes)
 
-pub length-head : (m : Head) → length (headRow m) ≡ 28
+pub length-head : (m : Head) → length (headRow m) ≡ measureWidth
 length-head m = length-by m (m .key) refl
 
 -- a new measure
@@ -37,11 +37,11 @@ pub new-row : (t : Meter) (left : Barline) → newRow (barlineCode left) (t .0) 
 unfolding newRow headRow newHead little keyMarkBytes passBits barlineCode voltaCode
 new-row t left = refl
 
-pub length-new : (left top bottom : ℕ) → length (newRow left top bottom) ≡ 28
+pub length-new : (left top bottom : ℕ) → length (newRow left top bottom) ≡ measureWidth
 unfolding newRow
 length-new left top bottom = refl
 
--- layout's bytes
+-- part_layout's bytes
 bytes-by : (m : Head) (cs : List ℕ) → m .counts ≡ cs → length cs ≡ 4 → headRow m ≡ headBytes m
 unfolding headRow headBytes little
 bytes-by m [] e h = absurd (omega arith)
@@ -55,32 +55,32 @@ pub head-row : (m : Head) → length (m .counts) ≡ 4 → headRow m ≡ headByt
 head-row m h = bytes-by m (m .counts) refl h
 
 -- WRITES
-pub head-left : (m : Head) (b : Barline) → splice (headRow m) 16 (barlineCode b ∷ []) ≡ headRow (withLeft b m)
+pub head-left : (m : Head) (b : Barline) → splice (headRow m) leftAt (barlineCode b ∷ []) ≡ headRow (withLeft b m)
 unfolding headRow splice little
 head-left m b = refl
 
-pub head-right : (m : Head) (b : Barline) → splice (headRow m) 17 (barlineCode b ∷ []) ≡ headRow (withRight b m)
+pub head-right : (m : Head) (b : Barline) → splice (headRow m) rightAt (barlineCode b ∷ []) ≡ headRow (withRight b m)
 unfolding headRow splice little
 head-right m b = refl
 
-pub head-meter : (m : Head) (t : Meter) → splice (headRow m) 18 (t .0 ∷ t .1 ∷ []) ≡ headRow (withMeter t m)
+pub head-meter : (m : Head) (t : Meter) → splice (headRow m) meterAt (t .0 ∷ t .1 ∷ []) ≡ headRow (withMeter t m)
 unfolding headRow splice little
 head-meter m t = refl
 
-mark-by : (m : Head) (k : Key) (o : Option Key) → m .key ≡ o → splice (headRow m) 20 (modeCode (k .minor) ∷ signed8 (k .fifths) ∷ []) ≡ headRow (withKeyMark k m)
+mark-by : (m : Head) (k : Key) (o : Option Key) → m .key ≡ o → splice (headRow m) keyMarkAt (modeCode (k .minor) ∷ signed8 (k .fifths) ∷ []) ≡ headRow (withKeyMark k m)
 unfolding headRow splice little keyMarkBytes
 mark-by m k none e = rw (e, keyMarkBytes)
 mark-by m k (some j) e = rw (e, keyMarkBytes)
 
-pub head-mark : (m : Head) (k : Key) → splice (headRow m) 20 (modeCode (k .minor) ∷ signed8 (k .fifths) ∷ []) ≡ headRow (withKeyMark k m)
+pub head-mark : (m : Head) (k : Key) → splice (headRow m) keyMarkAt (modeCode (k .minor) ∷ signed8 (k .fifths) ∷ []) ≡ headRow (withKeyMark k m)
 head-mark m k = mark-by m k (m .key) refl
 
-volta-by : (m : Head) (ps : List ℕ) (o : Option Key) → m .key ≡ o → splice (headRow m) 22 ((1 ∷ getD ps 0 0 ∷ []) ++ le32 (passBits ps)) ≡ headRow (withVolta voltaBegins ps m)
+volta-by : (m : Head) (ps : List ℕ) (o : Option Key) → m .key ≡ o → splice (headRow m) voltaAt ((1 ∷ getD ps 0 0 ∷ []) ++ le32 (passBits ps)) ≡ headRow (withVolta voltaBegins ps m)
 unfolding headRow splice little keyMarkBytes voltaCode
 volta-by m ps none e = rw (e, keyMarkBytes)
 volta-by m ps (some j) e = rw (e, keyMarkBytes)
 
-pub head-volta : (m : Head) (ps : List ℕ) → splice (headRow m) 22 ((1 ∷ getD ps 0 0 ∷ []) ++ le32 (passBits ps)) ≡ headRow (withVolta voltaBegins ps m)
+pub head-volta : (m : Head) (ps : List ℕ) → splice (headRow m) voltaAt ((1 ∷ getD ps 0 0 ∷ []) ++ le32 (passBits ps)) ≡ headRow (withVolta voltaBegins ps m)
 head-volta m ps = volta-by m ps (m .key) refl
 
 -- COUNTS
@@ -141,11 +141,11 @@ empty-by (a ∷ b ∷ c ∷ d ∷ []) h = refl
 empty-by (a ∷ b ∷ c ∷ d ∷ f ∷ cs) h = absurd (omega arith)
 
 -- in a store
-pub head-empty : (s : List ℕ) (at : ℕ) (m : Head) → part s at 28 ≡ headRow m → length (m .counts) ≡ 4 → ((v : ℕ) → v < 4 → getD (m .counts) v 0 < 2 ^ 32) → noNotes s at ≡ isEmptyHead m
+pub head-empty : (s : List ℕ) (at : ℕ) (m : Head) → part s at measureWidth ≡ headRow m → length (m .counts) ≡ 4 → ((v : ℕ) → v < 4 → getD (m .counts) v 0 < 2 ^ 32) → noNotes s at ≡ isEmptyHead m
 unfolding noNotes
 head-empty s at m e h small =
-    let n : (v : ℕ) → v < 4 → 4 * v + 4 ≤ 28 → u32At s (at + 4 * v) ≡ getD (m .counts) v 0 =
-    λ v l k. sym (littleAt-part 4 s at 28 (4 * v) k) ∙ ap (λ (r : List ℕ). u32At r (4 * v)) e ∙ head-count m v l (small v l) in
+    let n : (v : ℕ) → v < 4 → 4 * v + 4 ≤ measureWidth → u32At s (at + 4 * v) ≡ getD (m .counts) v 0 =
+    λ v l k. sym (littleAt-part 4 s at measureWidth (4 * v) k) ∙ ap (λ (r : List ℕ). u32At r (4 * v)) e ∙ head-count m v l (small v l) in
     let z : u32At s at ≡ getD (m .counts) 0 0 = ap (u32At s) (sym (add-zero at)) ∙ n 0 (omega arith) (omega arith) in
     rw (z, n 1 (omega arith) (omega arith), n 2 (omega arith) (omega arith), n 3 (omega arith) (omega arith)) (empty-by (m .counts) h)
 

@@ -25,6 +25,9 @@ keyMarkAt = 20
 abbrev pub voltaAt : ℕ
 voltaAt = 22
 
+abbrev pub firstPassAt : ℕ
+firstPassAt = 23
+
 abbrev pub passesAt : ℕ
 passesAt = 24
 
@@ -36,7 +39,7 @@ headRow m =
     ++ keyMarkBytes (m .key)
     ++ (voltaCode (m .volta) ∷ getD (m .passes) 0 0 ∷ le32 (passBits (m .passes)))
 
--- a head without notes: its left barline by number, its meter
+-- a new measure: its left barline by number, its meter
 unfoldable pub newRow : ℕ → ℕ → ℕ → List ℕ
 newRow left top bottom =
     (0 ∷ 0 ∷ 0 ∷ 0 ∷ [])

@@ -39,11 +39,11 @@ withGroup a b c n = record { kind = n .kind; value = n .value; dots = n .dots; f
 
 unfoldable pub groupedRow : Running → NoteRow → NoteRow
 groupedRow running.Nothing n = n
-groupedRow (running.Tuplet actual normal count left) n = withGroup actual normal (boundaryOf (eqb left count) (eqb left 1)) n
+groupedRow (running.Tuplet actual normal count remaining) n = withGroup actual normal (boundaryOf (eqb remaining count) (eqb remaining 1)) n
 
 unfoldable pub fewer : Running → Running
 fewer running.Nothing = running.Nothing
-fewer (running.Tuplet actual normal count left) = cond (leb left 1) running.Nothing (running.Tuplet actual normal count (left - 1))
+fewer (running.Tuplet actual normal count remaining) = cond (leb remaining 1) running.Nothing (running.Tuplet actual normal count (remaining - 1))
 
 unfoldable pub brokenRow : Bool → ℕ → NoteRow → NoteRow
 brokenRow up times n = withValue (asValue (brokenLength up times (lengthIn (n .value) (n .dots)))) n

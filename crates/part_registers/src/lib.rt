@@ -1,4 +1,4 @@
-// What is kept outside scratch while a part is read, in groups, and what a note gets from it: its tuplet, its beam, a broken rhythm's half, its marks.
+// What is kept outside scratch while a part is read, in groups, and what a note gets from it: its tuplet, its beam, a broken rhythm's half, its flags.
 ghost use mathlib.Core.Path.{_≡_};
 ghost use Prim.Native.Nat.{_≤_};
 ghost use Rattle.part_registers.specs.Notes.{beams, bitOf, flagsIn, lengthIn, boundaryOf, groupedRow, fewer, brokenRow, halvedRow, runAgain, beamedRow};
@@ -28,7 +28,7 @@ pub struct Last {
     pub places: [u32; 4],
 }
 
-// What waits for the next note: the end of a tie, a slur; and whether a grace brace is open.
+// What is pending for the next note: the end of a tie, a slur; and whether a grace brace is open.
 pub struct Pending {
     pub tie: bool,
     pub slur: bool,
@@ -52,7 +52,7 @@ pub enum Running {
         actual: u8,
         normal: u8,
         count: u64,
-        left: u64,
+        remaining: u64,
     },
 }
 
@@ -136,7 +136,7 @@ fn bit(b: bool, n: u8) -> u8
     if b { n } else { 0 }
 }
 
-// The marks of ties, slurs and graces, by what waited for the note and what stands behind it.
+// The flags of ties, slurs and graces, by what was pending and what stands behind the note.
 pub fn note_flags(p: Pending, tie: bool, slur: bool) -> u8
     ensures { λ r. ⌜ r ≡ flagsIn p tie slur ⌝ }
 {
@@ -163,12 +163,12 @@ pub fn apply_abc_tuplet(n: NoteRow, running: Running) -> NoteRow
             actual,
             normal,
             count,
-            left,
+            remaining,
         } => {
             let mut m = n;
             m.actual = actual;
             m.normal = normal;
-            m.boundary = boundary(left == count, left == 1);
+            m.boundary = boundary(remaining == count, remaining == 1);
             m
         }
     }
@@ -191,16 +191,16 @@ pub fn one_fewer(running: Running) -> Running
             actual,
             normal,
             count,
-            left,
+            remaining,
         } => {
-            if left <= 1 {
+            if remaining <= 1 {
                 return Running::Nothing;
             }
             Running::Tuplet {
                 actual,
                 normal,
                 count,
-                left: left - 1,
+                remaining: remaining - 1,
             }
         }
     }
@@ -227,7 +227,9 @@ pub fn after_half(n: NoteRow, half: Half) -> NoteRow
     }
 }
 
-// The beam run after a note (000, update_abc_beam_run): longer by one, or over.
+// The beam run after a note (000, update_abc_beam_run): longer by one, or over. The beams themselves, which the Rust's function writes too, are written where the
+// rows are: part_append::beam_before has the note before begin or continue the beam, beamed_new has the new note end it, and part_rhythm::beam_again does the
+// last note once more after an empty chord or an accidental without a note.
 pub fn update_abc_beam_run(run: u8, kind: u8, value: u8) -> u8
     ensures { λ r. ⌜ r ≡ runAgain run kind value ⌝ }
 {

@@ -21,11 +21,11 @@ use Rattle.reader.specs.State as State
 use Rattle.reader.specs.State.{Note, withHalf, withRun}
 use Rattle.reader.specs.Part.{canBeam, brokenNote, beamedAgain, runAfter}
 use Rattle.part_layout.specs.Log.{LogState, setLine, setLog, lastPlace, atPlace, noteAt, onBroken, onNothing, onToken}
-use Rattle.part_layout.proofs.Lines.{Standing}
+use Rattle.part_layout.specs.Lines.{Standing}
 use Rattle.part_rows.specs.declared.NoteRow.{NoteRow}
 use Rattle.part_rows.specs.declared.Written.{Written}
 use Rattle.part_rows.specs.Table.{Only}
-use Rattle.part_rows.specs.Encoded.{rowBytes, noteRow}
+use Rattle.part_rows.specs.Encoded.{rowBytes, noteRow, noteRowWidth, kindAt, valueAt, dotsAt, beamAt}
 use Rattle.part_rows.proofs.Bytes.{length-note, note-kind, note-value, note-dots, note-set-value, note-set-beam}
 use Rattle.part_rows.proofs.Tables.{table-byte, only-none, only-splice}
 use Rattle.part_registers.specs.declared.Tables.{Tables}
@@ -72,7 +72,7 @@ note-at (suc (suc i)) (x ∷ xs) d h k =
     note-at (suc i) xs d (omega arith) (le-of-suc-le-suc k) ∙ ap (λ (m : ℕ). some (getD (x ∷ xs) m d .1)) (sym j)
 
 -- A WRITE INTO THE LAST NOTE'S ROW
-module _ {t : Tables} {s : List ℕ} {r : Registers} (room : Room t (r .counts) (length s) 0 0 0 0) (s′ : List ℕ) (f : ℕ) (bs : List ℕ) (e : s′ ≡ splice s (t .notes + 16 * (placeOf r - 1) + f) bs) (k : f + length bs ≤ 16)
+module _ {t : Tables} {s : List ℕ} {r : Registers} (room : Room t (r .counts) (length s) 0 0 0 0) (s′ : List ℕ) (f : ℕ) (bs : List ℕ) (e : s′ ≡ splice s (t .notes + noteRowWidth * (placeOf r - 1) + f) bs) (k : f + length bs ≤ noteRowWidth)
     (some : 0 < placeOf r) (l : LogState) (st : Standing l) (h : Represents t s r [] l) where
   in-log : placeOf r - 1 < length (l .log)
   in-log = omega (arith, some, place-most l st h)
@@ -80,9 +80,9 @@ module _ {t : Tables} {s : List ℕ} {r : Registers} (room : Room t (r .counts) 
   pub last-only : Only (t .heads) (t .end) s s′
   last-only = only-splice (t .heads) (t .end) s s′ _ bs e (omega (arith, room .for-heads)) (omega (arith, in-log, h .stored .notes-are, room .for-notes, room .for-pitches, room .for-scopes))
 
-  pub last-held : (g : Note → Note) → ((x : Note) → g x .pitches ≡ x .pitches) → splice (noteRow (getD (l .log) (placeOf r - 1) someNote)) f bs ≡ noteRow (getD (l .log) (placeOf r - 1) someNote .0, g (getD (l .log) (placeOf r - 1) someNote .1))
+  pub last-represented : (g : Note → Note) → ((x : Note) → g x .pitches ≡ x .pitches) → splice (noteRow (getD (l .log) (placeOf r - 1) someNote)) f bs ≡ noteRow (getD (l .log) (placeOf r - 1) someNote .0, g (getD (l .log) (placeOf r - 1) someNote .1))
       → Represents t s′ r [] (setLog (atPlace (lastPlace l) g (l .log)) l)
-  last-held g p q =
+  last-represented g p q =
       let to : alterAt (placeOf r - 1) (λ (x : ℕ × Note). (x .0, g (x .1))) (l .log) ≡ atPlace (lastPlace l) g (l .log) =
       sym (place-at (placeOf r) g (l .log) some) ∙ ap (λ (j : ℕ). atPlace j g (l .log)) (place-is l st h) in
       let stored : Stored t (r .counts) s′ (l .heads) (atPlace (lastPlace l) g (l .log)) (pitchesIn (l .log) ++ []) =
@@ -105,34 +105,34 @@ module _ {t : Tables} {s : List ℕ} {r : Registers} (room : Room t (r .counts) 
 
 -- THE LAST NOTE READ
 module _ {t : Tables} {s : List ℕ} {r : Registers} (some : 0 < placeOf r) (l : LogState) (st : Standing l) (h : Represents t s r [] l) where
-  byte-is : (k : ℕ) → k < 16 → getD s (t .notes + 16 * (placeOf r - 1) + k) 0 ≡ getD (noteRow (getD (l .log) (placeOf r - 1) someNote)) k 0
-  byte-is k j = table-byte noteRow 16 length-note (h .stored .notes-table) (placeOf r - 1) k someNote (omega (arith, some, place-most l st h)) j
+  byte-is : (k : ℕ) → k < noteRowWidth → getD s (t .notes + noteRowWidth * (placeOf r - 1) + k) 0 ≡ getD (noteRow (getD (l .log) (placeOf r - 1) someNote)) k 0
+  byte-is k j = table-byte noteRow noteRowWidth length-note (h .stored .notes-table) (placeOf r - 1) k someNote (omega (arith, some, place-most l st h)) j
 
-  kind-is : getD s (t .notes + 16 * (placeOf r - 1)) 0 ≡ kindCode (getD (l .log) (placeOf r - 1) someNote .1 .kind)
+  kind-is : getD s (t .notes + noteRowWidth * (placeOf r - 1)) 0 ≡ kindCode (getD (l .log) (placeOf r - 1) someNote .1 .kind)
   kind-is =
-      ap (λ (k : ℕ). getD s k 0) (sym (add-zero (t .notes + 16 * (placeOf r - 1)))) ∙ byte-is 0 (omega arith) ∙ note-kind (getD (l .log) (placeOf r - 1) someNote)
+      ap (λ (k : ℕ). getD s k 0) (sym (add-zero (t .notes + noteRowWidth * (placeOf r - 1)))) ∙ byte-is kindAt (omega arith) ∙ note-kind (getD (l .log) (placeOf r - 1) someNote)
 
-  value-is : getD s (t .notes + 16 * (placeOf r - 1) + 1) 0 ≡ getD (l .log) (placeOf r - 1) someNote .1 .value
-  value-is = byte-is 1 (omega arith) ∙ note-value (getD (l .log) (placeOf r - 1) someNote)
+  value-is : getD s (t .notes + noteRowWidth * (placeOf r - 1) + valueAt) 0 ≡ getD (l .log) (placeOf r - 1) someNote .1 .value
+  value-is = byte-is valueAt (omega arith) ∙ note-value (getD (l .log) (placeOf r - 1) someNote)
 
-  dots-is : getD s (t .notes + 16 * (placeOf r - 1) + 2) 0 ≡ getD (l .log) (placeOf r - 1) someNote .1 .dots
-  dots-is = byte-is 2 (omega arith) ∙ note-dots (getD (l .log) (placeOf r - 1) someNote)
+  dots-is : getD s (t .notes + noteRowWidth * (placeOf r - 1) + dotsAt) 0 ≡ getD (l .log) (placeOf r - 1) someNote .1 .dots
+  dots-is = byte-is dotsAt (omega arith) ∙ note-dots (getD (l .log) (placeOf r - 1) someNote)
 
 -- BROKEN RHYTHM
 broken-row : (up : Bool) (times : ℕ) (x : ℕ × Note)
-    → splice (noteRow x) 1 (valueBytes (brokenValue up times (x .1 .value) (x .1 .dots))) ≡ noteRow (x .0, brokenNote (record { up = up; times = times }) (x .1))
+    → splice (noteRow x) valueAt (valueBytes (brokenValue up times (x .1 .value) (x .1 .dots))) ≡ noteRow (x .0, brokenNote (record { up = up; times = times }) (x .1))
 unfolding brokenRow
 broken-row up times x =
     note-set-value x (brokenValue up times (x .1 .value) (x .1 .dots) .value) (brokenValue up times (x .1 .value) (x .1 .dots) .dots)
     ∙ ap (λ (q : NoteRow). rowBytes q (x .0)) (broken-is up times (x .1))
 
 -- by the code's writes
-pub broken-written : (s : List ℕ) (place : ℕ) (up : Bool) (times : ℕ) (w : Written) → w ≡ record { kind = getD s place 0; value = getD s (place + 1) 0; dots = getD s (place + 2) 0 } → (m : NoteRow)
+pub broken-written : (s : List ℕ) (place : ℕ) (up : Bool) (times : ℕ) (w : Written) → w ≡ record { kind = getD s place 0; value = getD s (place + valueAt) 0; dots = getD s (place + dotsAt) 0 } → (m : NoteRow)
     → m ≡ brokenRow up times (record { kind = w .kind; value = w .value; dots = w .dots; flags = 0; beam = 0; actual = 0; normal = 0; boundary = 0; pitches = 0 })
-    → (s′ : List ℕ) → s′ ≡ splice s (place + 1) (m .value ∷ m .dots ∷ []) → s′ ≡ brokenStore s place up times
+    → (s′ : List ℕ) → s′ ≡ splice s (place + valueAt) (m .value ∷ m .dots ∷ []) → s′ ≡ brokenStore s place up times
 unfolding brokenRow
 broken-written s place up times w dw m dm s′ e =
-    e ∙ (λ i. splice s (place + 1) (dm i .value ∷ dm i .dots ∷ [])) ∙ (λ i. splice s (place + 1) (valueBytes (brokenValue up times (dw i .value) (dw i .dots))))
+    e ∙ (λ i. splice s (place + valueAt) (dm i .value ∷ dm i .dots ∷ [])) ∙ (λ i. splice s (place + valueAt) (valueBytes (brokenValue up times (dw i .value) (dw i .dots))))
 
 broken-at : (up : Bool) (times p : ℕ) (l : LogState) → 0 < p
     → setLine (withHalf (some (record { up = not up; times = times })) (l .line)) (setLog (atPlace p (brokenNote (record { up = up; times = times })) (l .log)) l) ≡ onBroken up times p l
@@ -140,9 +140,9 @@ unfolding onBroken
 broken-at up times zero l h = absurd (not-suc-le-zero h)
 broken-at up times (suc i) l h = refl
 
-waits-held : {t : Tables} {s : List ℕ} {r : Registers} (up : Bool) (times : ℕ) (l : LogState) → Represents t s r [] l
+waits-represented : {t : Tables} {s : List ℕ} {r : Registers} (up : Bool) (times : ℕ) (l : LogState) → Represents t s r [] l
     → Represents t s (halfWaits r (half.Waits up times)) [] (setLine (withHalf (some (record { up = up; times = times })) (l .line)) l)
-waits-held up times l h =
+waits-represented up times l h =
     record {
       stored = h .stored;
       scoped = h .scoped;
@@ -169,22 +169,22 @@ module _ {t : Tables} {s : List ℕ} {r : Registers} (room : Room t (r .counts) 
         holds = λ l st h. subst (λ (p : ℕ). Represents t s r [] (onBroken up times p l)) (sym z ∙ place-is l st h) h;
       }
 
-  pub broken-does : 0 < placeOf r → (s′ : List ℕ) → s′ ≡ brokenStore s (t .notes + 16 * (placeOf r - 1)) up times
+  pub broken-simulates : 0 < placeOf r → (s′ : List ℕ) → s′ ≡ brokenStore s (t .notes + noteRowWidth * (placeOf r - 1)) up times
       → Simulates t s r s′ (halfWaits r (half.Waits (not up) times)) 0 0 0 0 (λ l. onToken l (token.broken up times))
   unfolding onToken
-  broken-does is s′ e =
-      let place = t .notes + 16 * (placeOf r - 1) in
-      let bytes = valueBytes (brokenValue up times (getD s (place + 1) 0) (getD s (place + 2) 0)) in
+  broken-simulates is s′ e =
+      let place = t .notes + noteRowWidth * (placeOf r - 1) in
+      let bytes = valueBytes (brokenValue up times (getD s (place + valueAt) 0) (getD s (place + dotsAt) 0)) in
       record {
-        only = last-only room s′ 1 bytes e (omega arith) is (a .state) (a .standing) (a .represents);
+        only = last-only room s′ valueAt bytes e (omega arith) is (a .state) (a .standing) (a .represents);
         grows = same-counts (r .counts);
         holds =
             λ l st h.
             let x = getD (l .log) (placeOf r - 1) someNote in
             subst (Represents t s′ (halfWaits r (half.Waits (not up) times)) []) (broken-at up times (lastPlace l) l (omega (arith, is, place-is l st h)))
-            (waits-held (not up) times (setLog (atPlace (lastPlace l) (brokenNote (record { up = up; times = times })) (l .log)) l)
-            (last-held room s′ 1 bytes e (omega arith) is l st h (brokenNote (record { up = up; times = times })) (broken-pitches (record { up = up; times = times }))
-            ((λ i. splice (noteRow x) 1 (valueBytes (brokenValue up times (value-is is l st h i) (dots-is is l st h i)))) ∙ broken-row up times x)));
+            (waits-represented (not up) times (setLog (atPlace (lastPlace l) (brokenNote (record { up = up; times = times })) (l .log)) l)
+            (last-represented room s′ valueAt bytes e (omega arith) is l st h (brokenNote (record { up = up; times = times })) (broken-pitches (record { up = up; times = times }))
+            ((λ i. splice (noteRow x) valueAt (valueBytes (brokenValue up times (value-is is l st h i) (dots-is is l st h i)))) ∙ broken-row up times x)));
       }
 
 -- THE BEAM STEP ONCE MORE
@@ -197,20 +197,20 @@ again-short run kind value =
 module _ (s : List ℕ) (place run kind value : ℕ) (b : Bool) (e : b ≡ beams kind value) where
   pub again-first : b ≡ true → run ≡ 0 → s ≡ againStore s place run kind value
   unfolding againBeam
-  again-first y z = rw (← e, y, eq-eqb run 0 z) (sym (splice-nil s (place + 4)))
+  again-first y z = rw (← e, y, eq-eqb run 0 z) (sym (splice-nil s (place + beamAt)))
 
-  pub again-ends : b ≡ true → (run ≡ 0 → ⊥) → (s′ : List ℕ) → s′ ≡ splice s (place + 4) (3 ∷ []) → s′ ≡ againStore s place run kind value
+  pub again-ends : b ≡ true → (run ≡ 0 → ⊥) → (s′ : List ℕ) → s′ ≡ splice s (place + beamAt) (3 ∷ []) → s′ ≡ againStore s place run kind value
   unfolding againBeam
   again-ends y n s′ d = rw (← e, y, ne-eqb run 0 n) d
 
-  pub again-plain : b ≡ false → (s′ : List ℕ) → s′ ≡ splice s (place + 4) (0 ∷ []) → s′ ≡ againStore s place run kind value
+  pub again-plain : b ≡ false → (s′ : List ℕ) → s′ ≡ splice s (place + beamAt) (0 ∷ []) → s′ ≡ againStore s place run kind value
   unfolding againBeam
   again-plain n s′ d = rw (← e, n) d
 
-again-row : (run : ℕ) (x : ℕ × Note) → splice (noteRow x) 4 (againBeam (min 2 run) (kindCode (x .1 .kind)) (x .1 .value)) ≡ noteRow (x .0, beamedAgain run (x .1))
+again-row : (run : ℕ) (x : ℕ × Note) → splice (noteRow x) beamAt (againBeam (min 2 run) (kindCode (x .1 .kind)) (x .1 .value)) ≡ noteRow (x .0, beamedAgain run (x .1))
 unfolding againBeam beamedAgain beamCode
 again-row zero x =
-    rw (beams-is (x .1 .kind) (x .1 .value)) (by-test (canBeam (x .1)) (λ y. rw y (splice-nil (noteRow x) 4)) (λ n. rw n (note-set-beam x Notes.unbeamed)))
+    rw (beams-is (x .1 .kind) (x .1 .value)) (by-test (canBeam (x .1)) (λ y. rw y (splice-nil (noteRow x) beamAt)) (λ n. rw n (note-set-beam x Notes.unbeamed)))
 again-row (suc run) x =
     rw (ne-eqb (min 2 (suc run)) 0 (λ e. omega arith), beams-is (x .1 .kind) (x .1 .value))
     (by-test (canBeam (x .1)) (λ y. rw y (note-set-beam x Notes.ends)) (λ n. rw n (note-set-beam x Notes.unbeamed)))
@@ -220,8 +220,8 @@ unfolding beamedAgain
 again-pitches zero x = by-test (canBeam x) (λ y. rw y) (λ n. rw n)
 again-pitches (suc run) x = refl
 
-runs-held : {t : Tables} {s : List ℕ} {r : Registers} (run n : ℕ) → run ≡ min 2 n → (l : LogState) → Represents t s r [] l → Represents t s (runs r run) [] (setLine (withRun n (l .line)) l)
-runs-held run n e l h =
+runs-represented : {t : Tables} {s : List ℕ} {r : Registers} (run n : ℕ) → run ≡ min 2 n → (l : LogState) → Represents t s r [] l → Represents t s (runs r run) [] (setLine (withRun n (l .line)) l)
+runs-represented run n e l h =
     record {
       stored = h .stored;
       scoped = h .scoped;
@@ -252,18 +252,18 @@ module _ {t : Tables} {s : List ℕ} {r : Registers} (room : Room t (r .counts) 
         holds =
             λ l st h.
             subst (λ (n : Option Note). Represents t s (runs r 0) [] (onNothing (lastPlace l) n l)) (sym (none-at (l .log)) ∙ ap (λ (p : ℕ). noteAt p (l .log)) (sym z ∙ place-is l st h))
-            (runs-held 0 0 refl l h);
+            (runs-represented 0 0 refl l h);
       }
 
-  pub nothing-does : 0 < placeOf r → (kind value : ℕ) → kind ≡ getD s (t .notes + 16 * (placeOf r - 1)) 0 → value ≡ getD s (t .notes + 16 * (placeOf r - 1) + 1) 0
-      → (s′ : List ℕ) → s′ ≡ againStore s (t .notes + 16 * (placeOf r - 1)) (r .line .run) kind value
+  pub nothing-simulates : 0 < placeOf r → (kind value : ℕ) → kind ≡ getD s (t .notes + noteRowWidth * (placeOf r - 1)) 0 → value ≡ getD s (t .notes + noteRowWidth * (placeOf r - 1) + valueAt) 0
+      → (s′ : List ℕ) → s′ ≡ againStore s (t .notes + noteRowWidth * (placeOf r - 1)) (r .line .run) kind value
       → Simulates t s r s′ (runs r (runAgain (r .line .run) kind value)) 0 0 0 0 (λ l. onToken l token.nothing)
   unfolding onToken onNothing
-  nothing-does is kind value ek ev s′ e =
+  nothing-simulates is kind value ek ev s′ e =
       let bytes = againBeam (r .line .run) kind value in
-      let short : 4 + length bytes ≤ 16 = omega (arith, again-short (r .line .run) kind value) in
+      let short : beamAt + length bytes ≤ noteRowWidth = omega (arith, again-short (r .line .run) kind value) in
       record {
-        only = last-only room s′ 4 bytes e short is (a .state) (a .standing) (a .represents);
+        only = last-only room s′ beamAt bytes e short is (a .state) (a .standing) (a .represents);
         grows = same-counts (r .counts);
         holds =
             λ l st h.
@@ -274,16 +274,16 @@ module _ {t : Tables} {s : List ℕ} {r : Registers} (room : Room t (r .counts) 
             let at : noteAt (lastPlace l) (l .log) ≡ some (x .1) =
             ap (λ (p : ℕ). noteAt p (l .log)) (sym (place-is l st h)) ∙ note-at (placeOf r) (l .log) someNote is (place-most l st h) in
             subst (λ (n : Option Note). Represents t s′ (runs r (runAgain (r .line .run) kind value)) [] (onNothing (lastPlace l) n l)) (sym at)
-            (runs-held (runAgain (r .line .run) kind value) (runAfter (l .line .run) (x .1)) ((λ i. runAgain (run i) (k i) (v i)) ∙ run-is (l .line .run) (x .1))
+            (runs-represented (runAgain (r .line .run) kind value) (runAfter (l .line .run) (x .1)) ((λ i. runAgain (run i) (k i) (v i)) ∙ run-is (l .line .run) (x .1))
             (setLog (atPlace (lastPlace l) (beamedAgain (l .line .run)) (l .log)) l)
-            (last-held room s′ 4 bytes e short is l st h (beamedAgain (l .line .run)) (again-pitches (l .line .run))
-            ((λ i. splice (noteRow x) 4 (againBeam (run i) (k i) (v i))) ∙ again-row (l .line .run) x)));
+            (last-represented room s′ beamAt bytes e short is l st h (beamedAgain (l .line .run)) (again-pitches (l .line .run))
+            ((λ i. splice (noteRow x) beamAt (againBeam (run i) (k i) (v i))) ∙ again-row (l .line .run) x)));
       }
 
 -- FROM THE CODE'S VALUES: the place read, and the registers given back
 module _ {t : Tables} {s : List ℕ} {r : Registers} (room : Room t (r .counts) (length s) 0 0 0 0) (a : RepresentedInLine t s r) (p : ℕ) (ep : p ≡ placeOf r) where
   -- there is room for its row
-  pub row-inside : t .notes + 16 * p ≤ length s
+  pub row-inside : t .notes + noteRowWidth * p ≤ length s
   row-inside = omega (arith, ep, place-small a, room .for-notes, room .for-pitches, room .for-scopes, room .ends)
 
   some-place : (p ≡ 0 → ⊥) → 0 < placeOf r
@@ -301,7 +301,7 @@ module _ {t : Tables} {s : List ℕ} {r : Registers} (room : Room t (r .counts) 
       (λ y. given (λ l. onToken l (token.broken up times)) (rw y at e) (rw y at ex) (broken-none room a up times (sym ep ∙ eqb-true p 0 y)))
       (λ n.
       given (λ l. onToken l (token.broken up times)) (rw n at e) (rw n at ex)
-      (broken-does room a up times (some-place (eqb-false p 0 n)) (brokenStore s (t .notes + 16 * (p - 1)) up times) (ap (λ (q : ℕ). brokenStore s (t .notes + 16 * (q - 1)) up times) ep)))
+      (broken-simulates room a up times (some-place (eqb-false p 0 n)) (brokenStore s (t .notes + noteRowWidth * (p - 1)) up times) (ap (λ (q : ℕ). brokenStore s (t .notes + noteRowWidth * (q - 1)) up times) ep)))
 
   pub nothing-by : (s′ : List ℕ) → s′ ≡ againIn s (t .notes) p (r .line .run) → (run : ℕ) → run ≡ againRun s (t .notes) p (r .line .run) → (x : Registers) → x ≡ runs r run
       → Simulates t s r s′ x 0 0 0 0 (λ l. onToken l token.nothing)
@@ -310,9 +310,9 @@ module _ {t : Tables} {s : List ℕ} {r : Registers} (room : Room t (r .counts) 
       by-test (eqb p 0)
       (λ y. given (λ l. onToken l token.nothing) (rw y at e) (ex ∙ ap (runs r) (rw y at er)) (nothing-none room a (sym ep ∙ eqb-true p 0 y)))
       (λ n.
-      let place : ℕ → ℕ = λ q. t .notes + 16 * (q - 1) in
+      let place : ℕ → ℕ = λ q. t .notes + noteRowWidth * (q - 1) in
       given (λ l. onToken l token.nothing) (rw n at e) (ex ∙ ap (runs r) (rw n at er))
-      (nothing-does room a (some-place (eqb-false p 0 n)) _ _ (ap (λ (q : ℕ). getD s (place q) 0) ep) (ap (λ (q : ℕ). getD s (place q + 1) 0) ep)
+      (nothing-simulates room a (some-place (eqb-false p 0 n)) _ _ (ap (λ (q : ℕ). getD s (place q) 0) ep) (ap (λ (q : ℕ). getD s (place q + 1) 0) ep)
       (againStore s (place p) (r .line .run) (getD s (place p) 0) (getD s (place p + 1) 0)) (ap (λ (q : ℕ). againStore s (place q) (r .line .run) (getD s (place p) 0) (getD s (place p + 1) 0)) ep)))
 
 -- FROM THE TESTS of the small functions
@@ -321,7 +321,7 @@ module _ (s : List ℕ) (at p : ℕ) where
   unfolding brokenIn
   broken-none-at z up times = rw (eq-eqb p 0 z)
 
-  pub broken-some-at : (p ≡ 0 → ⊥) → (up : Bool) (times : ℕ) (s′ : List ℕ) → s′ ≡ brokenStore s (at + 16 * (p - 1)) up times → s′ ≡ brokenIn s at p up times
+  pub broken-some-at : (p ≡ 0 → ⊥) → (up : Bool) (times : ℕ) (s′ : List ℕ) → s′ ≡ brokenStore s (at + noteRowWidth * (p - 1)) up times → s′ ≡ brokenIn s at p up times
   unfolding brokenIn
   broken-some-at n up times s′ e = rw (ne-eqb p 0 n) e
 
@@ -334,10 +334,10 @@ module _ (s : List ℕ) (at p : ℕ) where
   run-none-at z run = rw (eq-eqb p 0 z)
 
   module _ (n : p ≡ 0 → ⊥) (run : ℕ) (w : Written)
-      (e : w ≡ record { kind = getD s (at + 16 * (p - 1)) 0; value = getD s (at + 16 * (p - 1) + 1) 0; dots = getD s (at + 16 * (p - 1) + 2) 0 }) where
-    pub again-some-at : (s′ : List ℕ) → s′ ≡ againStore s (at + 16 * (p - 1)) run (w .kind) (w .value) → s′ ≡ againIn s at p run
+      (e : w ≡ record { kind = getD s (at + noteRowWidth * (p - 1)) 0; value = getD s (at + noteRowWidth * (p - 1) + valueAt) 0; dots = getD s (at + noteRowWidth * (p - 1) + dotsAt) 0 }) where
+    pub again-some-at : (s′ : List ℕ) → s′ ≡ againStore s (at + noteRowWidth * (p - 1)) run (w .kind) (w .value) → s′ ≡ againIn s at p run
     unfolding againIn
-    again-some-at s′ d = rw (ne-eqb p 0 n) (d ∙ (λ i. againStore s (at + 16 * (p - 1)) run (e i .kind) (e i .value)))
+    again-some-at s′ d = rw (ne-eqb p 0 n) (d ∙ (λ i. againStore s (at + noteRowWidth * (p - 1)) run (e i .kind) (e i .value)))
 
     pub run-some-at : (m : ℕ) → m ≡ runAgain run (w .kind) (w .value) → m ≡ againRun s at p run
     unfolding againRun

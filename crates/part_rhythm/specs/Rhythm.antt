@@ -11,6 +11,7 @@ use Rattle.part_registers.specs.declared.Registers.{Registers}
 use Rattle.part_registers.specs.declared.Half.{Half}
 use Rattle.part_registers.specs.declared.Half.the-variants as half
 use Rattle.part_registers.specs.Notes.{beams, lengthIn, runAgain}
+use Rattle.part_rows.specs.Encoded.{noteRowWidth, valueAt, dotsAt, beamAt}
 
 -- the place of the last note of the voice being written
 abbrev pub placeOf : Registers → ℕ
@@ -25,26 +26,26 @@ abbrev pub valueBytes : Value → List ℕ
 valueBytes w = w .value ∷ w .dots ∷ []
 
 abbrev pub brokenStore : List ℕ → ℕ → Bool → ℕ → List ℕ
-brokenStore s place up times = splice s (place + 1) (valueBytes (brokenValue up times (getD s (place + 1) 0) (getD s (place + 2) 0)))
+brokenStore s place up times = splice s (place + valueAt) (valueBytes (brokenValue up times (getD s (place + valueAt) 0) (getD s (place + dotsAt) 0)))
 
 -- the same for the note at a place of the table, from 1; nothing at 0
 unfoldable pub brokenIn : List ℕ → ℕ → ℕ → Bool → ℕ → List ℕ
-brokenIn s at place up times = cond (eqb place 0) s (brokenStore s (at + 16 * (place - 1)) up times)
+brokenIn s at place up times = cond (eqb place 0) s (brokenStore s (at + noteRowWidth * (place - 1)) up times)
 
 -- what the beam step writes for a note of this kind and value; and the row at a place after it
 unfoldable pub againBeam : ℕ → ℕ → ℕ → List ℕ
 againBeam run kind value = cond (beams kind value) (cond (eqb run 0) [] (3 ∷ [])) (0 ∷ [])
 
 abbrev pub againStore : List ℕ → ℕ → ℕ → ℕ → ℕ → List ℕ
-againStore s place run kind value = splice s (place + 4) (againBeam run kind value)
+againStore s place run kind value = splice s (place + beamAt) (againBeam run kind value)
 
 -- the same for the note at a place of the table, and the run after it; nothing and no run at 0
 unfoldable pub againIn : List ℕ → ℕ → ℕ → ℕ → List ℕ
 againIn s at place run =
-    cond (eqb place 0) s (againStore s (at + 16 * (place - 1)) run (getD s (at + 16 * (place - 1)) 0) (getD s (at + 16 * (place - 1) + 1) 0))
+    cond (eqb place 0) s (againStore s (at + noteRowWidth * (place - 1)) run (getD s (at + noteRowWidth * (place - 1)) 0) (getD s (at + noteRowWidth * (place - 1) + valueAt) 0))
 
 unfoldable pub againRun : List ℕ → ℕ → ℕ → ℕ → ℕ
-againRun s at place run = cond (eqb place 0) 0 (runAgain run (getD s (at + 16 * (place - 1)) 0) (getD s (at + 16 * (place - 1) + 1) 0))
+againRun s at place run = cond (eqb place 0) 0 (runAgain run (getD s (at + noteRowWidth * (place - 1)) 0) (getD s (at + noteRowWidth * (place - 1) + valueAt) 0))
 
 -- where a note is broken another half waits
 unfoldable pub halfAfter : Bool → Half → Bool → ℕ → Half

@@ -5,6 +5,7 @@ ghost use lib.ListN.{length};
 ghost use Rattle.reader.specs.Token as token;
 ghost use Rattle.part_layout.specs.Log.{onToken};
 ghost use Rattle.part_invariant.specs.Invariant.{Room, RepresentedInLine, Simulates};
+ghost use Rattle.part_rows.specs.Encoded.{noteRowWidth};
 ghost use Rattle.part_rhythm.specs.Rhythm.{brokenStore, brokenIn, againStore, againIn, againRun, placeOf, halfAfter, halfWaits, runs};
 use part_registers::Half;
 use part_registers::Registers;
@@ -27,8 +28,8 @@ fn last_place(r: Registers) -> u32
 
 // The note in row i, with dots more or halved.
 fn break_note(store: &mut [u8], at: usize, i: usize, up: bool, times: u8)
-    requires { ⌜ at + 16 * i + 16 ≤ length (now store) ⌝ }
-    ensures { λ _. ⌜ now (store .exit) ≡ brokenStore (now (store .entry)) (at + 16 * i) up times ⌝ }
+    requires { ⌜ at + noteRowWidth * i + noteRowWidth ≤ length (now store) ⌝ }
+    ensures { λ _. ⌜ now (store .exit) ≡ brokenStore (now (store .entry)) (at + noteRowWidth * i) up times ⌝ }
 {
     let w = part_rows::get_written(store, at, i);
     let n = NoteRow {
@@ -87,7 +88,7 @@ fn wait_for(r: Registers, broken: bool, up: bool, times: u8) -> Registers
 
 // The note at a place, from 1, is broken; nothing is at 0.
 fn break_at(store: &mut [u8], at: usize, place: u32, up: bool, times: u8)
-    requires { ⌜ at + 16 * place ≤ length (now store) ⌝ }
+    requires { ⌜ at + noteRowWidth * place ≤ length (now store) ⌝ }
     ensures { λ _. ⌜ now (store .exit) ≡ brokenIn (now (store .entry)) at place up times ⌝ }
 {
     if place == 0 {
@@ -111,8 +112,8 @@ pub fn on_broken(store: &mut [u8], t: Tables, r: Registers, up: bool, times: u8)
 
 // A note of this kind and value in row i ends the beam where one runs; it has none where it can't have one.
 fn beam_again(store: &mut [u8], at: usize, i: usize, run: u8, kind: u8, value: u8)
-    requires { ⌜ at + 16 * i + 16 ≤ length (now store) ⌝ }
-    ensures { λ _. ⌜ now (store .exit) ≡ againStore (now (store .entry)) (at + 16 * i) run kind value ⌝ }
+    requires { ⌜ at + noteRowWidth * i + noteRowWidth ≤ length (now store) ⌝ }
+    ensures { λ _. ⌜ now (store .exit) ≡ againStore (now (store .entry)) (at + noteRowWidth * i) run kind value ⌝ }
 {
     if part_registers::abc_note_is_beamable(kind, value) {
         if run == 0 {
@@ -134,7 +135,7 @@ fn run_on(r: Registers, run: u8) -> Registers
 
 // The beam step on the note at a place, from 1, and the run after it; none at 0.
 fn run_again(store: &mut [u8], at: usize, place: u32, run: u8) -> u8
-    requires { ⌜ at + 16 * place ≤ length (now store) ⌝ }
+    requires { ⌜ at + noteRowWidth * place ≤ length (now store) ⌝ }
     ensures { λ n. ⌜ n ≡ againRun (now (store .entry)) at place run ⌝ }
     ensures { λ _. ⌜ now (store .exit) ≡ againIn (now (store .entry)) at place run ⌝ }
 {

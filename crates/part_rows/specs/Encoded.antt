@@ -43,6 +43,19 @@ pitchCountAt = 8
 abbrev pub voiceAt : ℕ
 voiceAt = 12
 
+-- WHERE THE FIELDS OF AN ACCIDENTAL'S ROW STAND, behind its step
+abbrev pub scopeOctaveAt : ℕ
+scopeOctaveAt = 1
+
+abbrev pub scopeAlterAt : ℕ
+scopeAlterAt = 2
+
+abbrev pub scopeCentsAt : ℕ
+scopeCentsAt = 3
+
+abbrev pub scopeNextAt : ℕ
+scopeNextAt = 4
+
 -- a note's flags but the last, which is known at the end only
 unfoldable pub flagsByte : Flags → ℕ
 flagsByte f = bit (f .tieStart) 1 + bit (f .tieEnd) 2 + bit (f .slurStart) 4 + bit (f .slurEnd) 8 + bit (f .grace) 16
@@ -62,7 +75,7 @@ rowFor n =
       pitches = length (n .pitches);
     }
 
--- its 16 bytes: the note record's 12 but flag 32, the voice, three zeros
+-- its bytes: the note record's but flag 32, the voice, three zeros
 unfoldable pub rowBytes : NoteRow → ℕ → List ℕ
 rowBytes n voice =
     (n .kind ∷ n .value ∷ n .dots ∷ n .flags ∷ [])
@@ -78,7 +91,7 @@ noteRow x = rowBytes (rowFor (x .1)) (x .0)
 abbrev pub pitchFor : Pitch → Sounded
 pitchFor p = record { step = p .step; octave = p .octave; alter = p .alter; cents = p .cents }
 
--- its 5 bytes: pitchBytes (`pitch-row`)
+-- its bytes: pitchBytes (`pitch-row`)
 unfoldable pub pitchRow : Sounded → List ℕ
 pitchRow p = p .step ∷ signed8 (p .octave) ∷ signed8 (p .alter) ∷ signed16 (p .cents)
 

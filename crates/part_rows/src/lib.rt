@@ -6,7 +6,7 @@ ghost use Prim.Native.Nat.{_+_, _*_, _^_, _≤_, _<_};
 ghost use lib.ListN.{length, getD};
 ghost use Rattle.laws.specs.Bytes.{part, splice};
 ghost use Rattle.reader.specs.Records.{noteWidth, signed8, signed16};
-ghost use Rattle.part_rows.specs.Encoded.{noteRowWidth, beamAt, rowBytes, pitchRow};
+ghost use Rattle.part_rows.specs.Encoded.{rowBytes, pitchRow, noteRowWidth, pitchRowWidth, valueAt, dotsAt, beamAt};
 ghost use Rattle.part_rows.specs.Read.{startAt, restAt, soundsAt, ofVoiceAt, pitchCount};
 
 // The bytes of a row: a note's, a pitch's (those of its record), an accidental's.
@@ -29,7 +29,10 @@ const PITCH_COUNT: usize = 8;
 
 const VOICE: usize = 12;
 
-// A note as its row holds it: kind, value, dots, the marks of ties, slurs and graces, beam, tuplet and boundary, and how many pitches it has.
+// Where the last byte of a pitch's row stands: the higher one of its cents.
+const CENTS_SIGN: usize = 4;
+
+// A note as its row holds it: kind, value, dots, the flags of ties, slurs and graces, beam, tuplet and boundary, and how many pitches it has.
 pub struct NoteRow {
     pub kind: u8,
     pub value: u8,
@@ -61,44 +64,44 @@ pub struct Written {
 
 // Writes a note and its voice as row i.
 pub fn put_note(store: &mut [u8], at: usize, i: usize, n: NoteRow, voice: u8)
-    requires { ⌜ at + 16 * i + 16 ≤ length (now store) ⌝ }
-    ensures { λ _. ⌜ now (store .exit) ≡ splice (now (store .entry)) (at + 16 * i) (rowBytes n voice) ⌝ }
+    requires { ⌜ at + noteRowWidth * i + noteRowWidth ≤ length (now store) ⌝ }
+    ensures { λ _. ⌜ now (store .exit) ≡ splice (now (store .entry)) (at + noteRowWidth * i) (rowBytes n voice) ⌝ }
 {
-    let place = at + 16 * i;
+    let place = at + NOTE_ROW * i;
     store::put_4(store, place, n.kind, n.value, n.dots, n.flags);
-    store::put_4(store, place + 4, n.beam, n.actual, n.normal, n.boundary);
-    store::put_u32(store, place + 8, n.pitches);
-    store::put_4(store, place + 12, voice, 0, 0, 0);
+    store::put_4(store, place + BEAM, n.beam, n.actual, n.normal, n.boundary);
+    store::put_u32(store, place + PITCH_COUNT, n.pitches);
+    store::put_4(store, place + VOICE, voice, 0, 0, 0);
 }
 
 // Another value, with its dots, in row i.
 pub fn set_note_value(store: &mut [u8], at: usize, i: usize, value: u8, dots: u8)
-    requires { ⌜ at + 16 * i + 16 ≤ length (now store) ⌝ }
-    ensures { λ _. ⌜ now (store .exit) ≡ splice (now (store .entry)) (at + 16 * i + 1) (value ∷ dots ∷ []) ⌝ }
+    requires { ⌜ at + noteRowWidth * i + noteRowWidth ≤ length (now store) ⌝ }
+    ensures { λ _. ⌜ now (store .exit) ≡ splice (now (store .entry)) (at + noteRowWidth * i + valueAt) (value ∷ dots ∷ []) ⌝ }
 {
-    let place = at + 16 * i + 1;
+    let place = at + NOTE_ROW * i + VALUE;
     store::put_u8(store, place, value);
     store::put_u8(store, place + 1, dots);
 }
 
 // Another beam in row i.
 pub fn set_note_beam(store: &mut [u8], at: usize, i: usize, beam: u8)
-    requires { ⌜ at + 16 * i + 16 ≤ length (now store) ⌝ }
-    ensures { λ _. ⌜ now (store .exit) ≡ splice (now (store .entry)) (at + 16 * i + 4) (beam ∷ []) ⌝ }
+    requires { ⌜ at + noteRowWidth * i + noteRowWidth ≤ length (now store) ⌝ }
+    ensures { λ _. ⌜ now (store .exit) ≡ splice (now (store .entry)) (at + noteRowWidth * i + beamAt) (beam ∷ []) ⌝ }
 {
-    store::put_u8(store, at + 16 * i + 4, beam);
+    store::put_u8(store, at + NOTE_ROW * i + BEAM, beam);
 }
 
 // Kind, value and dots of row i.
 pub fn get_written(store: &[u8], at: usize, i: usize) -> Written
-    requires { ⌜ at + 16 * i + 16 ≤ length (now store) ⌝ }
-    ensures { λ r. ⌜ r ≡ record { kind = getD (now (store .entry)) (at + 16 * i) 0; value = getD (now (store .entry)) (at + 16 * i + 1) 0; dots = getD (now (store .entry)) (at + 16 * i + 2) 0 } ⌝ }
+    requires { ⌜ at + noteRowWidth * i + noteRowWidth ≤ length (now store) ⌝ }
+    ensures { λ r. ⌜ r ≡ record { kind = getD (now (store .entry)) (at + noteRowWidth * i) 0; value = getD (now (store .entry)) (at + noteRowWidth * i + valueAt) 0; dots = getD (now (store .entry)) (at + noteRowWidth * i + dotsAt) 0 } ⌝ }
 {
-    let place = at + 16 * i;
+    let place = at + NOTE_ROW * i;
     Written {
         kind: store[place],
-        value: store[place + 1],
-        dots: store[place + 2],
+        value: store[place + VALUE],
+        dots: store[place + DOTS],
     }
 }
 
@@ -120,10 +123,10 @@ fn sign(n: u8) -> u8
 
 // Writes a pitch as row i.
 pub fn put_pitch(store: &mut [u8], at: usize, i: usize, p: Sounded)
-    requires { ⌜ at + 5 * i + 5 ≤ length (now store) ⌝ }
-    ensures { λ _. ⌜ now (store .exit) ≡ splice (now (store .entry)) (at + 5 * i) (pitchRow p) ⌝ }
+    requires { ⌜ at + pitchRowWidth * i + pitchRowWidth ≤ length (now store) ⌝ }
+    ensures { λ _. ⌜ now (store .exit) ≡ splice (now (store .entry)) (at + pitchRowWidth * i) (pitchRow p) ⌝ }
 {
-    let place = at + 5 * i;
+    let place = at + PITCH_ROW * i;
     let cents = signed(p.cents);
     store::put_4(
         store,
@@ -133,7 +136,7 @@ pub fn put_pitch(store: &mut [u8], at: usize, i: usize, p: Sounded)
         signed(p.alter),
         cents,
     );
-    store::put_u8(store, place + 4, sign(p.cents));
+    store::put_u8(store, place + CENTS_SIGN, sign(p.cents));
 }
 
 // READ BY THE WRITERS, by the place of a row

@@ -1,5 +1,5 @@
--- THE TABLES FIT: a byte of music pays 28 bytes and makes a measure of 28, or a note, its pitch and its lyric head (25), or a rest and the head that it may get
--- (20), or an accidental (8). A byte of lyrics pays for a row of 16.
+-- THE TABLES FIT: a byte of music brings a measure's bytes and makes a measure, or a note, its pitch and its lyric head, or a rest and the head that it may get,
+-- or an accidental; none of these is wider than a measure. A byte of lyrics brings a lyric row.
 use Prim.Native.Nat.{ℕ, _+_, _-_, _*_, _^_, _≤_, _<_}
 use mathlib.Core.Path.{_≡_, refl, ap, _∙_}
 use mathlib.Core.Bool.{Bool, true, false, cond, _&&_, _||_}
@@ -15,30 +15,39 @@ use Rattle.laws.proofs.Bools.{by-test, and-left, and-right, or-either}
 use Rattle.standard.specs.Bytes.{is}
 use Rattle.standard.specs.Pitches.{isLetter}
 use Rattle.reader.specs.Steps.{itemsOf}
+use Rattle.reader.specs.Records.{measureWidth}
 use Rattle.bounds.specs.Weights.{lyricBytes}
 use Rattle.capacity.specs.Sizes.{isBar, isRest, isSign, bars, letters, rests, signs, tones}
 use Rattle.scan_table.specs.declared.Row.{Row}
-use Rattle.scan_table.specs.Rows.{decItem, itemAs, itemIn, itemsIn}
+use Rattle.scan_table.specs.Rows.{itemsFrom, itemBytes, decItem, itemAs, itemIn, itemsIn}
 use Rattle.lyrics.specs.declared.Sheet.{Sheet}
 use Rattle.lyrics.specs.Items.{isLine, lineIn, linesIn, rowsOf, Fits}
+use Rattle.part_rows.specs.Encoded.{noteRowWidth, pitchRowWidth, scopeRowWidth}
 use Rattle.part_registers.specs.declared.Tables.{Tables}
 use Rattle.part_sizing.specs.declared.Made.{Made}
 use Rattle.part_sizing.specs.Counting.{madeOf, tablesAt}
-use Rattle.part_sizing.specs.Room.{PartRoom, musicAt, Sized}
+use Rattle.part_sizing.specs.Room.{lyricHeadWidth, PartRoom, musicAt, Sized}
 use Rattle.part_sizing.proofs.Counting.{bytes-in}
 
 -- A BYTE OF MUSIC
 abbrev one : Bool → ℕ
 one b = cond b 1 0
 
+-- what a letter and a rest can make
+abbrev letterWidth : ℕ
+letterWidth = noteRowWidth + pitchRowWidth + lyricHeadWidth
+
+abbrev restWidth : ℕ
+restWidth = noteRowWidth + lyricHeadWidth
+
 abbrev Enough : ℕ → Type 0
-Enough c = 28 * one (isBar c) + 25 * one (isLetter c) + 20 * one (isRest c) + 8 * one (isSign c) ≤ 28
+Enough c = measureWidth * one (isBar c) + letterWidth * one (isLetter c) + restWidth * one (isRest c) + scopeRowWidth * one (isSign c) ≤ measureWidth
 
 -- one of these bytes
 at-byte : (k c : ℕ) → Enough k → eqb c k ≡ true → Enough c
 at-byte k c h e = rw (eqb-true c k e) h
 
-letter-covered : (b : Bool) → 25 * one b ≤ 28
+letter-covered : (b : Bool) → letterWidth * one b ≤ measureWidth
 letter-covered true = omega arith
 letter-covered false = omega arith
 
@@ -85,7 +94,7 @@ byte-covered c =
 count-cons : (p : ℕ → Bool) (c : ℕ) (l : List ℕ) → length (filter p (c ∷ l)) ≡ one (p c) + length (filter p l)
 count-cons p c l = by-test (p c) (λ e. rw e (omega arith)) (λ e. rw e (omega arith))
 
-music-covered : (l : List ℕ) → 28 * bars l + 25 * letters l + 20 * rests l + 8 * signs l ≤ 28 * length l
+music-covered : (l : List ℕ) → measureWidth * bars l + letterWidth * letters l + restWidth * rests l + scopeRowWidth * signs l ≤ measureWidth * length l
 unfolding bars letters rests signs
 music-covered [] = omega arith
 music-covered (c ∷ l) = omega (arith, music-covered l, byte-covered c, count-cons isBar c l, count-cons isLetter c l, count-cons isRest c l, count-cons isSign c l)
@@ -108,7 +117,7 @@ lines-rows text p (r ∷ rs) =
 
 pub rows-most : (text s : List ℕ) (p n : ℕ) → rowsOf (linesIn text s p n) ≤ sum lyricBytes (itemsOf p (itemsIn text s n))
 unfolding linesIn itemsIn
-rows-most text s p n = lines-rows text p (rows decItem 16 s 256 n)
+rows-most text s p n = lines-rows text p (rows decItem itemBytes s itemsFrom n)
 
 -- A PART
 module _ (text s : List ℕ) (n p : ℕ) (room : PartRoom text s n p) where
@@ -142,7 +151,7 @@ module _ (text s : List ℕ) (n p : ℕ) (room : PartRoom text s n p) where
 
 -- THE SHEET of the lyrics, once the part is read: scratch has the same items, and of its notes that sound there are no more than its music can make
 pub sheet-fits : (text s : List ℕ) (n p : ℕ) (t : Tables) → Sized text s n p t → length text ≤ 67108864 → (s′ : List ℕ) → itemsIn text s′ n ≡ itemsIn text s n → length s′ ≡ length s
-    → (h : Sheet) → h .heads ≡ t .scopes → h .log ≡ t .scopes + 4 * h .sounded → h .sounded ≤ tones (musicAt text s n p) → Fits text s′ n p h
+    → (h : Sheet) → h .heads ≡ t .scopes → h .log ≡ t .scopes + lyricHeadWidth * h .sounded → h .sounded ≤ tones (musicAt text s n p) → Fits text s′ n p h
 sheet-fits text s n p t z short s′ e l h at log most =
     let few : rowsOf (linesIn text s′ p n) ≤ sum lyricBytes (itemsOf p (itemsIn text s n)) = rw e at (rows-most text s′ p n) in
     record {

@@ -1,7 +1,10 @@
 -- COUNTING what music can make, and the tables for it.
 use Prim.Native.Nat.{ℕ, _+_, _*_, _^_, _<_}
 use mathlib.Core.List.{List}
+use Rattle.reader.specs.Records.{measureWidth}
 use Rattle.capacity.specs.Sizes.{bars, letters, rests, signs}
+use Rattle.scan_table.specs.Rows.{tableEnd}
+use Rattle.part_rows.specs.Encoded.{noteRowWidth, pitchRowWidth, scopeRowWidth}
 use Rattle.part_registers.specs.declared.Tables.{Tables}
 use Rattle.part_sizing.specs.declared.Made.{Made}
 use Rattle.part_sizing.specs.declared.Block.{Block}
@@ -45,16 +48,16 @@ pub record Few (m : Made) (k : ℕ) : Type 0 where
 
 -- THE TABLES behind n items: a first measure and one for each barline, a note for each letter and rest, a pitch for each letter, a row for each sign
 abbrev pub headsAt : ℕ → ℕ
-headsAt n = 256 + 16 * n
+headsAt n = tableEnd n
 
 abbrev pub notesAt : ℕ → Made → ℕ
-notesAt n m = headsAt n + 28 * (m .bars + 1)
+notesAt n m = headsAt n + measureWidth * (m .bars + 1)
 
 abbrev pub pitchesAt : ℕ → Made → ℕ
-pitchesAt n m = notesAt n m + 16 * (m .letters + m .rests)
+pitchesAt n m = notesAt n m + noteRowWidth * (m .letters + m .rests)
 
 abbrev pub scopesAt : ℕ → Made → ℕ
-scopesAt n m = pitchesAt n m + 5 * m .letters
+scopesAt n m = pitchesAt n m + pitchRowWidth * m .letters
 
 abbrev pub tablesAt : ℕ → Made → Tables
-tablesAt n m = record { heads = headsAt n; notes = notesAt n m; pitches = pitchesAt n m; scopes = scopesAt n m; end = scopesAt n m + 8 * m .signs }
+tablesAt n m = record { heads = headsAt n; notes = notesAt n m; pitches = pitchesAt n m; scopes = scopesAt n m; end = scopesAt n m + scopeRowWidth * m .signs }

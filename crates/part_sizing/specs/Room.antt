@@ -5,19 +5,27 @@ use mathlib.Core.List.{List}
 use lib.ListN.{length}
 use Rattle.laws.specs.Lists.{sum}
 use Rattle.reader.specs.Steps.{itemsOf}
+use Rattle.reader.specs.Records.{measureWidth}
 use Rattle.bounds.specs.Weights.{lyricBytes, itemBytes}
 use Rattle.capacity.specs.Sizes.{tones}
 use Rattle.capacity.specs.Music.{musicOf}
-use Rattle.scan_table.specs.Rows.{itemsIn}
+use Rattle.scan_table.specs.Rows.{itemsIn, tableEnd}
 use Rattle.part_registers.specs.declared.Tables.{Tables}
 use Rattle.part_registers.specs.declared.Counts.{Counts}
 use Rattle.part_invariant.specs.Lines.{RoomForBytes}
 use Rattle.part_sizing.specs.Counting.{madeOf, tablesAt}
 
--- behind the line table there are 28 bytes for a first measure and for each byte of the part's lines
+-- the bytes of a note's head and of a syllable's row in the lyrics (crate lyrics)
+abbrev pub lyricHeadWidth : ℕ
+lyricHeadWidth = 4
+
+abbrev pub lyricRowWidth : ℕ
+lyricRowWidth = 16
+
+-- behind the line table there are a measure's bytes for a first measure and for each byte of the part's lines
 pub record PartRoom (text s : List ℕ) (n part : ℕ) : Type 0 where
-  pub fits : 256 + 16 * n + 28 + 28 * sum itemBytes (itemsOf part (itemsIn text s n)) ≤ length s
-  pub small : 256 + 16 * n + 28 + 28 * sum itemBytes (itemsOf part (itemsIn text s n)) < 2 ^ 32
+  pub fits : tableEnd n + measureWidth + measureWidth * sum itemBytes (itemsOf part (itemsIn text s n)) ≤ length s
+  pub small : tableEnd n + measureWidth + measureWidth * sum itemBytes (itemsOf part (itemsIn text s n)) < 2 ^ 32
   pub short : length text ≤ 67108864
 
 -- the part's music
@@ -31,7 +39,7 @@ noRows = record { heads = 0; notes = 0; pitches = 0; scopes = 0 }
 -- for each byte of the lyric lines (proofs/Fits.sheet-fits)
 pub record Sized (text s : List ℕ) (n part : ℕ) (t : Tables) : Type 0 where
   pub is : t ≡ tablesAt n (madeOf (musicAt text s n part))
-  pub behind-items : t .heads ≡ 256 + 16 * n
+  pub behind-items : t .heads ≡ tableEnd n
   pub rest : RoomForBytes t noRows (length s) (musicAt text s n part)
-  pub sheet : t .scopes + 4 * tones (musicAt text s n part) + 16 * sum lyricBytes (itemsOf part (itemsIn text s n)) ≤ length s
+  pub sheet : t .scopes + lyricHeadWidth * tones (musicAt text s n part) + lyricRowWidth * sum lyricBytes (itemsOf part (itemsIn text s n)) ≤ length s
   pub few : sum lyricBytes (itemsOf part (itemsIn text s n)) < 2 ^ 32

@@ -8,13 +8,13 @@ ghost use Rattle.laws.specs.Bytes.{between};
 ghost use Rattle.reader.specs.Steps.{itemsOf};
 ghost use Rattle.capacity.specs.Sizes.{isBar, isRest, isSign};
 ghost use Rattle.capacity.specs.Music.{musicOf};
-ghost use Rattle.scan_table.specs.Rows.{itemIn, itemsIn};
+ghost use Rattle.scan_table.specs.Rows.{itemIn, itemsIn, tableEnd};
 ghost use Rattle.lyrics.specs.Items.{itemAt};
 ghost use Rattle.part_sizing.specs.Counting.{madeOf, more, both, asMade, Few, Under, Adds, tablesAt};
 ghost use Rattle.part_sizing.specs.Room.{PartRoom, Sized};
 use part_registers::Tables;
 
-// How many bytes of music can open a measure, name a pitch, be a rest, mark an accidental.
+// How many bytes of music can open a measure, name a pitch, be a rest, be an accidental's sign.
 pub struct Made {
     pub bars: usize,
     pub letters: usize,
@@ -146,7 +146,7 @@ fn with_line(line: &[u8], m: Made) -> Made
 
 // Item i more, if it is a music line of the part.
 fn with_item(text: &[u8], scratch: &[u8], i: usize, part: u8, m: Made) -> Made
-    requires { ⌜ (256 + 16 * i + 16 ≤ length (now scratch)) × Few m (length (now text) + 1) ⌝ }
+    requires { ⌜ (tableEnd (i + 1) ≤ length (now scratch)) × Few m (length (now text) + 1) ⌝ }
     ensures { λ r. ⌜ r ≡ more m (musicOf (itemsOf part (itemIn (now (text .entry)) (itemAt (now (scratch .entry)) i) ∷ []))) ⌝ }
 {
     let item = scan_table::get_item(text, scratch, i);
@@ -186,10 +186,10 @@ fn tables_at(n: usize, m: Made) -> Tables
     ensures { λ r. ⌜ r ≡ tablesAt n m ⌝ }
 {
     let heads = scan_table::ITEMS + scan_table::ITEM * n;
-    let notes = heads + 28 * (m.bars + 1);
-    let pitches = notes + 16 * (m.letters + m.rests);
-    let scopes = pitches + 5 * m.letters;
-    let end = scopes + 8 * m.signs;
+    let notes = heads + part_measures::MEASURE * (m.bars + 1);
+    let pitches = notes + part_rows::NOTE_ROW * (m.letters + m.rests);
+    let scopes = pitches + part_rows::PITCH_ROW * m.letters;
+    let end = scopes + part_rows::SCOPE_ROW * m.signs;
     Tables {
         heads,
         notes,

@@ -1,2 +1,2 @@
 pub mod Sounding
-pub mod Leaving
+pub mod Deferring

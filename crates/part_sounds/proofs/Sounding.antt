@@ -19,12 +19,12 @@ use Rattle.reader.specs.Codes.{kindCode, beamCode}
 use Rattle.reader.specs.Records.{pitchBytes}
 use Rattle.reader.specs.Part.{soundNote}
 use Rattle.part_layout.specs.Log.{LogState, lastPlace, setScopes, setPending, append, onSound}
-use Rattle.part_layout.proofs.Lines.{Standing}
+use Rattle.part_layout.specs.Lines.{Standing}
 use Rattle.token_lengths.specs.declared.Length.{Length}
 use Rattle.token_lengths.specs.Values.{asValue}
 use Rattle.token_pitches.specs.declared.Pitch.{Pitch}
 use Rattle.part_rows.specs.Table.{Only}
-use Rattle.part_rows.specs.Encoded.{rowFor, pitchFor, pitchRow}
+use Rattle.part_rows.specs.Encoded.{rowFor, pitchFor, pitchRow, pitchRowWidth}
 use Rattle.part_rows.proofs.Bytes.{pitch-row, length-pitch-row}
 use Rattle.part_rows.proofs.Tables.{table-front, only-then, only-wider}
 use Rattle.part_chains.specs.Chains.{Scoped, Scopes}
@@ -115,7 +115,7 @@ module _ (t : Tables) (s : List ℕ) (r : Registers) (p : Pitch) (room : Room t 
   push-scopes a = record { scopes = a .state .scopes; scoped = a .represents .scoped }
 
   module _ (s₁ s₂ : List ℕ) (q : Resolved) (res : ResolvedAs s (t .scopes) (r .counts .scopes) (r .key) (r .line .overlay) p s₁ q)
-      (e : s₂ ≡ splice s₁ (t .pitches + 5 * r .counts .pitches) (pitchRow (q .sounded))) where
+      (e : s₂ ≡ splice s₁ (t .pitches + pitchRowWidth * r .counts .pitches) (pitchRow (q .sounded))) where
     length₁ : length s₁ ≡ length s
     length₁ = res .only .same-length
 
@@ -150,9 +150,9 @@ module _ (t : Tables) (s : List ℕ) (r : Registers) (p : Pitch) (room : Room t 
       only₂ : Only (t .heads) (t .end) s₁ s₂
       only₂ = pitch-pushed-only stored₁ s₂ (room-same length₁ room) _ (pitchRow (q .sounded)) bytes-are e
 
-      pub push-held : Represents t s₂ (pushedOn r q) (extra ++ (soundOf (l .key) (getD (l .scopes) (l .line .overlay) []) (writtenOf p) ∷ []))
+      pub push-represented : Represents t s₂ (pushedOn r q) (extra ++ (soundOf (l .key) (getD (l .scopes) (l .line .overlay) []) (writtenOf p) ∷ []))
           (setScopes (alterAt (l .line .overlay) (λ old. scopeAfter old (writtenOf p)) (l .scopes)) l)
-      push-held =
+      push-represented =
           let b = stored-pitches stored₂ (append-assoc (pitchesIn (l .log)) extra (soundOf (l .key) (getD (l .scopes) (l .line .overlay) []) (writtenOf p) ∷ [])) in
           record {
             stored =
@@ -187,7 +187,7 @@ module _ (t : Tables) (s : List ℕ) (r : Registers) (p : Pitch) (room : Room t 
               only-then (only-wider (res .only) (t .heads) (t .end) (omega (arith, room .for-heads, room .for-notes, room .for-pitches)) (omega (arith, room .for-scopes)))
               (only₂ (a .state) (a .extra) (a .overlay-4) (a .represents));
           grows = record { more-heads = omega arith; more-notes = omega arith; more-pitches = omega arith; more-scopes = res .rows-most };
-          holds = λ l extra k h. push-held l extra k h;
+          holds = λ l extra k h. push-represented l extra k h;
         }
 
 -- A NOTE OR CHORD
@@ -200,9 +200,9 @@ module _ {t : Tables} {s : List ℕ} {r : Registers} (w : Length) (tie slur : Bo
     row-for : soundRow w (flagsIn (r .pending) tie slur) count ≡ rowFor (soundNote (asValue w) (l .pending) b ps)
     row-for = (λ i. soundRow w (flagsIn (h .pending-is i) (sym e i) (sym f i)) (k i)) ∙ sound-row-is w (l .pending) b ps
 
-    waits-held : Represents t s (withPending r tie) ps (setPending (pendingAfter (l .pending) b) l)
+    waits-represented : Represents t s (withPending r tie) ps (setPending (pendingAfter (l .pending) b) l)
     unfolding pendingAfter
-    waits-held =
+    waits-represented =
         record {
           stored = h .stored;
           scoped = h .scoped;
@@ -227,7 +227,7 @@ module _ {t : Tables} {s : List ℕ} {r : Registers} (w : Length) (tie slur : Bo
         note = soundNote (asValue w) (a .state .pending) b (a .pitches);
         standing = standing-pending (a .state) (pendingAfter (a .state .pending) b) (a .standing);
         row-is = row-for (a .state) b (a .pitches) refl refl (a .count-is) (a .represents);
-        represents = waits-held (a .state) b (a .pitches) refl refl (a .count-is) (a .represents);
+        represents = waits-represented (a .state) b (a .pitches) refl refl (a .count-is) (a .represents);
       }
 
   pub sounds-as : {s′ : List ℕ} {r′ : Registers} → Appends t s (withPending r tie) s′ r′ (soundRow w (flagsIn (r .pending) tie slur) count) → SimulatesSound t s r s′ r′ w tie slur count
@@ -238,7 +238,7 @@ module _ {t : Tables} {s : List ℕ} {r : Registers} (w : Length) (tie slur : Bo
         grows = a .grows;
         holds =
             λ l b ps st e f k h. a .holds (setPending (pendingAfter (l .pending) b) l) (soundNote (asValue w) (l .pending) b ps) (standing-pending l (pendingAfter (l .pending) b) st) (row-for l b ps e f k h)
-            (waits-held l b ps e f k h);
+            (waits-represented l b ps e f k h);
       }
 
 -- A NOTE

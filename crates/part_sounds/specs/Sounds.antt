@@ -1,4 +1,4 @@
--- NOTES AND RESTS: their rows, what a token leaves to be appended, and what each does to every part that is held.
+-- NOTES AND RESTS: their rows, the row that a token defers, and what each does to every part that is represented.
 use Prim.Native.Nat.{ℕ, _+_, _<_}
 use mathlib.Core.Path.{_≡_}
 use mathlib.Core.Bool.{Bool, false, true}
@@ -13,7 +13,7 @@ use Rattle.reader.specs.Pitches.{soundOf, scopeAfter}
 use Rattle.reader.specs.State.{Note}
 use Rattle.reader.specs.Part.{soundNote}
 use Rattle.part_layout.specs.Log.{LogState, setScopes, setPending, append, onSound}
-use Rattle.part_layout.proofs.Lines.{Standing}
+use Rattle.part_layout.specs.Lines.{Standing}
 use Rattle.token_lengths.specs.declared.Length.{Length}
 use Rattle.token_lengths.specs.declared.Length.the-variants.{WholeBar}
 use Rattle.token_lengths.specs.Values.{asValue}
@@ -41,7 +41,7 @@ soundRow l flags pitches =
 abbrev pub pendingOn : Pending → Bool → Pending
 pendingOn p tie = record { tie = tie; slur = false; grace = p .grace }
 
--- with the pending marks after a note
+-- with what is pending after a note
 abbrev pub withPending : Registers → Bool → Registers
 withPending r tie =
     record { counts = r .counts; key = r .key; last = r .last; pending = pendingOn (r .pending) tie; line = r .line; waiting = r .waiting; group = r .group; verses = r .verses }
@@ -57,20 +57,20 @@ abbrev pub deferredSound : Registers → Length → Bool → Bool → ℕ → De
 deferredSound r l tie slur pitches = record { registers = withPending r tie; appends = true; row = soundRow l (flagsIn (r .pending) tie slur) pitches }
 
 -- its row, if there is one, can be appended
-pub record DeferredFits (t : Tables) (s : List ℕ) (left : Deferred) : Type 0 where
-  pub room : left .appends ≡ true → Room t (left .registers .counts) (length s) 0 1 0 0
-  pub able : left .appends ≡ true → Appendable t s (left .registers) (left .row)
+pub record DeferredFits (t : Tables) (s : List ℕ) (d : Deferred) : Type 0 where
+  pub room : d .appends ≡ true → Room t (d .registers .counts) (length s) 0 1 0 0
+  pub able : d .appends ≡ true → Appendable t s (d .registers) (d .row)
 
 -- its row, if there is one, is appended
-pub record DeferredDone (t : Tables) (s : List ℕ) (left : Deferred) (s′ : List ℕ) (r′ : Registers) : Type 0 where
-  pub appended : left .appends ≡ true → Appends t s (left .registers) s′ r′ (left .row)
-  pub same-store : left .appends ≡ false → s′ ≡ s
-  pub same-registers : left .appends ≡ false → r′ ≡ left .registers
+pub record DeferredDone (t : Tables) (s : List ℕ) (d : Deferred) (s′ : List ℕ) (r′ : Registers) : Type 0 where
+  pub appended : d .appends ≡ true → Appends t s (d .registers) s′ r′ (d .row)
+  pub same-store : d .appends ≡ false → s′ ≡ s
+  pub same-registers : d .appends ≡ false → r′ ≡ d .registers
 
 -- P holds once that is done
-pub record OnceAppended (t : Tables) (s : List ℕ) (left : Deferred) (P : List ℕ → Registers → Type 0) : Type 0 where
-  pub able : DeferredFits t s left
-  pub done : (s′ : List ℕ) (r′ : Registers) → DeferredDone t s left s′ r′ → P s′ r′
+pub record OnceAppended (t : Tables) (s : List ℕ) (d : Deferred) (P : List ℕ → Registers → Type 0) : Type 0 where
+  pub able : DeferredFits t s d
+  pub done : (s′ : List ℕ) (r′ : Registers) → DeferredDone t s d s′ r′ → P s′ r′
 
 -- A REST: a note without pitches that has this row
 pub record Restable (t : Tables) (s : List ℕ) (r : Registers) (kind : ℕ) (l : Length) : Type 0 where

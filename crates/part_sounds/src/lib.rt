@@ -1,4 +1,4 @@
-// Notes and rests: pitches resolved and written; the note's row is left to be appended, for all tokens in one place.
+// Notes and rests: pitches resolved and written; the note's row is deferred, since all tokens append theirs in one place.
 ghost use mathlib.Core.Path.{_≡_};
 ghost use Prim.Native.Nat.{_<_};
 ghost use lib.ListN.{length};
@@ -13,7 +13,7 @@ use part_rows::NoteRow;
 use token_lengths::Length;
 use token_pitches::Pitch;
 
-// What a token leaves: the registers and, if it is a note, rest or chord, the row that is still to be appended.
+// The registers after a token and, if it is a note, rest or chord, its row, which is still to be appended.
 pub struct Deferred {
     pub registers: Registers,
     pub appends: bool,
@@ -37,7 +37,7 @@ fn rest_row(kind: u8, written: Length) -> NoteRow
     }
 }
 
-// The row of a note or chord with its marks and the number of its pitches.
+// The row of a note or chord with its flags and the number of its pitches.
 fn sound_row(written: Length, flags: u8, pitches: u32) -> NoteRow
     ensures { λ r. ⌜ r ≡ soundRow written flags pitches ⌝ }
 {
@@ -54,7 +54,7 @@ fn sound_row(written: Length, flags: u8, pitches: u32) -> NoteRow
     }
 }
 
-// What waits after a note: the end of its tie, and an open grace brace.
+// What is pending after a note: the end of its tie, and an open grace brace.
 fn after_pending(p: Pending, tie: bool) -> Pending
     ensures { λ r. ⌜ r ≡ pendingOn p tie ⌝ }
 {
@@ -67,7 +67,7 @@ fn after_pending(p: Pending, tie: bool) -> Pending
 
 // A token without a row (this one is never read).
 pub fn defer_nothing(r: Registers) -> Deferred
-    ensures { λ left. ⌜ left ≡ deferredNothing r ⌝ }
+    ensures { λ d. ⌜ d ≡ deferredNothing r ⌝ }
 {
     Deferred {
         registers: r,
@@ -78,7 +78,7 @@ pub fn defer_nothing(r: Registers) -> Deferred
 
 // A rest.
 pub fn append_abc_rest_note(r: Registers, kind: u8, written: Length) -> Deferred
-    ensures { λ left. ⌜ left ≡ deferredRest r kind written ⌝ }
+    ensures { λ d. ⌜ d ≡ deferredRest r kind written ⌝ }
 {
     Deferred {
         registers: r,
@@ -123,7 +123,7 @@ pub fn push_pitch(store: &mut [u8], t: Tables, r: Registers, pitch: Pitch) -> Re
 
 // A note or chord whose pitches are written.
 pub fn append_sound(r: Registers, written: Length, tie: bool, slur: bool, pitches: u32) -> Deferred
-    ensures { λ left. ⌜ left ≡ deferredSound r written tie slur pitches ⌝ }
+    ensures { λ d. ⌜ d ≡ deferredSound r written tie slur pitches ⌝ }
 {
     let flags = part_registers::note_flags(r.pending, tie, slur);
     let row = sound_row(written, flags, pitches);
@@ -147,20 +147,20 @@ pub fn append_abc_pitched_note(
     slur: bool,
 ) -> Deferred
     requires { ⌜ Room t (r .counts) (length (now store)) 0 1 1 (signs (pitch .sign)) × RepresentedInLine t (now store) r × (pitch .step < 7) ⌝ }
-    ensures { λ left. ⌜ OnceAppended t (now (store .exit)) left (λ s x. SimulatesNote t (now (store .entry)) r s x pitch written tie slur) ⌝ }
+    ensures { λ d. ⌜ OnceAppended t (now (store .exit)) d (λ s x. SimulatesNote t (now (store .entry)) r s x pitch written tie slur) ⌝ }
 {
     let x = push_pitch(store, t, r, pitch);
     append_sound(x, written, tie, slur, 1)
 }
 
-// The row that a token leaves goes to the end of its voice. One call for all tokens, so that the registers need not go through memory.
-pub fn append_deferred(store: &mut [u8], t: Tables, left: Deferred) -> Registers
-    requires { ⌜ DeferredFits t (now store) left ⌝ }
-    ensures { λ x. ⌜ DeferredDone t (now (store .entry)) left (now (store .exit)) x ⌝ }
+// The deferred row, if there is one, goes to the end of its voice. One call for all tokens, so that the registers need not go through memory.
+pub fn append_deferred(store: &mut [u8], t: Tables, d: Deferred) -> Registers
+    requires { ⌜ DeferredFits t (now store) d ⌝ }
+    ensures { λ x. ⌜ DeferredDone t (now (store .entry)) d (now (store .exit)) x ⌝ }
 {
-    let r = left.registers;
-    if left.appends {
-        return part_append::append(store, t, r, left.row);
+    let r = d.registers;
+    if d.appends {
+        return part_append::append(store, t, r, d.row);
     }
     r
 }

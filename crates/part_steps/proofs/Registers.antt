@@ -31,9 +31,9 @@ pended r p =
 
 module _ (r : Registers) (t : Tables) (s : List ℕ) where
   -- another line: f leaves its half
-  lined-does : (line : Line) (group : Running) (f : State.Line → State.Line) → ((n : State.Line) → r .line ≡ lineFor n → line ≡ lineFor (f n)) → ((n : State.Line) → f n .half ≡ n .half)
+  lined-simulates : (line : Line) (group : Running) (f : State.Line → State.Line) → ((n : State.Line) → r .line ≡ lineFor n → line ≡ lineFor (f n)) → ((n : State.Line) → f n .half ≡ n .half)
       → ((n : State.Line) → r .group .running ≡ runningFor (n .tuplet) → group ≡ runningFor (f n .tuplet)) → Simulates t s r s (lined r line group) 0 0 0 0 (λ l. setLine (f (l .line)) l)
-  lined-does line group f a b c =
+  lined-simulates line group f a b c =
       record {
         only = only-none (t .heads) (t .end) s;
         grows = grows-none (r .counts) 0 0 0 0;
@@ -56,8 +56,8 @@ module _ (r : Registers) (t : Tables) (s : List ℕ) where
       }
 
   -- something else pending
-  pended-does : (p : Pending) (f : Notes.Pending → Notes.Pending) → ((n : Notes.Pending) → r .pending ≡ pendingFor n → p ≡ pendingFor (f n)) → Simulates t s r s (pended r p) 0 0 0 0 (λ l. setPending (f (l .pending)) l)
-  pended-does p f a =
+  pended-simulates : (p : Pending) (f : Notes.Pending → Notes.Pending) → ((n : Notes.Pending) → r .pending ≡ pendingFor n → p ≡ pendingFor (f n)) → Simulates t s r s (pended r p) 0 0 0 0 (λ l. setPending (f (l .pending)) l)
+  pended-simulates p f a =
       record {
         only = only-none (t .heads) (t .end) s;
         grows = grows-none (r .counts) 0 0 0 0;
@@ -79,37 +79,37 @@ module _ (r : Registers) (t : Tables) (s : List ℕ) where
             };
       }
 
-  pub space-does : Simulates t s r s (lined r (record { unit = r .line .unit; top = r .line .top; bottom = r .line .bottom; overlay = r .line .overlay; run = 0 }) (r .group .running)) 0 0 0 0 (λ l. onToken l token.space)
+  pub space-simulates : Simulates t s r s (lined r (record { unit = r .line .unit; top = r .line .top; bottom = r .line .bottom; overlay = r .line .overlay; run = 0 }) (r .group .running)) 0 0 0 0 (λ l. onToken l token.space)
   unfolding onToken
-  space-does =
-      lined-does _ _ (withRun 0) (λ n e i. record { unit = e i .unit; top = e i .top; bottom = e i .bottom; overlay = e i .overlay; run = 0 }) (λ n. refl) (λ n e. e)
+  space-simulates =
+      lined-simulates _ _ (withRun 0) (λ n e i. record { unit = e i .unit; top = e i .top; bottom = e i .bottom; overlay = e i .overlay; run = 0 }) (λ n. refl) (λ n e. e)
 
-  pub overlay-does : (voice : ℕ) → voice ≡ nextVoice (r .line .overlay)
+  pub overlay-simulates : (voice : ℕ) → voice ≡ nextVoice (r .line .overlay)
       → Simulates t s r s (lined r (record { unit = r .line .unit; top = r .line .top; bottom = r .line .bottom; overlay = voice; run = 0 }) (r .group .running)) 0 0 0 0 (λ l. onToken l token.overlay)
   unfolding onToken
-  overlay-does voice d =
-      lined-does _ _ (λ n. withOverlay (nextVoice (n .overlay)) n)
+  overlay-simulates voice d =
+      lined-simulates _ _ (λ n. withOverlay (nextVoice (n .overlay)) n)
       (λ n e. let v : voice ≡ nextVoice (n .overlay) = d ∙ ap (λ (x : Line). nextVoice (x .overlay)) e in λ i. record { unit = e i .unit; top = e i .top; bottom = e i .bottom; overlay = v i; run = 0 })
       (λ n. refl) (λ n e. e)
 
-  pub tuplet-does : (actual normal count : ℕ) → Simulates t s r s (lined r (r .line) (running.Tuplet actual normal count count)) 0 0 0 0 (λ l. onToken l (token.tuplet (record { actual = actual; normal = normal; count = count })))
+  pub tuplet-simulates : (actual normal count : ℕ) → Simulates t s r s (lined r (r .line) (running.Tuplet actual normal count count)) 0 0 0 0 (λ l. onToken l (token.tuplet (record { actual = actual; normal = normal; count = count })))
   unfolding onToken
-  tuplet-does actual normal count =
-      lined-does _ _ (withTuplet (some (record { tuplet = record { actual = actual; normal = normal; count = count }; left = count }))) (λ n e. e) (λ n. refl) (λ n e. refl)
+  tuplet-simulates actual normal count =
+      lined-simulates _ _ (withTuplet (some (record { tuplet = record { actual = actual; normal = normal; count = count }; left = count }))) (λ n e. e) (λ n. refl) (λ n e. refl)
 
-  pub unit-does : (unit : ℕ) → Simulates t s r s (lined r (record { unit = unit; top = r .line .top; bottom = r .line .bottom; overlay = r .line .overlay; run = r .line .run }) (r .group .running)) 0 0 0 0 (λ l. onToken l (token.unit unit))
+  pub unit-simulates : (unit : ℕ) → Simulates t s r s (lined r (record { unit = unit; top = r .line .top; bottom = r .line .bottom; overlay = r .line .overlay; run = r .line .run }) (r .group .running)) 0 0 0 0 (λ l. onToken l (token.unit unit))
   unfolding onToken
-  unit-does unit =
-      lined-does _ _ (withUnit unit) (λ n e i. record { unit = unit; top = e i .top; bottom = e i .bottom; overlay = e i .overlay; run = e i .run }) (λ n. refl) (λ n e. e)
+  unit-simulates unit =
+      lined-simulates _ _ (withUnit unit) (λ n e i. record { unit = unit; top = e i .top; bottom = e i .bottom; overlay = e i .overlay; run = e i .run }) (λ n. refl) (λ n e. e)
 
-  pub slur-does : Simulates t s r s (pended r (record { tie = r .pending .tie; slur = true; grace = r .pending .grace })) 0 0 0 0 (λ l. onToken l token.slur)
+  pub slur-simulates : Simulates t s r s (pended r (record { tie = r .pending .tie; slur = true; grace = r .pending .grace })) 0 0 0 0 (λ l. onToken l token.slur)
   unfolding onToken slurOpens
-  slur-does = pended-does _ slurOpens (λ n e i. record { tie = e i .tie; slur = true; grace = e i .grace })
+  slur-simulates = pended-simulates _ slurOpens (λ n e i. record { tie = e i .tie; slur = true; grace = e i .grace })
 
-  pub grace-open-does : Simulates t s r s (pended r (record { tie = r .pending .tie; slur = r .pending .slur; grace = true })) 0 0 0 0 (λ l. onToken l token.graceOpen)
+  pub grace-open-simulates : Simulates t s r s (pended r (record { tie = r .pending .tie; slur = r .pending .slur; grace = true })) 0 0 0 0 (λ l. onToken l token.graceOpen)
   unfolding onToken graceOpens
-  grace-open-does = pended-does _ graceOpens (λ n e i. record { tie = e i .tie; slur = e i .slur; grace = true })
+  grace-open-simulates = pended-simulates _ graceOpens (λ n e i. record { tie = e i .tie; slur = e i .slur; grace = true })
 
-  pub grace-close-does : Simulates t s r s (pended r (record { tie = r .pending .tie; slur = r .pending .slur; grace = false })) 0 0 0 0 (λ l. onToken l token.graceClose)
+  pub grace-close-simulates : Simulates t s r s (pended r (record { tie = r .pending .tie; slur = r .pending .slur; grace = false })) 0 0 0 0 (λ l. onToken l token.graceClose)
   unfolding onToken graceCloses
-  grace-close-does = pended-does _ graceCloses (λ n e i. record { tie = e i .tie; slur = e i .slur; grace = false })
+  grace-close-simulates = pended-simulates _ graceCloses (λ n e i. record { tie = e i .tie; slur = e i .slur; grace = false })

@@ -1,16 +1,16 @@
 -- The registers after an inline key, and where a line begins.
 use Prim.Native.Nat.{ℕ}
-use mathlib.Core.Bool.{Bool}
+use Rattle.standard.specs.Keys.{Key}
 use Rattle.part_registers.specs.declared.Registers.{Registers}
 use Rattle.part_registers.specs.declared.Half.the-variants as half
 use Rattle.part_registers.specs.declared.Running.the-variants as running
 use Rattle.part_bars.specs.Bars.{nowhere}
 
-abbrev pub hearing : Registers → ℕ → Bool → Registers
-hearing r fifths minor =
+abbrev pub hearing : Registers → Key → Registers
+hearing r k =
     record {
       counts = record { heads = r .counts .heads; notes = r .counts .notes; pitches = r .counts .pitches; scopes = 0 };
-      key = record { fifths = fifths; minor = minor; scopes = nowhere };
+      key = record { fifths = k .fifths; minor = k .minor; scopes = nowhere };
       last = r .last;
       pending = r .pending;
       line = r .line;

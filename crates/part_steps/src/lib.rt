@@ -5,10 +5,12 @@ ghost use Prim.Native.Nat.{ℕ, _≤_};
 ghost use lib.ListN.{length};
 ghost use Rattle.standard.specs.Notes.{nextVoice};
 ghost use Rattle.reader.specs.Token as token;
+ghost use Rattle.field_keys.specs.Passed.{keyAs};
 ghost use Rattle.part_layout.specs.Log.{onToken, lineBegins};
 ghost use Rattle.part_invariant.specs.Invariant.{Room, RepresentedInLine, Simulates};
 ghost use Rattle.part_invariant.specs.Lines.{RoomForBytes, RepresentedBetween, SimulatesItem};
 ghost use Rattle.part_steps.specs.Steps.{hearing, begun};
+use field_keys::Key;
 use part_accidentals::AbcPartParseState;
 use part_registers::Group;
 use part_registers::Half;
@@ -54,7 +56,7 @@ pub fn on_tuplet(r: Registers, actual: u8, normal: u8, count: u64) -> Registers
         actual,
         normal,
         count,
-        left: count,
+        remaining: count,
     };
     let group = Group { running };
     let mut x = r;
@@ -97,36 +99,30 @@ pub fn on_unit(r: Registers, unit: u32) -> Registers
 }
 
 // The registers with another key, in which no accidental is remembered.
-pub fn hear(r: Registers, fifths: u8, minor: bool) -> Registers
-    ensures { λ x. ⌜ x ≡ hearing r fifths minor ⌝ }
+pub fn hear(r: Registers, key: Key) -> Registers
+    ensures { λ x. ⌜ x ≡ hearing r (keyAs key) ⌝ }
 {
     let none = [0u32; 4];
-    let key = AbcPartParseState {
-        fifths,
-        minor,
+    let state = AbcPartParseState {
+        fifths: key.fifths,
+        minor: key.minor,
         scopes: none,
     };
     let mut x = r;
     let heads = r.counts.heads;
     x.counts = part_registers::with_heads(r.counts, heads, 0);
-    x.key = key;
+    x.key = state;
     x
 }
 
 // An inline K field.
-pub fn on_key(store: &mut [u8], t: Tables, r: Registers, fifths: u8, minor: bool) -> Registers
+pub fn on_key(store: &mut [u8], t: Tables, r: Registers, key: Key) -> Registers
     requires { ⌜ Room t (r .counts) (length (now store)) 0 0 0 0 × RepresentedInLine t (now store) r ⌝ }
-    ensures { λ x. ⌜ Simulates t (now (store .entry)) r (now (store .exit)) x 0 0 0 0 (λ l. onToken l (token.key (record { fifths = fifths; minor = minor }))) ⌝ }
+    ensures { λ x. ⌜ Simulates t (now (store .entry)) r (now (store .exit)) x 0 0 0 0 (λ l. onToken l (token.key (keyAs key))) ⌝ }
 {
     let i = (r.counts.heads - 1) as usize;
-    part_measures::set_key_mark(
-        store,
-        t.heads,
-        i,
-        part_ends::mode_code(minor),
-        part_rows::signed(fifths),
-    );
-    hear(r, fifths, minor)
+    part_measures::set_key_mark(store, t.heads, i, key);
+    hear(r, key)
 }
 
 // A new line's registers, with so many measures.
@@ -172,7 +168,7 @@ pub fn begin_line(
 {
     let counts = r.counts;
     if counts.heads == 0 {
-        part_measures::put_head(store, t.heads, 0, 0, top, bottom);
+        part_measures::put_measure(store, t.heads, 0, 0, top, bottom);
         return new_line(r, 1, unit, top, bottom);
     }
     new_line(r, counts.heads, unit, top, bottom)

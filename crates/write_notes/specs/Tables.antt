@@ -8,7 +8,7 @@ use Rattle.standard.specs.Pitches.{Pitch}
 use Rattle.reader.specs.State.{Note}
 use Rattle.reader.specs.Records.{measureWidth, pitchBytes}
 use Rattle.part_layout.specs.Log.{Head}
-use Rattle.part_layout.proofs.Counts.{Fits}
+use Rattle.part_layout.specs.Lines.{Fits}
 use Rattle.part_rows.specs.Table.{Table}
 use Rattle.part_rows.specs.Encoded.{noteRowWidth, pitchRowWidth, noteRow}
 use Rattle.part_rows.specs.Read.{pitchCount}

@@ -5,7 +5,7 @@ use mathlib.Core.List.{List}
 use lib.ListN.{length}
 use Rattle.standard.specs.Pitches.{Pitch}
 use Rattle.part_rows.specs.Table.{Table}
-use Rattle.part_rows.specs.Encoded.{Remembered, scopeRow}
+use Rattle.part_rows.specs.Encoded.{Remembered, scopeRow, scopeRowWidth}
 use Rattle.part_chains.specs.Chains.{Chain, Chained, placeIn}
 use Rattle.part_chains.proofs.Chains.{Seeks, seeks-over}
 use Rattle.part_chains.proofs.Scoped.{chained-inside, chained-next, chained-less, other-step, other-octave, found-here}
@@ -17,7 +17,7 @@ use Rattle.part_accidentals.proofs.find_accidental.Tie as tie
 abbrev Inv-loop : tie.InvT-loop
 Inv-loop store at place step octave p₀ p =
     Chained store at p
-    × ((rows : List Remembered) (v : ℕ) (d : List Pitch) → Table scopeRow 8 store at rows → length rows < 2 ^ 32 → Chain rows v place d
+    × ((rows : List Remembered) (v : ℕ) (d : List Pitch) → Table scopeRow scopeRowWidth store at rows → length rows < 2 ^ 32 → Chain rows v place d
     → Seeks rows v p step octave (placeIn rows place d step octave))
 
 abbrev μ-loop : tie.MeasureT-loop

@@ -4,7 +4,7 @@ use mathlib.Core.Path.{_∙_}
 use native.Mathlib.Omega.{arith}
 use lib.ListN.{length}
 use borrow.Author.Needs.{needs}
-use Rattle.part_body.proofs.Lines.{Going, rest-none, begun, line-takes, going-start, going-ready, going-past, going-turn}
+use Rattle.part_body.proofs.Lines.{Going, rest-none, begun, line-simulates, going-start, going-ready, going-past, going-turn}
 use Rattle.part_body.proofs.parse_body_line.Statement.{statement}
 use Rattle.part_body.proofs.parse_body_line.Tie as tie
 
@@ -52,7 +52,7 @@ same-length c = c .before .loop .inv .only .same-length ∙ c .before .before .b
 returns : tie.Need-returns Inv-loop μ-loop
 returns c =
     let a = c .before .before .before .before .before .before .before .before .before .args in
-    line-takes (a .unit) (a .top, a .bottom) (c .before .before .before .before .begin-line .ensures .0) (c .before .loop .inv) (c .loop-test .left)
+    line-simulates (a .unit) (a .top, a .bottom) (c .before .before .before .before .begin-line .ensures .0) (c .before .loop .inv) (c .loop-test .left)
 
 pub parse-body-line-spec : {M : Type 1} → statement M
 parse-body-line-spec =

@@ -1,7 +1,7 @@
 -- `part_chords::append_abc_chord_note` meets its contract.
 use native.Mathlib.Omega.{arith}
 use borrow.Author.Needs.{needs}
-use Rattle.part_chords.proofs.Pushing.{pitches-room, chord-leaves}
+use Rattle.part_chords.proofs.Pushing.{pitches-room, once-appended-chord}
 use Rattle.part_chords.proofs.append_abc_chord_note.Statement.{statement}
 use Rattle.part_chords.proofs.append_abc_chord_note.Tie as tie
 
@@ -14,7 +14,7 @@ cast-append-sound c = let pre = c .before .before .before .before .before .befor
 returns : tie.Need-returns
 returns c =
     let pre = c .before .before .before .before .before .before .before .pre in
-    chord-leaves (c .before .before .before .push-pitches .ensures) (c .append-sound .ensures) (pre .2 .count-is) (pre .0) (pre .1)
+    once-appended-chord (c .before .before .before .push-pitches .ensures) (c .append-sound .ensures) (pre .2 .count-is) (pre .0) (pre .1)
 
 pub append-abc-chord-note-spec : {M : Type 1} → statement M
 append-abc-chord-note-spec = tie.close (tie.spec push-pitches-requires cast-append-sound (λ c κs. search needs) (λ c. search needs) returns)

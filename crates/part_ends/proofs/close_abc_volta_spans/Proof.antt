@@ -8,6 +8,7 @@ use Rattle.part_layout.specs.Log.{Head}
 use Rattle.part_rows.specs.Table.{Table, Only}
 use Rattle.part_measures.specs.Heads.{headRow}
 use Rattle.part_rows.proofs.Tables.{only-none, only-then}
+use Rattle.reader.specs.Records.{measureWidth}
 use Rattle.part_ends.proofs.Closing.{Going, going-start, going-turn, going-end}
 use borrow.Author.Needs.{needs}
 use Rattle.part_ends.proofs.close_abc_volta_spans.Statement.{statement}
@@ -15,7 +16,7 @@ use Rattle.part_ends.proofs.close_abc_volta_spans.Tie as tie
 
 abbrev Inv-loop : tie.InvT-loop
 Inv-loop store₀ at n span₀ i₀ store span i =
-    (i ≤ n) × (length store ≡ length store₀) × Only at (at + 28 * n) store₀ store × ((heads : List Head) → Table headRow 28 store₀ at heads → length heads ≡ n → Going store at n i span heads)
+    (i ≤ n) × (length store ≡ length store₀) × Only at (at + measureWidth * n) store₀ store × ((heads : List Head) → Table headRow measureWidth store₀ at heads → length heads ≡ n → Going store at n i span heads)
 
 abbrev μ-loop : tie.MeasureT-loop
 μ-loop store₀ at n span₀ i₀ store span i = n - i

@@ -1,6 +1,7 @@
 -- `part_items::take_item` meets its contract.
 use Prim.Native.Nat.{ℕ}
 use mathlib.Core.Path.{sym, subst}
+use Rattle.field_keys.specs.Passed.{keyAs}
 use Rattle.part_items.specs.Items.{Ready}
 use Rattle.part_items.proofs.Turns.{taken-as, taken-other}
 use borrow.Author.Needs.{needs}
@@ -10,7 +11,7 @@ use Rattle.part_items.proofs.take_item.Tie as tie
 returns : tie.Need-returns
 returns c =
     let a = c .before .before .before .before .before .before .args in
-    taken-other (a .text .now) (a .t) (record { fifths = a .fifths; minor = a .minor }) (a .part) (a .i) (a .store .now) (a .r) _ (c .before .before .get-item .ensures) (c .if1 .taken)
+    taken-other (a .text .now) (a .t) (keyAs (a .header)) (a .part) (a .i) (a .store .now) (a .r) _ (c .before .before .get-item .ensures) (c .if1 .taken)
 
 on-item-requires : tie.Need-on-item-requires
 on-item-requires c κs =

@@ -1,5 +1,5 @@
 -- `part_sounds::append_abc_pitched_note` meets its contract.
-use Rattle.part_sounds.proofs.Leaving.{note-leaves}
+use Rattle.part_sounds.proofs.Deferring.{once-appended-note}
 use borrow.Author.Needs.{needs}
 use Rattle.part_sounds.proofs.append_abc_pitched_note.Statement.{statement}
 use Rattle.part_sounds.proofs.append_abc_pitched_note.Tie as tie
@@ -7,7 +7,7 @@ use Rattle.part_sounds.proofs.append_abc_pitched_note.Tie as tie
 returns : tie.Need-returns
 returns c =
     let pre = c .before .before .before .before .before .before .pre in
-    note-leaves (c .before .before .before .push-pitch .ensures) (c .append-sound .ensures) (pre .0) (pre .1)
+    once-appended-note (c .before .before .before .push-pitch .ensures) (c .append-sound .ensures) (pre .0) (pre .1)
 
 pub append-abc-pitched-note-spec : {M : Type 1} → statement M
 append-abc-pitched-note-spec = tie.close (tie.spec (λ c κs. search needs) (λ c κs. search needs) (λ c. search needs) returns)

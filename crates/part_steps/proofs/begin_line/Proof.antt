@@ -7,7 +7,7 @@ use Rattle.part_steps.proofs.begin_line.Tie as tie
 returns : tie.Need-returns
 returns c =
     let a = c .before .before .before .before .before .before .before .before .before .args in
-    opens-first (a .unit) (a .top) (a .bottom) (c .before .before .before .before .before .before .before .before .before .pre .0) (c .before .before .before .before .before .before .before .before .before .pre .1) (c .before .before .before .before .before .if1 .taken) _ (c .before .before .before .put-head .ensures) _ (c .new-line .ensures)
+    opens-first (a .unit) (a .top) (a .bottom) (c .before .before .before .before .before .before .before .before .before .pre .0) (c .before .before .before .before .before .before .before .before .before .pre .1) (c .before .before .before .before .before .if1 .taken) _ (c .before .before .before .put-measure .ensures) _ (c .new-line .ensures)
 
 returns-2 : tie.Need-returns-2
 returns-2 c =

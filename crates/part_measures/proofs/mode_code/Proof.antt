@@ -1,9 +1,9 @@
--- `part_ends::mode_code` meets its contract.
+-- `part_measures::mode_code` meets its contract.
 use mathlib.Core.Path.{sym}
 use Rattle.reader.specs.Codes.{modeCode}
 use Rattle.laws.proofs.Bools.{cond-true, cond-false}
-use Rattle.part_ends.proofs.mode_code.Statement.{statement}
-use Rattle.part_ends.proofs.mode_code.Tie as tie
+use Rattle.part_measures.proofs.mode_code.Statement.{statement}
+use Rattle.part_measures.proofs.mode_code.Tie as tie
 
 returns : tie.Need-returns
 unfolding modeCode

@@ -1,4 +1,4 @@
--- WHAT A TOKEN LEAVES: what holds once its row, if there is one, is appended.
+-- DEFERRED ROWS: what holds once a token's row, if there is one, is appended.
 use Prim.Native.Nat.{ℕ}
 use mathlib.Core.Path.{_≡_, refl, sym, subst}
 use mathlib.Core.Bool.{Bool, false}
@@ -16,8 +16,8 @@ use Rattle.part_sounds.specs.Sounds.{deferredNothing, deferredRest, defe
 use Rattle.part_sounds.proofs.Sounding.{rest-able, rests-as, sound-able, sounds-as, note-room, note-able, notes-as}
 
 -- NO ROW: the registers as they are
-pub kept-leaves : {t : Tables} {s : List ℕ} {left : Deferred} {r : Registers} {P : List ℕ → Registers → Type 0} → left ≡ deferredNothing r → P s r → OnceAppended t s left P
-kept-leaves {t} {s} {left} {r} {P} e p = subst (λ (x : Deferred). OnceAppended t s x P) (sym e) leaves
+pub once-appended-none : {t : Tables} {s : List ℕ} {left : Deferred} {r : Registers} {P : List ℕ → Registers → Type 0} → left ≡ deferredNothing r → P s r → OnceAppended t s left P
+once-appended-none {t} {s} {left} {r} {P} e p = subst (λ (x : Deferred). OnceAppended t s x P) (sym e) leaves
   where
     leaves : OnceAppended t s (deferredNothing r) P
     leaves =
@@ -31,22 +31,22 @@ row-able : {t : Tables} {s : List ℕ} (left : Deferred) → Room t (left .regis
 row-able left room a = record { room = λ y. room; able = λ y. a }
 
 -- a rest
-pub rest-leaves : {t : Tables} {s : List ℕ} {left : Deferred} {r : Registers} {kind : ℕ} {w : Length} → left ≡ deferredRest r kind w → Room t (r .counts) (length s) 0 1 0 0 → Restable t s r kind w
+pub once-appended-rest : {t : Tables} {s : List ℕ} {left : Deferred} {r : Registers} {kind : ℕ} {w : Length} → left ≡ deferredRest r kind w → Room t (r .counts) (length s) 0 1 0 0 → Restable t s r kind w
     → OnceAppended t s left (λ s′ r′. SimulatesRest t s r s′ r′ kind w)
-rest-leaves {t} {s} {left} {r} {kind} {w} e room h =
+once-appended-rest {t} {s} {left} {r} {kind} {w} e room h =
     subst (λ (x : Deferred). OnceAppended t s x (λ s′ r′. SimulatesRest t s r s′ r′ kind w)) (sym e)
     (record { able = row-able (deferredRest r kind w) room (rest-able h); done = λ s′ r′ f. rests-as (f .appended refl) })
 
 -- a note or chord whose pitches are there
-pub sound-leaves : {t : Tables} {s : List ℕ} {left : Deferred} {r : Registers} {w : Length} {tie slur : Bool} {count : ℕ} → left ≡ deferredSound r w tie slur count
+pub once-appended-sound : {t : Tables} {s : List ℕ} {left : Deferred} {r : Registers} {w : Length} {tie slur : Bool} {count : ℕ} → left ≡ deferredSound r w tie slur count
     → Room t (r .counts) (length s) 0 1 0 0 → Soundable t s r count → OnceAppended t s left (λ s′ r′. SimulatesSound t s r s′ r′ w tie slur count)
-sound-leaves {t} {s} {left} {r} {w} {tie} {slur} {count} e room h =
+once-appended-sound {t} {s} {left} {r} {w} {tie} {slur} {count} e room h =
     subst (λ (x : Deferred). OnceAppended t s x (λ s′ r′. SimulatesSound t s r s′ r′ w tie slur count)) (sym e)
     (record { able = row-able (deferredSound r w tie slur count) room (sound-able w tie slur count h); done = λ s′ r′ f. sounds-as w tie slur count (f .appended refl) })
 
 -- a note
-pub note-leaves : {t : Tables} {s s₁ : List ℕ} {left : Deferred} {r r₁ : Registers} {p : Pitch} {w : Length} {tie slur : Bool} → SimulatesPitch t s r s₁ r₁ p → left ≡ deferredSound r₁ w tie slur 1
+pub once-appended-note : {t : Tables} {s s₁ : List ℕ} {left : Deferred} {r r₁ : Registers} {p : Pitch} {w : Length} {tie slur : Bool} → SimulatesPitch t s r s₁ r₁ p → left ≡ deferredSound r₁ w tie slur 1
     → Room t (r .counts) (length s) 0 1 1 (signs (p .sign)) → RepresentedInLine t s r → OnceAppended t s₁ left (λ s₂ r₂. SimulatesNote t s r s₂ r₂ p w tie slur)
-note-leaves a e room h =
-    let b = sound-leaves e (note-room a room) (note-able a h) in
+once-appended-note a e room h =
+    let b = once-appended-sound e (note-room a room) (note-able a h) in
     record { able = b .able; done = λ s₂ r₂ f. notes-as a (b .done s₂ r₂ f) }

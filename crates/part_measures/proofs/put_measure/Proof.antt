@@ -1,10 +1,10 @@
--- `part_measures::put_head` meets its contract: four writes, each where the last one ended.
+-- `part_measures::put_measure` meets its contract: four writes, each where the last one ended.
 use mathlib.Core.Path.{refl}
 use Rattle.laws.proofs.Splices.{spliced-next}
 use Rattle.part_measures.specs.Heads.{newRow}
 use borrow.Author.Needs.{needs}
-use Rattle.part_measures.proofs.put_head.Statement.{statement}
-use Rattle.part_measures.proofs.put_head.Tie as tie
+use Rattle.part_measures.proofs.put_measure.Statement.{statement}
+use Rattle.part_measures.proofs.put_measure.Tie as tie
 
 returns : tie.Need-returns
 unfolding newRow
@@ -17,5 +17,5 @@ returns c =
     let e3 = spliced-next _ _ _ _ _ _ _ e2 (c3 .put-42 .ensures) refl in
     spliced-next _ _ _ _ _ _ _ e3 (c4 .put-43 .ensures) refl
 
-pub put-head-spec : {M : Type 1} → statement M
-put-head-spec = tie.close (tie.spec (λ c. search needs) (λ c. search needs) (λ c κs. search needs) (λ c. search needs) (λ c κs. search needs) (λ c. search needs) (λ c κs. search needs) (λ c. search needs) (λ c κs. search needs) (λ c. search needs) returns)
+pub put-measure-spec : {M : Type 1} → statement M
+put-measure-spec = tie.close (tie.spec (λ c. search needs) (λ c. search needs) (λ c κs. search needs) (λ c. search needs) (λ c κs. search needs) (λ c. search needs) (λ c κs. search needs) (λ c. search needs) (λ c κs. search needs) (λ c. search needs) returns)
