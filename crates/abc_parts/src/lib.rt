@@ -6,55 +6,67 @@ ghost use lib.ListN.{length, replicate};
 ghost use Rattle.reader.specs.Part.{build};
 ghost use Rattle.reader.specs.Records as Records;
 ghost use Rattle.reader.specs.Steps.{itemsOf};
+ghost use Rattle.field_keys.specs.Passed.{keyAs};
 ghost use Rattle.scan_table.specs.Rows.{itemsIn};
 ghost use Rattle.lyrics.specs.Items.{Fits, AllSung};
 ghost use Rattle.store_sections.specs.Writes.{WroteIs};
 ghost use Rattle.part_sizing.specs.Room.{PartRoom, Sized};
 ghost use Rattle.abc_parts.specs.Parts.{sheetAt, PartRead};
+use field_keys::Key;
 use lyrics::Sheet;
 use part_registers::Tables;
 use store_sections::Wrote;
+use write_notes::PartTables;
+use write_notes::Rows;
 
-// How many measures, notes and pitches a part has once it is ended, and how many of its notes are sung to.
-pub struct Rows {
-    pub measures: usize,
-    pub notes: usize,
-    pub pitches: usize,
+// A part that is read and ended: its tables, and how many of its notes are sung to.
+pub struct Ended {
+    pub tables: PartTables,
     pub sounded: usize,
 }
 
 // The part's items in order, and its end.
-fn read_part(
-    text: &[u8],
-    scratch: &mut [u8],
-    n: usize,
-    part: u8,
-    t: Tables,
-    fifths: u8,
-    minor: bool,
-) -> Rows
+fn read_part(text: &[u8], scratch: &mut [u8], n: usize, part: u8, t: Tables, key: Key) -> Ended
     requires { ⌜ (length (now text) ≤ 67108864) × Sized (now text) (now scratch) n part t ⌝ }
-    ensures { λ r. ⌜ PartRead (now (text .entry)) (now (scratch .entry)) n part (record { fifths = fifths; minor = minor }) t (now (scratch .exit)) r ⌝ }
+    ensures { λ r. ⌜ PartRead (now (text .entry)) (now (scratch .entry)) n part (keyAs key) t (now (scratch .exit)) r ⌝ }
 {
-    let r = part_items::build_items(text, scratch, n, part, t, fifths, minor);
+    let r = part_items::build_items(text, scratch, n, part, t, key);
     let counts = r.counts;
     let verses = r.verses;
-    let measures = part_ends::end_part(scratch, t.heads, counts.heads as usize, fifths, minor);
-    Rows {
+    let count = part_ends::end_part(scratch, t.heads, counts.heads as usize, key);
+    let measures = Rows { at: t.heads, count };
+    let notes = Rows {
+        at: t.notes,
+        count: counts.notes as usize,
+    };
+    let pitches = Rows {
+        at: t.pitches,
+        count: counts.pitches as usize,
+    };
+    let tables = PartTables {
         measures,
-        notes: counts.notes as usize,
-        pitches: counts.pitches as usize,
+        notes,
+        pitches,
+    };
+    Ended {
+        tables,
         sounded: verses.sounded as usize,
     }
 }
 
 // The part's lyric lines, sung to its notes: the sheet stands where the accidentals in force stood, which are over.
-fn sing_part(text: &[u8], scratch: &mut [u8], n: usize, part: u8, t: Tables, d: Rows) -> Sheet
-    requires { ⌜ Fits (now text) (now scratch) n part (sheetAt t d 0) ⌝ }
-    ensures { λ r. ⌜ (r ≡ sheetAt t d (r .count)) × AllSung (now (text .entry)) (now (scratch .entry)) (now (scratch .exit)) n part (sheetAt t d 0) (replicate (d .sounded) []) (r .count) ⌝ }
+fn sing_part(
+    text: &[u8],
+    scratch: &mut [u8],
+    n: usize,
+    part: u8,
+    t: Tables,
+    sounded: usize,
+) -> Sheet
+    requires { ⌜ Fits (now text) (now scratch) n part (sheetAt t sounded 0) ⌝ }
+    ensures { λ r. ⌜ (r ≡ sheetAt t sounded (r .count)) × AllSung (now (text .entry)) (now (scratch .entry)) (now (scratch .exit)) n part (sheetAt t sounded 0) (replicate sounded []) (r .count) ⌝ }
 {
     let heads = t.scopes;
-    let sounded = d.sounded;
     let log = heads + 4 * sounded;
     let sheet = Sheet {
         heads,
@@ -77,27 +89,15 @@ pub fn write_part(
     scratch: &mut [u8],
     n: usize,
     part: u8,
-    fifths: u8,
-    minor: bool,
+    key: Key,
     to: &mut [u8],
 ) -> Wrote
     requires { ⌜ PartRoom (now text) (now scratch) n part ⌝ }
-    ensures { λ r. ⌜ WroteIs (now (to .entry)) (Records.sections (build (record { fifths = fifths; minor = minor }) (itemsOf part (itemsIn (now (text .entry)) (now (scratch .entry)) n)))) (now (to .exit)) r ⌝ }
+    ensures { λ r. ⌜ WroteIs (now (to .entry)) (Records.sections (build (keyAs key) (itemsOf part (itemsIn (now (text .entry)) (now (scratch .entry)) n)))) (now (to .exit)) r ⌝ }
     ensures { λ _. ⌜ (itemsIn (now (text .entry)) (now (scratch .exit)) n ≡ itemsIn (now (text .entry)) (now (scratch .entry)) n) × (length (now (scratch .exit)) ≡ length (now (scratch .entry))) ⌝ }
 {
     let t = part_sizing::size_part(text, scratch, n, part);
-    let d = read_part(text, scratch, n, part, t, fifths, minor);
-    let sheet = sing_part(text, scratch, n, part, t, d);
-    write_lyrics::write_sections(
-        text,
-        scratch,
-        t.heads,
-        d.measures,
-        t.notes,
-        d.notes,
-        t.pitches,
-        d.pitches,
-        sheet,
-        to,
-    )
+    let d = read_part(text, scratch, n, part, t, key);
+    let sheet = sing_part(text, scratch, n, part, t, d.sounded);
+    write_part::write_sections(text, scratch, d.tables, sheet, to)
 }

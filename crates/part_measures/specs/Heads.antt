@@ -53,3 +53,7 @@ newRow left top bottom =
 -- the four counts at a place are 0
 unfoldable pub noNotes : List ℕ → ℕ → Bool
 noNotes s at = eqb 0 (u32At s at) && (eqb 0 (u32At s (at + 4)) && (eqb 0 (u32At s (at + 8)) && (eqb 0 (u32At s (at + 12)) && true)))
+
+-- READ BY THE WRITERS: how many notes the four counts at a place make
+unfoldable pub noteCount : List ℕ → ℕ → ℕ
+noteCount s at = u32At s at + u32At s (at + 4) + u32At s (at + 8) + u32At s (at + 12)

@@ -7,7 +7,7 @@ ghost use lib.ListN.{length, getD};
 ghost use Rattle.laws.specs.Bytes.{splice, le32, u32At};
 ghost use Rattle.reader.specs.Codes.{modeCode};
 ghost use Rattle.reader.specs.Records.{measureWidth, signed8};
-ghost use Rattle.part_measures.specs.Heads.{newRow, noNotes, leftAt, rightAt, meterAt, keyMarkAt, voltaAt, firstPassAt, passesAt};
+ghost use Rattle.part_measures.specs.Heads.{newRow, noNotes, noteCount, leftAt, rightAt, meterAt, keyMarkAt, voltaAt, firstPassAt, passesAt};
 use field_keys::Key;
 
 // The bytes of a row: those of the measure record.
@@ -188,4 +188,18 @@ pub fn get_passes(store: &[u8], at: usize, i: usize) -> u32
     ensures { λ r. ⌜ r ≡ u32At (now (store .entry)) (at + measureWidth * i + passesAt) ⌝ }
 {
     store::get_u32(store, at + MEASURE * i + PASSES)
+}
+
+// READ BY THE WRITERS, by the place of a row
+
+// How many notes the row counts, in all four voices.
+pub fn note_count(store: &[u8], place: usize) -> usize
+    requires { ⌜ place + measureWidth ≤ length (now store) ⌝ }
+    ensures { λ r. ⌜ (r ≡ noteCount (now (store .entry)) place) × (r < 2 ^ 34) ⌝ }
+{
+    let a = store::get_u32(store, place);
+    let b = store::get_u32(store, place + 4);
+    let c = store::get_u32(store, place + 8);
+    let d = store::get_u32(store, place + 12);
+    a as usize + b as usize + c as usize + d as usize
 }

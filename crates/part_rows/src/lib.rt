@@ -1,11 +1,13 @@
 // The rows of a part's tables in scratch but for measures (crate part_measures): notes, pitches. A table is where it begins, a row its index.
 ghost use mathlib.Core.Path.{_≡_};
+ghost use mathlib.Core.Bool.{not};
 ghost use mathlib.Core.List.{[], _∷_};
-ghost use Prim.Native.Nat.{_+_, _*_, _≤_};
+ghost use Prim.Native.Nat.{_+_, _*_, _^_, _≤_, _<_};
 ghost use lib.ListN.{length, getD};
-ghost use Rattle.laws.specs.Bytes.{splice};
-ghost use Rattle.reader.specs.Records.{signed8, signed16};
+ghost use Rattle.laws.specs.Bytes.{part, splice};
+ghost use Rattle.reader.specs.Records.{noteWidth, signed8, signed16};
 ghost use Rattle.part_rows.specs.Encoded.{rowBytes, pitchRow, noteRowWidth, pitchRowWidth, valueAt, dotsAt, beamAt};
+ghost use Rattle.part_rows.specs.Read.{startAt, restAt, soundsAt, ofVoiceAt, pitchCount};
 
 // The bytes of a row: a note's, a pitch's (those of its record), an accidental's.
 pub const NOTE_ROW: usize = 16;
@@ -18,6 +20,8 @@ pub const SCOPE_ROW: usize = 8;
 const VALUE: usize = 1;
 
 const DOTS: usize = 2;
+
+const FLAGS: usize = 3;
 
 const BEAM: usize = 4;
 
@@ -133,4 +137,77 @@ pub fn put_pitch(store: &mut [u8], at: usize, i: usize, p: Sounded)
         cents,
     );
     store::put_u8(store, place + CENTS_SIGN, sign(p.cents));
+}
+
+// READ BY THE WRITERS, by the place of a row
+
+// What the note record has of a row before its beam, but for flag 32, and the beam.
+pub struct NoteStart {
+    pub kind: u8,
+    pub value: u8,
+    pub dots: u8,
+    pub flags: u8,
+    pub beam: u8,
+}
+
+// Kind, value, dots, flags and beam of the note.
+pub fn note_start(store: &[u8], place: usize) -> NoteStart
+    requires { ⌜ place + noteRowWidth ≤ length (now store) ⌝ }
+    ensures { λ r. ⌜ r ≡ startAt (now (store .entry)) place ⌝ }
+{
+    NoteStart {
+        kind: store[place],
+        value: store[place + VALUE],
+        dots: store[place + DOTS],
+        flags: store[place + FLAGS],
+        beam: store[place + BEAM],
+    }
+}
+
+// Copies four bytes, all of them read before one is written.
+fn copy_4(store: &[u8], from: usize, to: &mut [u8], at: usize)
+    requires { ⌜ (from + 4 ≤ length (now store)) × (at + 4 ≤ length (now to)) ⌝ }
+    ensures { λ _. ⌜ now (to .exit) ≡ splice (now (to .entry)) at (part (now (store .entry)) from 4) ⌝ }
+{
+    store::put_4(
+        to,
+        at,
+        store[from],
+        store[from + 1],
+        store[from + 2],
+        store[from + 3],
+    );
+}
+
+// Copies the rest of the note record: beam, tuplet, boundary, and how many pitches.
+pub fn copy_note_rest(store: &[u8], place: usize, to: &mut [u8])
+    requires { ⌜ (place + noteRowWidth ≤ length (now store)) × (noteWidth ≤ length (now to)) ⌝ }
+    ensures { λ _. ⌜ now (to .exit) ≡ splice (now (to .entry)) beamAt (restAt (now (store .entry)) place) ⌝ }
+{
+    copy_4(store, place + BEAM, to, BEAM);
+    copy_4(store, place + PITCH_COUNT, to, PITCH_COUNT);
+}
+
+// Whether the note is a rest, of whatever kind.
+pub fn is_rest(store: &[u8], place: usize) -> bool
+    requires { ⌜ place + noteRowWidth ≤ length (now store) ⌝ }
+    ensures { λ r. ⌜ r ≡ not (soundsAt (now (store .entry)) place) ⌝ }
+{
+    store[place] != 0
+}
+
+// Whether the note is of this voice.
+pub fn is_of_voice(store: &[u8], place: usize, voice: u8) -> bool
+    requires { ⌜ place + noteRowWidth ≤ length (now store) ⌝ }
+    ensures { λ r. ⌜ r ≡ ofVoiceAt (now (store .entry)) voice place ⌝ }
+{
+    store[place + VOICE] == voice
+}
+
+// How many pitches the note has.
+pub fn pitch_count(store: &[u8], place: usize) -> usize
+    requires { ⌜ place + noteRowWidth ≤ length (now store) ⌝ }
+    ensures { λ r. ⌜ (r ≡ pitchCount (now (store .entry)) place) × (r < 2 ^ 32) ⌝ }
+{
+    store::get_u32(store, place + PITCH_COUNT) as usize
 }

@@ -7,7 +7,6 @@ use native.Mathlib.Decide.{decLt}
 use native.Mathlib.Nat.{add-zero}
 use native.Mathlib.Omega.{arith}
 use lib.Dec.{eqb}
-use borrow.Author.Tests.{eq-eqb, ne-eqb}
 use lib.Seq.{drop-drop}
 use lib.ListN.{length, getD, take, drop, length-append, length-take, length-drop, take-append-drop, drop-of-length-le, List·getD-eq-default}
 use Rattle.laws.specs.Lists.{All, concat, sum}
@@ -21,25 +20,24 @@ use Rattle.standard.specs.Notes.{isSounded}
 use Rattle.reader.specs.State.{Note}
 use Rattle.reader.specs.Lyrics.{Syllable}
 use Rattle.reader.specs.Codes.{bit}
-use Rattle.reader.specs.Records.{isSung, lyricBytes, lyricsOf, section}
+use Rattle.reader.specs.Records.{isSung, lyricBytes, lyricsOf, section, measureWidth, lyricWidth}
 use Rattle.part_layout.specs.Log.{Head}
-use Rattle.part_layout.specs.Sections as layout
 use Rattle.part_layout.specs.Sections.{notesIn, ofVoice, inOrder}
+use Rattle.reading_records.specs.Widths.{countWidth}
 use Rattle.part_rows.specs.Table.{Table}
-use Rattle.part_rows.specs.Encoded.{noteRow}
+use Rattle.part_rows.specs.Encoded.{noteRow, noteRowWidth, voiceAt}
 use Rattle.part_rows.proofs.Bytes.{length-note}
-use Rattle.part_measures.specs.Heads.{headRow}
+use Rattle.part_measures.specs.Heads.{headRow, noteCount}
 use Rattle.part_measures.proofs.Heads.{length-head}
-use Rattle.store_sections.specs.declared.Wrote.{Wrote}
 use Rattle.store_sections.specs.declared.Wrote.the-variants.{To, NoRoom}
 use Rattle.store_sections.specs.Writes.{WroteIs}
 use Rattle.store_sections.proofs.Writes.{count-last}
-use Rattle.write_notes.specs.Out.{noteCount, NotesIn}
+use Rattle.part_rows.specs.Read.{soundsAt, ofVoiceAt}
+use Rattle.write_notes.specs.declared.PartTables.{PartTables}
+use Rattle.write_notes.specs.Tables.{Represents}
 use Rattle.write_notes.proofs.Tables.{table-rest, table-take, table-drop, table-first}
-use Rattle.write_notes.proofs.Out.{wrote-as, kind-code, bit-le, byte-kind, byte-voice, count-out}
+use Rattle.write_notes.proofs.Out.{kind-code, bit-le, byte-kind, byte-voice, count-out}
 use Rattle.write_notes.proofs.Sung.{sungIn, lyrics-none, lyrics-passed, lyrics-taken, lyrics-measure}
-use Rattle.write_pitches.specs.Out.{musicOut, PitchesIn}
-use Rattle.write_pitches.proofs.Out.{music-section}
 use Rattle.write_syllables.specs.Pieces.{piece, pieces}
 use Rattle.write_syllables.proofs.Pieces.{length-record}
 use Rattle.write_lyrics.specs.declared.Passed.{Passed}
@@ -48,29 +46,29 @@ use Rattle.write_lyrics.specs.Out.{leadRow, sungRow, sungRows, rowsOut, 
 
 -- A ROW, as the code asks for it
 module _ (s : List ℕ) (p : ℕ) where
-  pub row-other : (getD s (p + 12) 0 ≡ 0 → ⊥) → sungRow s p ≡ false
+  pub row-other : ofVoiceAt s 0 p ≡ false → sungRow s p ≡ false
   unfolding sungRow leadRow
-  row-other h = and-no-left _ _ (ne-eqb _ 0 h)
+  row-other h = and-no-left _ _ h
 
-  pub row-rest : (getD s p 0 ≡ 0 → ⊥) → sungRow s p ≡ false
+  pub row-rest : soundsAt s p ≡ false → sungRow s p ≡ false
   unfolding sungRow
-  row-rest h = and-no-right (leadRow s p) _ (ne-eqb _ 0 h)
+  row-rest h = and-no-right (leadRow s p) _ h
 
-  pub row-sung : getD s (p + 12) 0 ≡ 0 → getD s p 0 ≡ 0 → sungRow s p ≡ true
+  pub row-sung : ofVoiceAt s 0 p ≡ true → soundsAt s p ≡ true → sungRow s p ≡ true
   unfolding sungRow leadRow
-  row-sung h g = and-both _ _ (eq-eqb _ 0 h) (eq-eqb _ 0 g)
+  row-sung h g = and-both _ _ h g
 
 -- STEPS, as the loops take them
-sung-step : (s : List ℕ) (p k : ℕ) → 0 < k → sungRows s p k ≡ bit (sungRow s p) 1 + sungRows s (p + 16) (k - 1)
+sung-step : (s : List ℕ) (p k : ℕ) → 0 < k → sungRows s p k ≡ bit (sungRow s p) 1 + sungRows s (p + noteRowWidth) (k - 1)
 unfolding sungRows
 sung-step s p zero h = absurd (omega arith)
 sung-step s p (suc k) h = let e : suc k - 1 ≡ k = omega arith in rw e
 
-pub sung-other : (s : List ℕ) (p k : ℕ) → 0 < k → sungRow s p ≡ false → sungRows s p k ≡ sungRows s (p + 16) (k - 1)
+pub sung-other : (s : List ℕ) (p k : ℕ) → 0 < k → sungRow s p ≡ false → sungRows s p k ≡ sungRows s (p + noteRowWidth) (k - 1)
 unfolding bit
 sung-other s p k h e = sung-step s p k h ∙ rw e (omega arith)
 
-pub sung-one : (s : List ℕ) (p k : ℕ) → 0 < k → sungRow s p ≡ true → sungRows s p k ≡ 1 + sungRows s (p + 16) (k - 1)
+pub sung-one : (s : List ℕ) (p k : ℕ) → 0 < k → sungRow s p ≡ true → sungRows s p k ≡ 1 + sungRows s (p + noteRowWidth) (k - 1)
 unfolding bit
 sung-one s p k h e = sung-step s p k h ∙ rw e
 
@@ -81,7 +79,7 @@ sung-none s p k h = rw h
 pub sung-low : (s : List ℕ) (p k : ℕ) → sungRows s p k ≤ k
 unfolding sungRows
 sung-low s p zero = omega arith
-sung-low s p (suc k) = omega (arith, bit-le (sungRow s p) 1, sung-low s (p + 16) k)
+sung-low s p (suc k) = omega (arith, bit-le (sungRow s p) 1, sung-low s (p + noteRowWidth) k)
 
 -- what the rows of a measure say, where the answer is known
 pub passed-to : {d bs e : List ℕ} {j : ℕ} {r : Passed} → PassedIs d bs e j r → {n q : ℕ} → r ≡ P.To n q → WroteIs d bs e (To n) × (q ≡ j)
@@ -92,33 +90,33 @@ passed-none {d} {bs} {e} {j} w p = subst (Says d bs e j) p (w .says)
 
 module _ (b : Bool) (ws : List (List Syllable)) (s : List ℕ) where
   rows-step : (i j p k : ℕ) → 0 < k
-      → rowsOut b ws s i j p k ≡ cond (sungRow s p) (pieces b i (getD ws j [])) [] ++ rowsOut b ws s (i + bit (leadRow s p) 1) (j + bit (sungRow s p) 1) (p + 16) (k - 1)
+      → rowsOut b ws s i j p k ≡ cond (sungRow s p) (pieces b i (getD ws j [])) [] ++ rowsOut b ws s (i + bit (leadRow s p) 1) (j + bit (sungRow s p) 1) (p + noteRowWidth) (k - 1)
   unfolding rowsOut
   rows-step i j p zero h = absurd (omega arith)
   rows-step i j p (suc k) h = let e : suc k - 1 ≡ k = omega arith in rw e
 
   -- of another voice
-  pub rows-other : (i j p k : ℕ) → 0 < k → (getD s (p + 12) 0 ≡ 0 → ⊥) → rowsOut b ws s i j p k ≡ rowsOut b ws s i j (p + 16) (k - 1)
+  pub rows-other : (i j p k : ℕ) → 0 < k → ofVoiceAt s 0 p ≡ false → rowsOut b ws s i j p k ≡ rowsOut b ws s i j (p + noteRowWidth) (k - 1)
   unfolding bit leadRow
-  rows-other i j p k h n = rows-step i j p k h ∙ rw (row-other s p n, ne-eqb _ 0 n, add-zero i, add-zero j)
+  rows-other i j p k h n = rows-step i j p k h ∙ rw (row-other s p n, n, add-zero i, add-zero j)
 
   -- a rest
-  pub rows-rest : (i j p k : ℕ) → 0 < k → getD s (p + 12) 0 ≡ 0 → (getD s p 0 ≡ 0 → ⊥) → rowsOut b ws s i j p k ≡ rowsOut b ws s (i + 1) j (p + 16) (k - 1)
+  pub rows-rest : (i j p k : ℕ) → 0 < k → ofVoiceAt s 0 p ≡ true → soundsAt s p ≡ false → rowsOut b ws s i j p k ≡ rowsOut b ws s (i + 1) j (p + noteRowWidth) (k - 1)
   unfolding bit leadRow
-  rows-rest i j p k h v n = rows-step i j p k h ∙ rw (row-rest s p n, eq-eqb _ 0 v, add-zero j)
+  rows-rest i j p k h v n = rows-step i j p k h ∙ rw (row-rest s p n, v, add-zero j)
 
   -- one that is sung
-  pub rows-sung : (i j p k : ℕ) → 0 < k → getD s (p + 12) 0 ≡ 0 → getD s p 0 ≡ 0
-      → rowsOut b ws s i j p k ≡ pieces b i (getD ws j []) ++ rowsOut b ws s (i + 1) (j + 1) (p + 16) (k - 1)
+  pub rows-sung : (i j p k : ℕ) → 0 < k → ofVoiceAt s 0 p ≡ true → soundsAt s p ≡ true
+      → rowsOut b ws s i j p k ≡ pieces b i (getD ws j []) ++ rowsOut b ws s (i + 1) (j + 1) (p + noteRowWidth) (k - 1)
   unfolding bit leadRow
-  rows-sung i j p k h v n = rows-step i j p k h ∙ rw (row-sung s p v n, eq-eqb _ 0 v)
+  rows-sung i j p k h v n = rows-step i j p k h ∙ rw (row-sung s p v n, v)
 
   pub rows-none : (i j p k : ℕ) → k ≡ 0 → rowsOut b ws s i j p k ≡ []
   unfolding rowsOut
   rows-none i j p k h = rw h
 
   pub measures-step : (i j h p n k q : ℕ) → 0 < n → k ≡ noteCount s h → q ≡ sungRows s p k
-      → measuresOut b ws s i j h p n ≡ rowsOut b ws s i j p k ++ measuresOut b ws s (i + k) (j + q) (h + 28) (p + 16 * k) (n - 1)
+      → measuresOut b ws s i j h p n ≡ rowsOut b ws s i j p k ++ measuresOut b ws s (i + k) (j + q) (h + measureWidth) (p + noteRowWidth * k) (n - 1)
   unfolding measuresOut
   measures-step i j h p zero k q l e f = absurd (omega arith)
   measures-step i j h p (suc n) k q l e f = let g : suc n - 1 ≡ n = omega arith in rw (g, f, e)
@@ -160,12 +158,12 @@ lyrics-next i j x xs ws e = go (decLt j (length ws))
         ∙ sym ((λ k. map (λ y. (i, y)) (List·getD-eq-default ws [] {n = j} n k) ++ lyricsOf (i + 1) xs (b k)) ∙ lyrics-none (i + 1) xs)
 
 -- A ROW OF A TABLE
-module _ (s : List ℕ) (p : ℕ) (x : ℕ × Note) (xs : List (ℕ × Note)) (t : Table noteRow 16 s p (x ∷ xs)) where
-  row : part s p 16 ≡ noteRow x
-  row = let place : p + 16 * 0 ≡ p = omega arith in ap (λ (k : ℕ). part s k 16) (sym place) ∙ table-first noteRow 16 length-note x xs t
+module _ (s : List ℕ) (p : ℕ) (x : ℕ × Note) (xs : List (ℕ × Note)) (t : Table noteRow noteRowWidth s p (x ∷ xs)) where
+  row : part s p noteRowWidth ≡ noteRow x
+  row = let place : p + noteRowWidth * 0 ≡ p = omega arith in ap (λ (k : ℕ). part s k noteRowWidth) (sym place) ∙ table-first noteRow noteRowWidth length-note x xs t
 
-  behind : Table noteRow 16 s (p + 16) xs
-  behind = table-rest noteRow 16 length-note (x ∷ []) xs (p + 16) (omega arith) t
+  behind : Table noteRow noteRowWidth s (p + noteRowWidth) xs
+  behind = table-rest noteRow noteRowWidth length-note (x ∷ []) xs (p + noteRowWidth) (omega arith) t
 
   lead-is : leadRow s p ≡ eqb (x .0) 0
   unfolding leadRow
@@ -200,11 +198,11 @@ bit-no : {b : Bool} (n : ℕ) → b ≡ false → bit b 1 + n ≡ n
 unfolding bit
 bit-no n e = rw e (omega arith)
 
-sung-out : (s : List ℕ) (p : ℕ) (xs : List (ℕ × Note)) → Table noteRow 16 s p xs → sungRows s p (length xs) ≡ sungIn (ofVoice 0 xs)
+sung-out : (s : List ℕ) (p : ℕ) (xs : List (ℕ × Note)) → Table noteRow noteRowWidth s p xs → sungRows s p (length xs) ≡ sungIn (ofVoice 0 xs)
 unfolding sungRows ofVoice
 sung-out s p [] t = refl
 sung-out s p (x ∷ xs) t =
-    let ih = sung-out s (p + 16) xs (behind s p x xs t) in
+    let ih = sung-out s (p + noteRowWidth) xs (behind s p x xs t) in
     let e = sung-is s p x xs t in
     note-case x (λ v n. bit-no _ (e ∙ n) ∙ ih ∙ ap sungIn (sym (voice-other x xs v)))
     (λ v n. bit-no _ (e ∙ n) ∙ ih ∙ ap length (sym (filter-no isSung x (ofVoice 0 xs) n)) ∙ ap sungIn (sym (voice-own x xs v)))
@@ -228,24 +226,24 @@ module _ (b : Bool) (ws : List (List Syllable)) (s : List ℕ) where
 
   -- the rest of the rows, by what the first is
   after : (i j p k : ℕ) (u v : Bool) → leadRow s p ≡ u → sungRow s p ≡ v
-      → rowsOut b ws s i j p (suc k) ≡ cond v (pieces b i (getD ws j [])) [] ++ rowsOut b ws s (i + bit u 1) (j + bit v 1) (p + 16) k
+      → rowsOut b ws s i j p (suc k) ≡ cond v (pieces b i (getD ws j [])) [] ++ rowsOut b ws s (i + bit u 1) (j + bit v 1) (p + noteRowWidth) k
   unfolding rowsOut
-  after i j p k u v e f = λ m. cond (f m) (pieces b i (getD ws j [])) [] ++ rowsOut b ws s (i + bit (e m) 1) (j + bit (f m) 1) (p + 16) k
+  after i j p k u v e f = λ m. cond (f m) (pieces b i (getD ws j [])) [] ++ rowsOut b ws s (i + bit (e m) 1) (j + bit (f m) 1) (p + noteRowWidth) k
 
-  rows-out : (i j p : ℕ) (xs : List (ℕ × Note)) → Table noteRow 16 s p xs → rowsOut b ws s i j p (length xs) ≡ shown i j (ofVoice 0 xs)
+  rows-out : (i j p : ℕ) (xs : List (ℕ × Note)) → Table noteRow noteRowWidth s p xs → rowsOut b ws s i j p (length xs) ≡ shown i j (ofVoice 0 xs)
   unfolding rowsOut ofVoice bit
   rows-out i j p [] t = sym (ap (encAll (out b)) (lyrics-nil i (drop j ws)) ∙ encAll-none (out b))
   rows-out i j p (x ∷ xs) t =
       let u = lead-is s p x xs t in
       let v = sung-is s p x xs t in
-      let ih : (i j : ℕ) → rowsOut b ws s i j (p + 16) (length xs) ≡ shown i j (ofVoice 0 xs) = λ i j. rows-out i j (p + 16) xs (behind s p x xs t) in
+      let ih : (i j : ℕ) → rowsOut b ws s i j (p + noteRowWidth) (length xs) ≡ shown i j (ofVoice 0 xs) = λ i j. rows-out i j (p + noteRowWidth) xs (behind s p x xs t) in
       note-case x (λ e n. after i j p (length xs) false false (u ∙ e) (v ∙ n) ∙ rw (add-zero i, add-zero j) (ih i j ∙ ap (shown i j) (sym (voice-other x xs e))))
       (λ e n. after i j p (length xs) true false (u ∙ e) (v ∙ n) ∙ rw (add-zero j) (ih (i + 1) j ∙ shown-passed i j x (ofVoice 0 xs) n ∙ ap (shown i j) (sym (voice-own x xs e))))
       (λ e y. after i j p (length xs) true true (u ∙ e) (v ∙ y) ∙ ap (λ (l : List ℕ). pieces b i (getD ws j []) ++ l) (ih (i + 1) (j + 1)) ∙ shown-next i j x (ofVoice 0 xs) y
       ∙ ap (shown i j) (sym (voice-own x xs e)))
 
   -- ALL MEASURES
-  measures-out : (i j h p : ℕ) (ms : List Head) (log : List (ℕ × Note)) → Table headRow 28 s h ms → Table noteRow 16 s p log → All (λ (m : Head). length (m .counts) ≡ 4) ms
+  measures-out : (i j h p : ℕ) (ms : List Head) (log : List (ℕ × Note)) → Table headRow measureWidth s h ms → Table noteRow noteRowWidth s p log → All (λ (m : Head). length (m .counts) ≡ 4) ms
       → sum notesIn ms ≡ length log → length log < 2 ^ 32 → All (λ (x : ℕ × Note). x .0 < 4) log → measuresOut b ws s i j h p (length ms) ≡ shown i j (inOrder ms log)
   unfolding measuresOut inOrder
   measures-out i j h p [] log t u four e l low = sym (ap (encAll (out b)) (lyrics-nil i (drop j ws)) ∙ encAll-none (out b))
@@ -256,18 +254,18 @@ module _ (b : Bool) (ws : List (List Syllable)) (s : List ℕ) where
       let both = subst (All (λ (x : ℕ × Note). x .0 < 4)) (sym (take-append-drop k log)) low in
       let n : noteCount s h ≡ k = count-out s h m ms t (four .0) (omega arith) in
       let front : length a ≡ k = length-take k log ∙ omega arith in
-      let ta = table-take noteRow 16 length-note k log u in
+      let ta = table-take noteRow noteRowWidth length-note k log u in
       let here : sungRows s p k ≡ sungIn (ofVoice 0 a) = ap (sungRows s p) (sym front) ∙ sung-out s p a ta in
       let first : rowsOut b ws s i j p k ≡ shown i j (ofVoice 0 a) = ap (rowsOut b ws s i j p) (sym front) ∙ rows-out i j p a ta in
       let ih =
-      measures-out (i + k) (j + sungIn (ofVoice 0 a)) (h + 28) (p + 16 * k) ms z (table-rest headRow 28 length-head (m ∷ []) ms (h + 28) (omega arith) t)
-      (table-drop noteRow 16 length-note k log (p + 16 * k) (omega arith) refl u)
+      measures-out (i + k) (j + sungIn (ofVoice 0 a)) (h + measureWidth) (p + noteRowWidth * k) ms z (table-rest headRow measureWidth length-head (m ∷ []) ms (h + measureWidth) (omega arith) t)
+      (table-drop noteRow noteRowWidth length-note k log (p + noteRowWidth * k) (omega arith) refl u)
       (four .1)
       (omega (arith, length-drop k log))
       (omega (arith, length-drop k log))
       (All-right _ a z both) in
-      (λ q. rowsOut b ws s i j p (n q) ++ measuresOut b ws s (i + n q) (j + sungRows s p (n q)) (h + 28) (p + 16 * n q) (length ms))
-      ∙ (λ q. first q ++ measuresOut b ws s (i + k) (j + here q) (h + 28) (p + 16 * k) (length ms))
+      (λ q. rowsOut b ws s i j p (n q) ++ measuresOut b ws s (i + n q) (j + sungRows s p (n q)) (h + measureWidth) (p + noteRowWidth * n q) (length ms))
+      ∙ (λ q. first q ++ measuresOut b ws s (i + k) (j + here q) (h + measureWidth) (p + noteRowWidth * k) (length ms))
       ∙ (λ q. shown i j (ofVoice 0 a) ++ ih q)
       ∙ (λ q. shown i j (ofVoice 0 a) ++ encAll (out b) (lyricsOf (i + sym front q) (inOrder ms z) (sym (drop-drop (sungIn (ofVoice 0 a)) j ws) q)))
       ∙ sym (encAll-append (out b) (lyricsOf i (ofVoice 0 a) (drop j ws)) (lyricsOf (i + length a) (inOrder ms z) (drop (sungIn (ofVoice 0 a)) (drop j ws))))
@@ -281,65 +279,64 @@ shownIn b ls = le32 (countOf b (length (encAll (out b) ls))) ++ encAll (out b) l
 records-section : (ls : List (ℕ × Syllable)) → shownIn false ls ≡ section (λ (x : ℕ × Syllable). lyricBytes (x .0) (x .1)) ls
 unfolding section encAll
 records-section ls =
-    let n : length (encAll (out false) ls) ≡ 11 * length ls = length-encAll (out false) 11 (λ x. length-record (x .0) (x .1)) ls in
-    let e : length (encAll (out false) ls) / 11 ≡ length ls = omega (arith, n) in
+    let n : length (encAll (out false) ls) ≡ lyricWidth * length ls = length-encAll (out false) lyricWidth (λ x. length-record (x .0) (x .1)) ls in
+    let e : length (encAll (out false) ls) / lyricWidth ≡ length ls = omega (arith, n) in
     ap (λ (k : ℕ). le32 k ++ encAll (out false) ls) e
 
 texts-section : (ls : List (ℕ × Syllable)) → shownIn true ls ≡ section (λ (c : ℕ). c ∷ []) (concat (map (λ (x : ℕ × Syllable). x .1 .text) ls))
 unfolding section encAll
 texts-section ls = let ts = concat (map (λ (x : ℕ × Syllable). x .1 .text) ls) in ap (λ (l : List ℕ). le32 (length ts) ++ l) (sym (concat-singles ts))
 
-section-out : (b : Bool) (ws : List (List Syllable)) {s : List ℕ} {heads n notes count : ℕ} {ms : List Head} {log : List (ℕ × Note)} → NotesIn s heads n notes count ms log
-    → sectionOut b ws s heads n notes ≡ shownIn b (lyricsOf 0 (inOrder ms log) ws)
+section-out : (b : Bool) (ws : List (List Syllable)) {s : List ℕ} {t : PartTables} {ms : List Head} {log : List (ℕ × Note)} → Represents s t ms log
+    → sectionOut b ws s t ≡ shownIn b (lyricsOf 0 (inOrder ms log) ws)
 unfolding sectionOut
-section-out b ws {s} {heads} {n} {notes} {count} {ms} {log} h =
+section-out b ws {s} {t} {ms} {log} h =
     let f = h .fits in
-    let bytes : measuresOut b ws s 0 0 heads notes n ≡ encAll (out b) (lyricsOf 0 (inOrder ms log) ws) =
-    ap (measuresOut b ws s 0 0 heads notes) (sym (h .heads-count))
-    ∙ measures-out b ws s 0 0 heads notes ms log (h .heads-held) (h .notes-held) (f .four-counts) (f .all-notes) (omega (arith, h .small, h .notes-count)) (f .voices-below) in
+    let bytes : measuresOut b ws s 0 0 (t .measures .at) (t .notes .at) (t .measures .count) ≡ encAll (out b) (lyricsOf 0 (inOrder ms log) ws) =
+    ap (measuresOut b ws s 0 0 (t .measures .at) (t .notes .at)) (sym (h .measures-are))
+    ∙ measures-out b ws s 0 0 (t .measures .at) (t .notes .at) ms log (h .measures-table) (h .notes-table) (f .four-counts) (f .all-notes) (omega (arith, h .few-notes, h .notes-are)) (f .voices-below) in
     λ i. le32 (countOf b (length (bytes i))) ++ bytes i
 
+-- of whatever the tables represent
+pub lyrics-section : (ws : List (List Syllable)) {s : List ℕ} {t : PartTables} {ms : List Head} {log : List (ℕ × Note)} → Represents s t ms log
+    → sectionOut false ws s t ≡ section (λ (x : ℕ × Syllable). lyricBytes (x .0) (x .1)) (lyricsOf 0 (inOrder ms log) ws)
+lyrics-section ws {ms = ms} {log = log} h = section-out false ws h ∙ records-section (lyricsOf 0 (inOrder ms log) ws)
+
+pub text-section : (ws : List (List Syllable)) {s : List ℕ} {t : PartTables} {ms : List Head} {log : List (ℕ × Note)} → Represents s t ms log
+    → sectionOut true ws s t ≡ section (λ (c : ℕ). c ∷ []) (concat (map (λ (x : ℕ × Syllable). x .1 .text) (lyricsOf 0 (inOrder ms log) ws)))
+text-section ws {ms = ms} {log = log} h = section-out true ws h ∙ texts-section (lyricsOf 0 (inOrder ms log) ws)
+
 -- as it is written, its count last
-module _ (b : Bool) (ws : List (List Syllable)) (s : List ℕ) (heads n notes : ℕ) where
-  section-length : length (sectionOut b ws s heads n notes) ≡ 4 + length (measuresOut b ws s 0 0 heads notes n)
+module _ (b : Bool) (ws : List (List Syllable)) (s : List ℕ) (t : PartTables) where
+  section-length : length (sectionOut b ws s t) ≡ countWidth + length (measuresOut b ws s 0 0 (t .measures .at) (t .notes .at) (t .measures .count))
   unfolding sectionOut
   section-length =
-      let bs = measuresOut b ws s 0 0 heads notes n in
+      let bs = measuresOut b ws s 0 0 (t .measures .at) (t .notes .at) (t .measures .count) in
       length-append (le32 (countOf b (length bs))) bs ∙ omega (arith, length-little 4 (countOf b (length bs)))
 
-  pub section-short : {d e : List ℕ} → length d < 4 → WroteIs d (sectionOut b ws s heads n notes) e NoRoom
+  pub section-short : {d e : List ℕ} → length d < countWidth → WroteIs d (sectionOut b ws s t) e NoRoom
   section-short h = record { says = omega (arith, section-length) }
 
-  pub section-none : (d : List ℕ) {e f : List ℕ} → 4 ≤ length d → WroteIs (take (length d - 4) (drop 4 d)) (measuresOut b ws s 0 0 heads notes n) f NoRoom → WroteIs d (sectionOut b ws s heads n notes) e NoRoom
+  pub section-none : (d : List ℕ) {e f : List ℕ} → countWidth ≤ length d → WroteIs (take (length d - countWidth) (drop countWidth d)) (measuresOut b ws s 0 0 (t .measures .at) (t .notes .at) (t .measures .count)) f NoRoom → WroteIs d (sectionOut b ws s t) e NoRoom
   section-none d h g =
       let room = simp (length-take, length-drop) at (g .says) in
       record { says = omega (arith, section-length, room) }
 
-  pub section-fits : (d : List ℕ) {f : List ℕ} {len : ℕ} → 4 ≤ length d → WroteIs (take (length d - 4) (drop 4 d)) (measuresOut b ws s 0 0 heads notes n) f (To len) → 4 + len ≤ length d
+  pub section-fits : (d : List ℕ) {f : List ℕ} {len : ℕ} → countWidth ≤ length d → WroteIs (take (length d - countWidth) (drop countWidth d)) (measuresOut b ws s 0 0 (t .measures .at) (t .notes .at) (t .measures .count)) f (To len) → countWidth + len ≤ length d
   section-fits d h g =
       let (p, q, r) = g .says in
       let room = simp (length-take, length-drop) at q in
       omega (arith, room)
 
-  pub section-wrote : (d : List ℕ) {e f : List ℕ} (len low count : ℕ) → 4 ≤ length d → WroteIs (take (length d - 4) (drop 4 d)) (measuresOut b ws s 0 0 heads notes n) f (To len)
-      → le32 low ≡ le32 count → count ≡ countOf b len → e ≡ splice (take 4 d ++ (f ++ drop (length d - 4) (drop 4 d))) 0 (le32 low)
-      → WroteIs d (sectionOut b ws s heads n notes) e (To (4 + len))
+  pub section-wrote : (d : List ℕ) {e f : List ℕ} (len low count : ℕ) → countWidth ≤ length d → WroteIs (take (length d - countWidth) (drop countWidth d)) (measuresOut b ws s 0 0 (t .measures .at) (t .notes .at) (t .measures .count)) f (To len)
+      → le32 low ≡ le32 count → count ≡ countOf b len → e ≡ splice (take countWidth d ++ (f ++ drop (length d - countWidth) (drop countWidth d))) 0 (le32 low)
+      → WroteIs d (sectionOut b ws s t) e (To (countWidth + len))
   unfolding sectionOut
   section-wrote d {e} {f} len low count h g l c p =
-      let bs = measuresOut b ws s 0 0 heads notes n in
+      let bs = measuresOut b ws s 0 0 (t .measures .at) (t .notes .at) (t .measures .count) in
       let (q, room, r) = g .says in
       let fits = section-fits d h g in
-      let back = lent-back d 4 (length d - 4) f 0 bs r (omega arith) in
+      let back = lent-back d countWidth (length d - countWidth) f 0 bs r (omega arith) in
       let number : le32 low ≡ le32 (countOf b (length bs)) = l ∙ ap le32 c ∙ ap (λ (k : ℕ). le32 (countOf b k)) q in
-      let w = count-last bs (countOf b (length bs)) back (p ∙ ap (splice (take 4 d ++ (f ++ drop (length d - 4) (drop 4 d))) 0) number) (omega arith) in
-      subst (λ (k : ℕ). WroteIs d (le32 (countOf b (length bs)) ++ bs) e (To (4 + k))) (sym q) w
-
--- FIVE SECTIONS
-pub sections-say : {d e : List ℕ} {r : Wrote} (s : List ℕ) (heads n notes count pitches sounds : ℕ) (ws : List (List Syllable))
-    → WroteIs d (musicOut s heads n notes count pitches sounds ++ sectionOut false ws s heads n notes ++ sectionOut true ws s heads n notes) e r
-    → (ms : List Head) (log : List (ℕ × Note)) → PitchesIn s heads n notes pitches sounds ms log → length log ≡ count → WroteIs d (layout.sections (record { heads = ms; log = log; words = ws })) e r
-unfolding layout.sections layout.lyrics layout.lyricText layout.notesOf layout.pitchesOf
-sections-say s heads n notes count pitches sounds ws w ms log h l =
-    let lyrics = section-out false ws (h .represents) ∙ records-section (lyricsOf 0 (inOrder ms log) ws) in
-    let texts = section-out true ws (h .represents) ∙ texts-section (lyricsOf 0 (inOrder ms log) ws) in
-    wrote-as w (λ i. music-section h l i ++ lyrics i ++ texts i)
+      let w = count-last bs (countOf b (length bs)) back (p ∙ ap (splice (take countWidth d ++ (f ++ drop (length d - countWidth) (drop countWidth d))) 0) number) (omega arith) in
+      subst (λ (k : ℕ). WroteIs d (le32 (countOf b (length bs)) ++ bs) e (To (countWidth + k))) (sym q) w

@@ -8,7 +8,10 @@ use Rattle.laws.specs.Bytes.{le32}
 use Rattle.laws.proofs.Rows.{encAll-none}
 use Rattle.reader.specs.Codes.{bit}
 use Rattle.reader.specs.Lyrics.{Syllable}
-use Rattle.write_notes.specs.Out.{noteCount}
+use Rattle.reader.specs.Records.{measureWidth}
+use Rattle.part_rows.specs.Encoded.{noteRowWidth}
+use Rattle.part_measures.specs.Heads.{noteCount}
+use Rattle.write_notes.specs.declared.PartTables.{PartTables}
 use Rattle.lyrics.specs.declared.Sheet.{Sheet}
 use Rattle.lyrics.specs.Sheet.{sungFrom, headsIn, syllablesIn}
 use Rattle.write_syllables.specs.Pieces.{piece, pieces}
@@ -33,21 +36,21 @@ module _ (texts : Bool) (ws : List (List Syllable)) (e : (j : ℕ) → getD ws j
   unfolding rowsOut
   rows-silent i j p zero = refl
   rows-silent i j p (suc k) =
-      ap (λ (x : List ℕ). x ++ rowsOut texts ws s (i + bit (leadRow s p) 1) (j + bit (sungRow s p) 1) (p + 16) k) (row-silent (sungRow s p) i j)
-      ∙ rows-silent (i + bit (leadRow s p) 1) (j + bit (sungRow s p) 1) (p + 16) k
+      ap (λ (x : List ℕ). x ++ rowsOut texts ws s (i + bit (leadRow s p) 1) (j + bit (sungRow s p) 1) (p + noteRowWidth) k) (row-silent (sungRow s p) i j)
+      ∙ rows-silent (i + bit (leadRow s p) 1) (j + bit (sungRow s p) 1) (p + noteRowWidth) k
 
   measures-silent : (i j h p n : ℕ) → measuresOut texts ws s i j h p n ≡ []
   unfolding measuresOut
   measures-silent i j h p zero = refl
   measures-silent i j h p (suc n) =
-      ap (λ (x : List ℕ). x ++ measuresOut texts ws s (i + noteCount s h) (j + sungRows s p (noteCount s h)) (h + 28) (p + 16 * noteCount s h) n) (rows-silent i j p (noteCount s h))
-      ∙ measures-silent (i + noteCount s h) (j + sungRows s p (noteCount s h)) (h + 28) (p + 16 * noteCount s h) n
+      ap (λ (x : List ℕ). x ++ measuresOut texts ws s (i + noteCount s h) (j + sungRows s p (noteCount s h)) (h + measureWidth) (p + noteRowWidth * noteCount s h) n) (rows-silent i j p (noteCount s h))
+      ∙ measures-silent (i + noteCount s h) (j + sungRows s p (noteCount s h)) (h + measureWidth) (p + noteRowWidth * noteCount s h) n
 
 none-counted : (texts : Bool) → le32 (countOf texts 0) ++ [] ≡ le32 0
 none-counted true = append-nil (le32 0)
 none-counted false = append-nil (le32 0)
 
-pub section-silent : (texts : Bool) (text s : List ℕ) (h : Sheet) (heads n notes : ℕ) → h .count ≡ 0 → sectionOut texts (syllablesIn text s h) s heads n notes ≡ le32 0
+pub section-silent : (texts : Bool) (text s : List ℕ) (h : Sheet) (t : PartTables) → h .count ≡ 0 → sectionOut texts (syllablesIn text s h) s t ≡ le32 0
 unfolding sectionOut
-section-silent texts text s h heads n notes z =
-    ap (λ (out : List ℕ). le32 (countOf texts (length out)) ++ out) (measures-silent texts (syllablesIn text s h) (no-syllable text s h z) s 0 0 heads notes n) ∙ none-counted texts
+section-silent texts text s h t z =
+    ap (λ (out : List ℕ). le32 (countOf texts (length out)) ++ out) (measures-silent texts (syllablesIn text s h) (no-syllable text s h z) s 0 0 (t .measures .at) (t .notes .at) (t .measures .count)) ∙ none-counted texts

@@ -1,38 +1,43 @@
 -- THE LYRICS OF A PART in the order of the reading, as the bytes of its tables in scratch give them: records, or texts. ws has the syllables of each note that
 -- is sung.
-use Prim.Native.Nat.{ℕ, zero, suc, _+_, _*_, _/_}
+use Prim.Native.Nat.{ℕ, zero, suc, _+_, _*_, _/_, _<_}
 use mathlib.Core.Path.{_≡_}
 use mathlib.Core.Bool.{Bool, cond, _&&_}
 use mathlib.Core.List.{List, [], _++_}
-use lib.Dec.{eqb}
 use lib.ListN.{length, getD}
 use Rattle.laws.specs.Bytes.{le32}
 use Rattle.reader.specs.Codes.{bit}
 use Rattle.reader.specs.Lyrics.{Syllable}
+use Rattle.reader.specs.Records.{measureWidth, lyricWidth}
+use Rattle.part_rows.specs.Encoded.{noteRowWidth}
 use Rattle.store_sections.specs.declared.Wrote.the-variants as W
 use Rattle.store_sections.specs.Writes.{WroteIs}
-use Rattle.write_notes.specs.Out.{noteCount}
+use Rattle.part_rows.specs.Read.{soundsAt, ofVoiceAt}
+use Rattle.part_measures.specs.Heads.{noteCount}
+use Rattle.lyrics.specs.declared.Sheet.{Sheet}
+use Rattle.lyric_walk.specs.Walks.{Tables}
+use Rattle.write_notes.specs.declared.PartTables.{PartTables}
 use Rattle.write_syllables.specs.Pieces.{pieces}
 use Rattle.write_lyrics.specs.declared.Passed.{Passed}
 use Rattle.write_lyrics.specs.declared.Passed.the-variants as P
 
 -- the row at p is of a note of voice 0
 unfoldable pub leadRow : List ℕ → ℕ → Bool
-leadRow s p = eqb (getD s (p + 12) 0) 0
+leadRow s p = ofVoiceAt s 0 p
 
 -- and of no rest
 unfoldable pub sungRow : List ℕ → ℕ → Bool
-sungRow s p = leadRow s p && eqb (getD s p 0) 0
+sungRow s p = leadRow s p && soundsAt s p
 
 -- how many of the k rows from p on are
 unfoldable pub sungRows : List ℕ → ℕ → ℕ → ℕ
 sungRows s p zero = 0
-sungRows s p (suc k) = bit (sungRow s p) 1 + sungRows s (p + 16) k
+sungRows s p (suc k) = bit (sungRow s p) 1 + sungRows s (p + noteRowWidth) k
 
 -- what the k rows from p on give: the next note of voice 0 has index i, the next that is sung is number j
 unfoldable pub rowsOut : Bool → List (List Syllable) → List ℕ → ℕ → ℕ → ℕ → ℕ → List ℕ
 rowsOut texts ws s i j p zero = []
-rowsOut texts ws s i j p (suc k) = cond (sungRow s p) (pieces texts i (getD ws j [])) [] ++ rowsOut texts ws s (i + bit (leadRow s p) 1) (j + bit (sungRow s p) 1) (p + 16) k
+rowsOut texts ws s i j p (suc k) = cond (sungRow s p) (pieces texts i (getD ws j [])) [] ++ rowsOut texts ws s (i + bit (leadRow s p) 1) (j + bit (sungRow s p) 1) (p + noteRowWidth) k
 
 -- bs was to be written for rows before which, and among which, j notes are sung
 abbrev pub Says : List ℕ → List ℕ → List ℕ → ℕ → Passed → Type 0
@@ -46,12 +51,17 @@ pub record PassedIs (d bs e : List ℕ) (j : ℕ) (r : Passed) : Type 0 where
 unfoldable pub measuresOut : Bool → List (List Syllable) → List ℕ → ℕ → ℕ → ℕ → ℕ → ℕ → List ℕ
 measuresOut texts ws s i j h p zero = []
 measuresOut texts ws s i j h p (suc n) =
-    rowsOut texts ws s i j p (noteCount s h) ++ measuresOut texts ws s (i + noteCount s h) (j + sungRows s p (noteCount s h)) (h + 28) (p + 16 * noteCount s h) n
+    rowsOut texts ws s i j p (noteCount s h) ++ measuresOut texts ws s (i + noteCount s h) (j + sungRows s p (noteCount s h)) (h + measureWidth) (p + noteRowWidth * noteCount s h) n
 
 -- how many records, or bytes of text, n bytes are
 abbrev pub countOf : Bool → ℕ → ℕ
-countOf texts n = cond texts n (n / 11)
+countOf texts n = cond texts n (n / lyricWidth)
 
 -- the section
-unfoldable pub sectionOut : Bool → List (List Syllable) → List ℕ → ℕ → ℕ → ℕ → List ℕ
-sectionOut texts ws s heads n notes = let out = measuresOut texts ws s 0 0 heads notes n in le32 (countOf texts (length out)) ++ out
+unfoldable pub sectionOut : Bool → List (List Syllable) → List ℕ → PartTables → List ℕ
+sectionOut texts ws s t = let out = measuresOut texts ws s 0 0 (t .measures .at) (t .notes .at) (t .measures .count) in le32 (countOf texts (length out)) ++ out
+
+-- the sheet's tables are within the store
+pub record SheetIn (s : List ℕ) (h : Sheet) : Type 0 where
+  pub tables : Tables s h
+  pub few : h .count + 1 < 18446744073709551616

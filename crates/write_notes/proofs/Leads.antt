@@ -4,26 +4,29 @@ use mathlib.Core.Path.{_≡_, refl, sym, ap, _∙_}
 use mathlib.Core.Bool.{Bool, true, false, cond, _&&_}
 use mathlib.Core.List.{List, [], _++_, append-nil}
 use native.Mathlib.Omega.{arith}
-use borrow.Author.Tests.{eqb-true, eq-eqb, ne-eqb}
+use borrow.Author.Tests.{eqb-true, ne-eqb}
 use lib.Dec.{eqb}
 use lib.ListN.{length, getD, length-append}
 use Rattle.laws.proofs.Bools.{by-test, and-left, and-right}
+use Rattle.reader.specs.Records.{noteWidth}
+use Rattle.part_rows.specs.Encoded.{noteRowWidth, voiceAt}
+use Rattle.part_rows.specs.Read.{ofVoiceAt}
 use Rattle.store_sections.specs.declared.Wrote.the-variants.{To}
 use Rattle.store_sections.specs.Writes.{WroteIs}
 use Rattle.write_notes.specs.Out.{noteOut, voiceOut, voicesOut, leads}
 use Rattle.write_notes.proofs.Out.{length-note-out, wrote-as}
 
 -- STEPS, as the loop takes them
-leads-step : (s : List ℕ) (p k : ℕ) → 0 < k → leads s p k ≡ (eqb (getD s (p + 12) 0) 0 && leads s (p + 16) (k - 1))
+leads-step : (s : List ℕ) (p k : ℕ) → 0 < k → leads s p k ≡ (ofVoiceAt s 0 p && leads s (p + noteRowWidth) (k - 1))
 unfolding leads
 leads-step s p zero h = absurd (omega arith)
 leads-step s p (suc k) h = let e : suc k - 1 ≡ k = omega arith in rw e
 
-pub leads-no : (s : List ℕ) (p k : ℕ) → 0 < k → (getD s (p + 12) 0 ≡ 0 → ⊥) → false ≡ leads s p k
-leads-no s p k h n = sym (leads-step s p k h ∙ rw (ne-eqb (getD s (p + 12) 0) 0 n))
+pub leads-no : (s : List ℕ) (p k : ℕ) → 0 < k → ofVoiceAt s 0 p ≡ false → false ≡ leads s p k
+leads-no s p k h n = sym (leads-step s p k h ∙ rw n)
 
-pub leads-yes : (s : List ℕ) (p k : ℕ) → 0 < k → getD s (p + 12) 0 ≡ 0 → leads s (p + 16) (k - 1) ≡ leads s p k
-leads-yes s p k h z = sym (leads-step s p k h ∙ rw (eq-eqb (getD s (p + 12) 0) 0 z))
+pub leads-yes : (s : List ℕ) (p k : ℕ) → 0 < k → ofVoiceAt s 0 p ≡ true → leads s (p + noteRowWidth) (k - 1) ≡ leads s p k
+leads-yes s p k h z = sym (leads-step s p k h ∙ rw z)
 
 pub leads-none : (s : List ℕ) (p k : ℕ) → k ≡ 0 → true ≡ leads s p k
 unfolding leads
@@ -31,22 +34,22 @@ leads-none s p k h = rw h
 
 -- the first row, and the others
 module _ (s : List ℕ) (p k : ℕ) (e : leads s p (suc k) ≡ true) where
-  pub lead-first : getD s (p + 12) 0 ≡ 0
+  pub lead-first : ofVoiceAt s 0 p ≡ true
   unfolding leads
-  lead-first = eqb-true (getD s (p + 12) 0) 0 (and-left (eqb (getD s (p + 12) 0) 0) (leads s (p + 16) k) e)
+  lead-first = and-left (ofVoiceAt s 0 p) (leads s (p + noteRowWidth) k) e
 
-  pub lead-rest : leads s (p + 16) k ≡ true
+  pub lead-rest : leads s (p + noteRowWidth) k ≡ true
   unfolding leads
-  lead-rest = and-right (eqb (getD s (p + 12) 0) 0) (leads s (p + 16) k) e
+  lead-rest = and-right (ofVoiceAt s 0 p) (leads s (p + noteRowWidth) k) e
 
-  pub lead-only : (v : ℕ) → 0 < v → eqb (getD s (p + 12) 0) v ≡ false
-  lead-only v h = ne-eqb (getD s (p + 12) 0) v (λ x. omega (arith, lead-first, x))
+  pub lead-only : (v : ℕ) → 0 < v → ofVoiceAt s v p ≡ false
+  lead-only v h = ne-eqb (getD s (p + voiceAt) 0) v (λ x. omega (arith, eqb-true (getD s (p + voiceAt) 0) 0 lead-first, x))
 
 -- RECORDS
 lead-other : (s : List ℕ) (v p k : ℕ) → 0 < v → leads s p k ≡ true → voiceOut s v p k ≡ []
 unfolding voiceOut
 lead-other s v p zero h e = refl
-lead-other s v p (suc k) h e = rw (lead-only s p k e v h) (lead-other s v (p + 16) k h (lead-rest s p k e))
+lead-other s v p (suc k) h e = rw (lead-only s p k e v h) (lead-other s v (p + noteRowWidth) k h (lead-rest s p k e))
 
 pub lead-voices : (s : List ℕ) (p k : ℕ) → leads s p k ≡ true → voiceOut s 0 p k ≡ voicesOut s p k 0 4
 unfolding voicesOut
@@ -55,34 +58,34 @@ lead-voices s p k e =
     rw (none 1 (omega arith), none 2 (omega arith), none 3 (omega arith), append-nil)
 
 -- as many records of voice 0 as there are rows: the rows are all of voice 0
-length-kept : (s : List ℕ) (p : ℕ) → p + 16 ≤ length s → (b : Bool) → length (cond b (noteOut s p) []) ≡ cond b 12 0
+length-kept : (s : List ℕ) (p : ℕ) → p + noteRowWidth ≤ length s → (b : Bool) → length (cond b (noteOut s p) []) ≡ cond b noteWidth 0
 length-kept s p h true = length-note-out s p h
 length-kept s p h false = refl
 
-voice-length : (s : List ℕ) (v p k : ℕ) → p + 16 * suc k ≤ length s → (b : Bool) → eqb (getD s (p + 12) 0) v ≡ b → length (voiceOut s v p (suc k)) ≡ cond b 12 0 + length (voiceOut s v (p + 16) k)
+voice-length : (s : List ℕ) (v p k : ℕ) → p + noteRowWidth * suc k ≤ length s → (b : Bool) → ofVoiceAt s v p ≡ b → length (voiceOut s v p (suc k)) ≡ cond b noteWidth 0 + length (voiceOut s v (p + noteRowWidth) k)
 unfolding voiceOut
 voice-length s v p k h b e =
-    rw e (length-append (cond b (noteOut s p) []) (voiceOut s v (p + 16) k) ∙ ap (λ (n : ℕ). n + length (voiceOut s v (p + 16) k)) (length-kept s p (omega arith) b))
+    rw e (length-append (cond b (noteOut s p) []) (voiceOut s v (p + noteRowWidth) k) ∙ ap (λ (n : ℕ). n + length (voiceOut s v (p + noteRowWidth) k)) (length-kept s p (omega arith) b))
 
-voice-most : (s : List ℕ) (v p k : ℕ) → p + 16 * k ≤ length s → length (voiceOut s v p k) ≤ 12 * k
+voice-most : (s : List ℕ) (v p k : ℕ) → p + noteRowWidth * k ≤ length s → length (voiceOut s v p k) ≤ noteWidth * k
 unfolding voiceOut
 voice-most s v p zero h = omega arith
 voice-most s v p (suc k) h =
-    let most = voice-most s v (p + 16) k (omega arith) in
-    by-test (eqb (getD s (p + 12) 0) v) (λ e. omega (arith, most, voice-length s v p k h true e)) (λ e. omega (arith, most, voice-length s v p k h false e))
+    let most = voice-most s v (p + noteRowWidth) k (omega arith) in
+    by-test (ofVoiceAt s v p) (λ e. omega (arith, most, voice-length s v p k h true e)) (λ e. omega (arith, most, voice-length s v p k h false e))
 
-pub all-lead : (s : List ℕ) (p k : ℕ) → p + 16 * k ≤ length s → length (voiceOut s 0 p k) ≡ 12 * k → leads s p k ≡ true
+pub all-lead : (s : List ℕ) (p k : ℕ) → p + noteRowWidth * k ≤ length s → length (voiceOut s 0 p k) ≡ noteWidth * k → leads s p k ≡ true
 unfolding leads
 all-lead s p zero h n = refl
 all-lead s p (suc k) h n =
-    by-test (eqb (getD s (p + 12) 0) 0)
-    (λ e. rw e (all-lead s (p + 16) k (omega arith) (omega (arith, n, voice-length s 0 p k h true e))))
-    (λ e. absurd (omega (arith, n, voice-length s 0 p k h false e, voice-most s 0 (p + 16) k (omega arith))))
+    by-test (ofVoiceAt s 0 p)
+    (λ e. rw e (all-lead s (p + noteRowWidth) k (omega arith) (omega (arith, n, voice-length s 0 p k h true e))))
+    (λ e. absurd (omega (arith, n, voice-length s 0 p k h false e, voice-most s 0 (p + noteRowWidth) k (omega arith))))
 
 -- MEASURES: voice 0, and the others
 pub voices-first : (s : List ℕ) (p k : ℕ) → voicesOut s p k 0 4 ≡ voiceOut s 0 p k ++ voicesOut s p k 1 3
 unfolding voicesOut
 voices-first s p k = refl
 
-pub full-measure : {d e : List ℕ} (s : List ℕ) (p k n : ℕ) → WroteIs d (voiceOut s 0 p k) e (To n) → p + 16 * k ≤ length s → n ≡ 12 * k → WroteIs d (voicesOut s p k 0 4) e (To n)
+pub full-measure : {d e : List ℕ} (s : List ℕ) (p k n : ℕ) → WroteIs d (voiceOut s 0 p k) e (To n) → p + noteRowWidth * k ≤ length s → n ≡ noteWidth * k → WroteIs d (voicesOut s p k 0 4) e (To n)
 full-measure s p k n w h q = wrote-as w (lead-voices s p k (all-lead s p k h (sym (w .says .0) ∙ q)))

@@ -18,30 +18,35 @@ use Rattle.laws.proofs.Rows.{encAll-none, encAll-cons, encAll-append}
 use Rattle.standard.specs.Notes.{NoteKind, sounded, rest, invisibleRest, barRest, invisibleBarRest, isSounded, beamable, Flags}
 use Rattle.reader.specs.State.{Note}
 use Rattle.reader.specs.Codes.{kindCode, bit}
-use Rattle.reader.specs.Records.{isUnbeamed, flagByte, noteBytes, section}
+use Rattle.reader.specs.Records.{isUnbeamed, flagByte, noteBytes, section, measureWidth, noteWidth}
 use Rattle.part_layout.specs.Log.{Head}
 use Rattle.part_layout.specs.Sections.{headBytes, notesIn, ofVoice, byVoice, inOrder}
+use Rattle.reading_records.specs.Widths.{countWidth}
 use Rattle.part_rows.specs.Table.{Table}
-use Rattle.part_rows.specs.Encoded.{flagsByte, rowBytes, noteRow}
+use Rattle.part_rows.specs.declared.NoteStart.{NoteStart}
+use Rattle.part_rows.specs.Read.{startAt, restAt, ofVoiceAt}
+use Rattle.part_rows.specs.Encoded.{flagsByte, rowBytes, noteRow, noteRowWidth, voiceAt, flagsAt, valueAt, dotsAt, beamAt}
 use Rattle.part_rows.proofs.Bytes.{length-note}
-use Rattle.part_measures.specs.Heads.{headRow}
+use Rattle.part_measures.specs.Heads.{headRow, noteCount}
 use Rattle.part_measures.proofs.Heads.{length-head, head-row, head-count}
 use Rattle.store_sections.specs.declared.Wrote.{Wrote}
 use Rattle.store_sections.specs.declared.Wrote.the-variants.{To, NoRoom}
 use Rattle.store_sections.specs.Writes.{WroteIs}
-use Rattle.write_notes.specs.Out.{loneRow, flagsOut, noteOut, voiceOut, voicesOut, noteCount, total, notesOut, NotesIn}
+use Rattle.write_notes.specs.declared.PartTables.{PartTables}
+use Rattle.write_notes.specs.Tables.{total, InStore, Represents}
+use Rattle.write_notes.specs.Out.{isLone, flagsFor, noteOut, voiceOut, voicesOut, notesOut, measuresSection, notesSection}
 use Rattle.write_notes.proofs.Tables.{table-rest, table-take, table-drop, table-first}
 
 -- STEPS, as the loops take them
-pub voice-step : (s : List ℕ) (v p k : ℕ) → 0 < k → voiceOut s v p k ≡ cond (eqb (getD s (p + 12) 0) v) (noteOut s p) [] ++ voiceOut s v (p + 16) (k - 1)
+pub voice-step : (s : List ℕ) (v p k : ℕ) → 0 < k → voiceOut s v p k ≡ cond (ofVoiceAt s v p) (noteOut s p) [] ++ voiceOut s v (p + noteRowWidth) (k - 1)
 unfolding voiceOut
 voice-step s v p zero h = absurd (omega arith)
 voice-step s v p (suc k) h = let e : suc k - 1 ≡ k = omega arith in rw e
 
-pub voice-yes : (s : List ℕ) (v p k : ℕ) → 0 < k → eqb (getD s (p + 12) 0) v ≡ true → voiceOut s v p k ≡ noteOut s p ++ voiceOut s v (p + 16) (k - 1)
+pub voice-yes : (s : List ℕ) (v p k : ℕ) → 0 < k → ofVoiceAt s v p ≡ true → voiceOut s v p k ≡ noteOut s p ++ voiceOut s v (p + noteRowWidth) (k - 1)
 voice-yes s v p k h e = voice-step s v p k h ∙ rw e
 
-pub voice-no : (s : List ℕ) (v p k : ℕ) → 0 < k → eqb (getD s (p + 12) 0) v ≡ false → voiceOut s v p k ≡ voiceOut s v (p + 16) (k - 1)
+pub voice-no : (s : List ℕ) (v p k : ℕ) → 0 < k → ofVoiceAt s v p ≡ false → voiceOut s v p k ≡ voiceOut s v (p + noteRowWidth) (k - 1)
 voice-no s v p k h e = voice-step s v p k h ∙ rw e
 
 pub voice-none : (s : List ℕ) (v p k : ℕ) → k ≡ 0 → voiceOut s v p k ≡ []
@@ -59,7 +64,7 @@ pub voices-none : (s : List ℕ) (p k v j : ℕ) → j ≤ v → voicesOut s p k
 unfolding voicesOut
 voices-none s p k v j h = let e : j - v ≡ 0 = omega arith in rw e
 
-pub notes-step : (s : List ℕ) (h p n : ℕ) → 0 < n → notesOut s h p n ≡ voicesOut s p (noteCount s h) 0 4 ++ notesOut s (h + 28) (p + 16 * noteCount s h) (n - 1)
+pub notes-step : (s : List ℕ) (h p n : ℕ) → 0 < n → notesOut s h p n ≡ voicesOut s p (noteCount s h) 0 4 ++ notesOut s (h + measureWidth) (p + noteRowWidth * noteCount s h) (n - 1)
 unfolding notesOut
 notes-step s h p zero l = absurd (omega arith)
 notes-step s h p (suc n) l = let e : suc n - 1 ≡ n = omega arith in rw e
@@ -68,79 +73,70 @@ pub notes-none : (s : List ℕ) (h p n : ℕ) → n ≡ 0 → notesOut s h p n �
 unfolding notesOut
 notes-none s h p n l = rw l
 
-pub total-step : (s : List ℕ) (h n : ℕ) → 0 < n → total s h n ≡ noteCount s h + total s (h + 28) (n - 1)
+pub total-step : (s : List ℕ) (h n : ℕ) → 0 < n → total s h n ≡ noteCount s h + total s (h + measureWidth) (n - 1)
 unfolding total
 total-step s h zero l = absurd (omega arith)
 total-step s h (suc n) l = let e : suc n - 1 ≡ n = omega arith in rw e
 
-pub length-note-out : (s : List ℕ) (p : ℕ) → p + 16 ≤ length s → length (noteOut s p) ≡ 12
+pub length-note-out : (s : List ℕ) (p : ℕ) → p + noteRowWidth ≤ length s → length (noteOut s p) ≡ noteWidth
 unfolding noteOut part
 length-note-out s p h = simp (length-take, length-drop) (omega arith)
 
 -- FLAGS, as the code asks for them
-module _ (s : List ℕ) (p : ℕ) where
-  plain : loneRow s p ≡ false → getD s (p + 3) 0 % 32 ≡ flagsOut s p
-  unfolding flagsOut bit
+module _ (n : NoteStart) where
+  plain : isLone n ≡ false → n .flags % 32 ≡ flagsFor n
+  unfolding flagsFor bit
   plain e = rw e (omega arith)
 
-  pub flags-rest : (getD s p 0 ≡ 0 → ⊥) → getD s (p + 3) 0 % 32 ≡ flagsOut s p
-  unfolding loneRow
+  pub flags-rest : (n .kind ≡ 0 → ⊥) → n .flags % 32 ≡ flagsFor n
+  unfolding isLone
   flags-rest h = plain (simp (ne-eqb _ 0 h))
 
-  pub flags-long : getD s p 0 ≡ 0 → getD s (p + 1) 0 < 5 → getD s (p + 3) 0 % 32 ≡ flagsOut s p
-  unfolding loneRow
+  pub flags-long : n .kind ≡ 0 → n .value < 5 → n .flags % 32 ≡ flagsFor n
+  unfolding isLone
   flags-long z h = plain (simp (eq-eqb _ 0 z, lt-leb 5 _ h))
 
-  pub flags-short : getD s p 0 ≡ 0 → 5 ≤ getD s (p + 1) 0 → 9 < getD s (p + 1) 0 → getD s (p + 3) 0 % 32 ≡ flagsOut s p
-  unfolding loneRow
-  flags-short z l h = plain (simp (eq-eqb _ 0 z, le-leb 5 (getD s (p + 1) 0) l, lt-leb _ 9 h))
+  pub flags-short : n .kind ≡ 0 → 5 ≤ n .value → 9 < n .value → n .flags % 32 ≡ flagsFor n
+  unfolding isLone
+  flags-short z l h = plain (simp (eq-eqb _ 0 z, le-leb 5 (n .value) l, lt-leb _ 9 h))
 
-  pub flags-beamed : getD s p 0 ≡ 0 → 5 ≤ getD s (p + 1) 0 → getD s (p + 1) 0 ≤ 9 → (getD s (p + 4) 0 ≡ 0 → ⊥) → getD s (p + 3) 0 % 32 ≡ flagsOut s p
-  unfolding loneRow
-  flags-beamed z l h b = plain (simp (eq-eqb _ 0 z, le-leb 5 (getD s (p + 1) 0) l, le-leb (getD s (p + 1) 0) 9 h, ne-eqb _ 0 b))
+  pub flags-beamed : n .kind ≡ 0 → 5 ≤ n .value → n .value ≤ 9 → (n .beam ≡ 0 → ⊥) → n .flags % 32 ≡ flagsFor n
+  unfolding isLone
+  flags-beamed z l h b = plain (simp (eq-eqb _ 0 z, le-leb 5 (n .value) l, le-leb (n .value) 9 h, ne-eqb _ 0 b))
 
-  pub flags-lone : getD s p 0 ≡ 0 → 5 ≤ getD s (p + 1) 0 → getD s (p + 1) 0 ≤ 9 → getD s (p + 4) 0 ≡ 0 → getD s (p + 3) 0 % 32 + 32 ≡ flagsOut s p
-  unfolding loneRow flagsOut bit
-  flags-lone z l h b = simp (eq-eqb _ 0 z, le-leb 5 (getD s (p + 1) 0) l, le-leb (getD s (p + 1) 0) 9 h, eq-eqb _ 0 b)
+  pub flags-lone : n .kind ≡ 0 → 5 ≤ n .value → n .value ≤ 9 → n .beam ≡ 0 → n .flags % 32 + 32 ≡ flagsFor n
+  unfolding isLone flagsFor bit
+  flags-lone z l h b = simp (eq-eqb _ 0 z, le-leb 5 (n .value) l, le-leb (n .value) 9 h, eq-eqb _ 0 b)
 
 -- A record, as it is written
-pub note-wrote : {d t e : List ℕ} (s : List ℕ) (p fl : ℕ) → t ≡ splice d 0 (getD s p 0 ∷ getD s (p + 1) 0 ∷ getD s (p + 2) 0 ∷ fl ∷ []) → e ≡ splice t 4 (part s (p + 4) 8) → fl ≡ flagsOut s p
-    → p + 16 ≤ length s → 12 ≤ length d → WroteIs d (noteOut s p) e (To 12)
+pub note-wrote : {d u e : List ℕ} (s : List ℕ) (p fl : ℕ) (n : NoteStart) → n ≡ startAt s p → u ≡ splice d 0 (n .kind ∷ n .value ∷ n .dots ∷ fl ∷ []) → e ≡ splice u beamAt (restAt s p) → fl ≡ flagsFor n
+    → p + noteRowWidth ≤ length s → noteWidth ≤ length d → WroteIs d (noteOut s p) e (To noteWidth)
 unfolding noteOut
-note-wrote {d} {t} {e} s p fl q r f h l =
+note-wrote {d} {u} {e} s p fl n is q r f h l =
     record {
       says = (
         sym (length-note-out s p h),
         l,
-        spliced-next d t e 0 4 _ _ q r refl ∙ ap (λ (k : ℕ). splice d 0 ((getD s p 0 ∷ getD s (p + 1) 0 ∷ getD s (p + 2) 0 ∷ k ∷ []) ++ part s (p + 4) 8)) f,
+        spliced-next d u e 0 beamAt _ _ q r refl ∙ ap (λ (k : ℕ). splice d 0 ((n .kind ∷ n .value ∷ n .dots ∷ k ∷ []) ++ restAt s p)) f
+            ∙ ap (λ (x : NoteStart). splice d 0 ((x .kind ∷ x .value ∷ x .dots ∷ flagsFor x ∷ []) ++ restAt s p)) is,
       );
     }
 
--- its last eight bytes are copied four by four
-pub four-bytes : (s : List ℕ) (p : ℕ) → p + 4 ≤ length s → part s p 4 ≡ getD s p 0 ∷ getD s (p + 1) 0 ∷ getD s (p + 2) 0 ∷ getD s (p + 3) 0 ∷ []
-four-bytes s p h =
-    let two : p + 1 + 1 ≡ p + 2 = omega arith in
-    let three : p + 2 + 1 ≡ p + 3 = omega arith in
-    rw (part-cons s p 3 (omega arith), part-cons s (p + 1) 2 (omega arith), two, part-cons s (p + 2) 1 (omega arith), three, part-cons s (p + 3) 0 (omega arith), part-none)
+-- MEASURES, as they are written
+module _ (s : List ℕ) (t : PartTables) (i : InStore s t) where
+  measures-length : length (measuresSection s t) ≡ countWidth + measureWidth * t .measures .count
+  measures-length =
+      length-append (le32 (t .measures .count)) (part s (t .measures .at) (measureWidth * t .measures .count))
+      ∙ omega (arith, length-little 4 (t .measures .count), length-part s (t .measures .at) (measureWidth * t .measures .count) (i .measures-in))
 
-pub copied-twice : (t u e s : List ℕ) (p : ℕ) → u ≡ splice t 4 (part s (p + 4) 4) → e ≡ splice u 8 (part s (p + 8) 4) → p + 16 ≤ length s → e ≡ splice t 4 (part s (p + 4) 8)
-copied-twice t u e s p q r h =
-    let n : length (part s (p + 4) 4) ≡ 4 = length-part s (p + 4) 4 (omega arith) in
-    let k : p + 8 ≡ p + 4 + 4 = omega arith in
-    spliced-next t u e 4 8 _ _ q r (omega arith)
-    ∙ ap (splice t 4) (ap (λ (j : ℕ). part s (p + 4) 4 ++ part s j 4) k ∙ sym (part-add s (p + 4) 4 4))
+  pub measures-wrote : {d u e : List ℕ} → u ≡ splice d 0 (le32 (t .measures .count)) → e ≡ splice u countWidth (part s (t .measures .at) (measureWidth * t .measures .count))
+      → countWidth + measureWidth * t .measures .count ≤ length d → WroteIs d (measuresSection s t) e (To (countWidth + measureWidth * t .measures .count))
+  measures-wrote {d} {u} {e} q r l =
+      let four : length (le32 (t .measures .count)) ≡ countWidth = length-little 4 (t .measures .count) in
+      record { says = (sym measures-length, l, spliced-next d u e 0 countWidth _ _ q r (omega arith)) }
 
-pub measures-length : (s : List ℕ) (h n : ℕ) → h + 28 * n ≤ length s → length (le32 n ++ part s h (28 * n)) ≡ 4 + 28 * n
-measures-length s h n room = length-append (le32 n) (part s h (28 * n)) ∙ omega (arith, length-little 4 n, length-part s h (28 * n) room)
-
-pub measures-wrote : {d t e : List ℕ} (s : List ℕ) (h n : ℕ) → t ≡ splice d 0 (le32 n) → e ≡ splice t 4 (part s h (28 * n)) → h + 28 * n ≤ length s → 4 + 28 * n ≤ length d
-    → WroteIs d (le32 n ++ part s h (28 * n)) e (To (4 + 28 * n))
-measures-wrote {d} {t} {e} s h n q r room l =
-    let four : length (le32 n) ≡ 4 = length-little 4 n in
-    record { says = (sym (measures-length s h n room), l, spliced-next d t e 0 4 _ _ q r (omega arith)) }
-
-pub measures-none : {d e : List ℕ} (s : List ℕ) (h n : ℕ) → h + 28 * n ≤ length s → length d < 4 + 28 * n → WroteIs d (le32 n ++ part s h (28 * n)) e NoRoom
-measures-none s h n room l = record { says = omega (arith, measures-length s h n room) }
+  pub measures-none : {d e : List ℕ} → length d < countWidth + measureWidth * t .measures .count → WroteIs d (measuresSection s t) e NoRoom
+  measures-none l = record { says = omega (arith, measures-length) }
 
 -- the same bytes in other words
 pub wrote-as : {d a e : List ℕ} {r : Wrote} → WroteIs d a e r → {b : List ℕ} → a ≡ b → WroteIs d b e r
@@ -166,32 +162,32 @@ marks-small : (f : Flags) → flagsByte f % 32 ≡ flagsByte f
 unfolding flagsByte
 marks-small f = omega (arith, bit-le (f .tieStart) 1, bit-le (f .tieEnd) 2, bit-le (f .slurStart) 4, bit-le (f .slurEnd) 8, bit-le (f .grace) 16)
 
-module _ (s : List ℕ) (p : ℕ) (x : ℕ × Note) (e : part s p 16 ≡ noteRow x) where
-  byte : (k : ℕ) → k < 16 → getD s (p + k) 0 ≡ getD (noteRow x) k 0
-  byte k h = sym (getD-part s p 16 k h) ∙ ap (λ (l : List ℕ). getD l k 0) e
+module _ (s : List ℕ) (p : ℕ) (x : ℕ × Note) (e : part s p noteRowWidth ≡ noteRow x) where
+  byte : (k : ℕ) → k < noteRowWidth → getD s (p + k) 0 ≡ getD (noteRow x) k 0
+  byte k h = sym (getD-part s p noteRowWidth k h) ∙ ap (λ (l : List ℕ). getD l k 0) e
 
   pub byte-kind : getD s p 0 ≡ kindCode (x .1 .kind)
   unfolding rowBytes
   byte-kind = ap (λ (k : ℕ). getD s k 0) (sym (add-zero p)) ∙ byte 0 (omega arith)
 
-  pub byte-voice : getD s (p + 12) 0 ≡ x .0
+  pub byte-voice : getD s (p + voiceAt) 0 ≡ x .0
   unfolding rowBytes little
-  byte-voice = byte 12 (omega arith)
+  byte-voice = byte voiceAt (omega arith)
 
-  lone : loneRow s p ≡ isUnbeamed (x .1)
-  unfolding loneRow isUnbeamed beamable rowBytes
-  lone = rw (byte-kind, byte 1 (omega arith), byte 4 (omega arith), kind-code)
+  lone : isLone (startAt s p) ≡ isUnbeamed (x .1)
+  unfolding isLone isUnbeamed beamable rowBytes
+  lone = rw (byte-kind, byte valueAt (omega arith), byte beamAt (omega arith), kind-code)
 
-  flags : flagsOut s p ≡ flagByte (x .1)
-  unfolding flagsOut flagByte rowBytes flagsByte
-  flags = rw (byte 3 (omega arith), lone) (ap (λ (k : ℕ). k + bit (isUnbeamed (x .1)) 32) (marks-small (x .1 .flags)))
+  flags : flagsFor (startAt s p) ≡ flagByte (x .1)
+  unfolding flagsFor flagByte rowBytes flagsByte
+  flags = (λ i. byte flagsAt (omega arith) i % 32 + bit (lone i) 32) ∙ ap (λ (k : ℕ). k + bit (isUnbeamed (x .1)) 32) (marks-small (x .1 .flags))
 
-  back : part s (p + 4) 8 ≡ part (noteRow x) 4 8
-  back = sym (part-part s p 16 4 8 (omega arith)) ∙ ap (λ (l : List ℕ). part l 4 8) e
+  back : restAt s p ≡ part (noteRow x) beamAt 8
+  back = sym (part-part s p noteRowWidth beamAt 8 (omega arith)) ∙ ap (λ (l : List ℕ). part l beamAt 8) e
 
   pub note-out : noteOut s p ≡ noteBytes (x .1)
   unfolding noteOut noteBytes rowBytes little part
-  note-out = rw (byte-kind, byte 1 (omega arith), byte 2 (omega arith), flags, back)
+  note-out = λ i. (byte-kind i ∷ byte valueAt (omega arith) i ∷ byte dotsAt (omega arith) i ∷ flags i ∷ []) ++ back i
 
 -- ONE VOICE
 abbrev pub out : ℕ × Note → List ℕ
@@ -202,13 +198,13 @@ unfolding ofVoice
 kept-by v x xs true e = rw e (sym (encAll-cons out x (filter (λ (x : ℕ × Note). eqb (x .0) v) xs)))
 kept-by v x xs false e = rw e
 
-pub voice-out : (s : List ℕ) (v p : ℕ) (xs : List (ℕ × Note)) → Table noteRow 16 s p xs → voiceOut s v p (length xs) ≡ encAll out (ofVoice v xs)
+pub voice-out : (s : List ℕ) (v p : ℕ) (xs : List (ℕ × Note)) → Table noteRow noteRowWidth s p xs → voiceOut s v p (length xs) ≡ encAll out (ofVoice v xs)
 unfolding voiceOut ofVoice
 voice-out s v p [] t = sym (encAll-none out)
 voice-out s v p (x ∷ xs) t =
-    let place : p + 16 * 0 ≡ p = omega arith in
-    let row = ap (λ (k : ℕ). part s k 16) (sym place) ∙ table-first noteRow 16 length-note x xs t in
-    let ih = voice-out s v (p + 16) xs (table-rest noteRow 16 length-note (x ∷ []) xs (p + 16) (omega arith) t) in
+    let place : p + noteRowWidth * 0 ≡ p = omega arith in
+    let row = ap (λ (k : ℕ). part s k noteRowWidth) (sym place) ∙ table-first noteRow noteRowWidth length-note x xs t in
+    let ih = voice-out s v (p + noteRowWidth) xs (table-rest noteRow noteRowWidth length-note (x ∷ []) xs (p + noteRowWidth) (omega arith) t) in
     rw (byte-voice s p x row, note-out s p x row, ih) (kept-by v x xs (eqb (x .0) v) refl)
 
 -- byVoice, with the first voice before the others
@@ -216,7 +212,7 @@ pub by-voice : (xs : List (ℕ × Note)) → byVoice xs ≡ ofVoice 0 xs ++ (ofV
 unfolding byVoice
 by-voice xs = append-assoc (ofVoice 0 xs ++ ofVoice 1 xs) (ofVoice 2 xs) (ofVoice 3 xs) ∙ append-assoc (ofVoice 0 xs) (ofVoice 1 xs) (ofVoice 2 xs ++ ofVoice 3 xs)
 
-pub measure-out : (s : List ℕ) (p : ℕ) (xs : List (ℕ × Note)) → Table noteRow 16 s p xs → voicesOut s p (length xs) 0 4 ≡ encAll out (byVoice xs)
+pub measure-out : (s : List ℕ) (p : ℕ) (xs : List (ℕ × Note)) → Table noteRow noteRowWidth s p xs → voicesOut s p (length xs) 0 4 ≡ encAll out (byVoice xs)
 unfolding voicesOut
 measure-out s p xs t =
     let v : (v : ℕ) → voiceOut s v p (length xs) ≡ encAll out (ofVoice v xs) = λ v. voice-out s v p xs t in
@@ -233,17 +229,17 @@ four-sum (a ∷ b ∷ c ∷ []) h = absurd (omega arith)
 four-sum (a ∷ b ∷ c ∷ d ∷ []) h = omega arith
 four-sum (a ∷ b ∷ c ∷ d ∷ e ∷ cs) h = absurd (omega arith)
 
-pub count-out : (s : List ℕ) (h : ℕ) (m : Head) (ms : List Head) → Table headRow 28 s h (m ∷ ms) → length (m .counts) ≡ 4 → notesIn m < 2 ^ 32 → noteCount s h ≡ notesIn m
+pub count-out : (s : List ℕ) (h : ℕ) (m : Head) (ms : List Head) → Table headRow measureWidth s h (m ∷ ms) → length (m .counts) ≡ 4 → notesIn m < 2 ^ 32 → noteCount s h ≡ notesIn m
 unfolding noteCount notesIn
 count-out s h m ms t four small =
-    let place : h + 28 * 0 ≡ h = omega arith in
-    let row = ap (λ (k : ℕ). part s k 28) (sym place) ∙ table-first headRow 28 length-head m ms t in
-    let at : (v : ℕ) → v < 4 → 4 * v + 4 ≤ 28 → u32At s (h + 4 * v) ≡ getD (m .counts) v 0 =
-    λ v l k. sym (littleAt-part 4 s h 28 (4 * v) k) ∙ ap (λ (r : List ℕ). u32At r (4 * v)) row ∙ head-count m v l (omega (arith, getD-sum (m .counts) v)) in
+    let place : h + measureWidth * 0 ≡ h = omega arith in
+    let row = ap (λ (k : ℕ). part s k measureWidth) (sym place) ∙ table-first headRow measureWidth length-head m ms t in
+    let at : (v : ℕ) → v < 4 → 4 * v + 4 ≤ measureWidth → u32At s (h + 4 * v) ≡ getD (m .counts) v 0 =
+    λ v l k. sym (littleAt-part 4 s h measureWidth (4 * v) k) ∙ ap (λ (r : List ℕ). u32At r (4 * v)) row ∙ head-count m v l (omega (arith, getD-sum (m .counts) v)) in
     let z : u32At s h ≡ getD (m .counts) 0 0 = ap (u32At s) (sym (add-zero h)) ∙ at 0 (omega arith) (omega arith) in
     rw (z, at 1 (omega arith) (omega arith), at 2 (omega arith) (omega arith), at 3 (omega arith) (omega arith)) (sym (four-sum (m .counts) four))
 
-pub notes-out : (s : List ℕ) (h p : ℕ) (ms : List Head) (log : List (ℕ × Note)) → Table headRow 28 s h ms → Table noteRow 16 s p log → All (λ (m : Head). length (m .counts) ≡ 4) ms
+pub notes-out : (s : List ℕ) (h p : ℕ) (ms : List Head) (log : List (ℕ × Note)) → Table headRow measureWidth s h ms → Table noteRow noteRowWidth s p log → All (λ (m : Head). length (m .counts) ≡ 4) ms
     → sum notesIn ms ≡ length log → length log < 2 ^ 32 → notesOut s h p (length ms) ≡ encAll out (inOrder ms log)
 unfolding notesOut inOrder
 notes-out s h p [] log t u four e l = sym (encAll-none out)
@@ -251,19 +247,19 @@ notes-out s h p (m ∷ ms) log t u four e l =
     let k = notesIn m in
     let n : noteCount s h ≡ k = count-out s h m ms t (four .0) (omega arith) in
     let front : length (take k log) ≡ k = length-take k log ∙ omega arith in
-    let first = ap (λ (j : ℕ). voicesOut s p j 0 4) (n ∙ sym front) ∙ measure-out s p (take k log) (table-take noteRow 16 length-note k log u) in
+    let first = ap (λ (j : ℕ). voicesOut s p j 0 4) (n ∙ sym front) ∙ measure-out s p (take k log) (table-take noteRow noteRowWidth length-note k log u) in
     let ih =
-    notes-out s (h + 28) (p + 16 * k) ms (drop k log) (table-rest headRow 28 length-head (m ∷ []) ms (h + 28) (omega arith) t) (table-drop noteRow 16 length-note k log (p + 16 * k) (omega arith) refl u)
+    notes-out s (h + measureWidth) (p + noteRowWidth * k) ms (drop k log) (table-rest headRow measureWidth length-head (m ∷ []) ms (h + measureWidth) (omega arith) t) (table-drop noteRow noteRowWidth length-note k log (p + noteRowWidth * k) (omega arith) refl u)
     (four .1)
     (omega (arith, length-drop k log))
     (omega (arith, length-drop k log)) in
-    (λ i. first i ++ notesOut s (h + 28) (p + 16 * n i) (length ms)) ∙ rw ih (sym (encAll-append out (byVoice (take k log)) (inOrder ms (drop k log))))
+    (λ i. first i ++ notesOut s (h + measureWidth) (p + noteRowWidth * n i) (length ms)) ∙ rw ih (sym (encAll-append out (byVoice (take k log)) (inOrder ms (drop k log))))
 
-pub total-out : (s : List ℕ) (h : ℕ) (ms : List Head) → Table headRow 28 s h ms → All (λ (m : Head). length (m .counts) ≡ 4) ms → sum notesIn ms < 2 ^ 32 → total s h (length ms) ≡ sum notesIn ms
+pub total-out : (s : List ℕ) (h : ℕ) (ms : List Head) → Table headRow measureWidth s h ms → All (λ (m : Head). length (m .counts) ≡ 4) ms → sum notesIn ms < 2 ^ 32 → total s h (length ms) ≡ sum notesIn ms
 unfolding total
 total-out s h [] t four l = refl
 total-out s h (m ∷ ms) t four l =
-    rw (count-out s h m ms t (four .0) (omega arith), total-out s (h + 28) ms (table-rest headRow 28 length-head (m ∷ []) ms (h + 28) (omega arith) t) (four .1) (omega arith))
+    rw (count-out s h m ms t (four .0) (omega arith), total-out s (h + measureWidth) ms (table-rest headRow measureWidth length-head (m ∷ []) ms (h + measureWidth) (omega arith) t) (four .1) (omega arith))
 
 -- EACH NOTE ONCE: a sum over the notes in order is the sum over the log
 one-of : (v n : ℕ) → v < 4 → cond (eqb v 0) n 0 + (cond (eqb v 1) n 0 + (cond (eqb v 2) n 0 + cond (eqb v 3) n 0)) ≡ n
@@ -322,38 +318,37 @@ pub length-in-order : (ms : List Head) (log : List (ℕ × Note)) → sum notesI
 length-in-order ms log e h = sym (ones (inOrder ms log)) ∙ in-order-sum (λ x. 1) ms log e h ∙ ones log
 
 -- THE SECTIONS
-pub notes-section : {s : List ℕ} {heads n notes count : ℕ} {ms : List Head} {log : List (ℕ × Note)} → NotesIn s heads n notes count ms log
-    → le32 count ++ notesOut s heads notes n ≡ section (λ (x : ℕ × Note). noteBytes (x .1)) (inOrder ms log)
-unfolding section encAll
-notes-section {s} {heads} {n} {notes} {count} {ms} {log} h =
-    let f = h .fits in
-    let l : count ≡ length (inOrder ms log) = sym (length-in-order ms log (f .all-notes) (f .voices-below) ∙ h .notes-count) in
-    let bytes = ap (λ (k : ℕ). notesOut s heads notes k) (sym (h .heads-count)) ∙ notes-out s heads notes ms log (h .heads-held) (h .notes-held) (f .four-counts) (f .all-notes) (omega (arith, h .small, h .notes-count)) in
-    λ i. le32 (l i) ++ bytes i
-
--- the notes have room where the tables hold them
-pub notes-total : {s : List ℕ} {heads n notes count : ℕ} {ms : List Head} {log : List (ℕ × Note)} → NotesIn s heads n notes count ms log → total s heads n ≡ count
-notes-total {s} {heads} {n} {notes} {count} {ms} {log} h =
-    let f = h .fits in
-    ap (total s heads) (sym (h .heads-count)) ∙ total-out s heads ms (h .heads-held) (f .four-counts) (omega (arith, f .all-notes, h .small, h .notes-count)) ∙ f .all-notes ∙ h .notes-count
-
 -- a table of headRow is one of headBytes
-pub heads-bytes : (ms : List Head) → All (λ (m : Head). length (m .counts) ≡ 4) ms → encAll headRow ms ≡ encAll headBytes ms
+heads-bytes : (ms : List Head) → All (λ (m : Head). length (m .counts) ≡ 4) ms → encAll headRow ms ≡ encAll headBytes ms
 unfolding encAll
 heads-bytes [] h = refl
 heads-bytes (m ∷ ms) h = λ i. head-row m (h .0) i ++ heads-bytes ms (h .1) i
 
-pub measures-section : (s : List ℕ) (heads n : ℕ) (ms : List Head) → Table headRow 28 s heads ms → length ms ≡ n → All (λ (m : Head). length (m .counts) ≡ 4) ms
-    → le32 n ++ part s heads (28 * n) ≡ section headBytes ms
-unfolding section encAll
-measures-section s heads n ms t e four = ap (λ (k : ℕ). le32 k ++ part s heads (28 * k)) (sym e) ∙ ap (λ (l : List ℕ). le32 (length ms) ++ l) (t .holds ∙ heads-bytes ms four)
+module _ {s : List ℕ} {t : PartTables} {ms : List Head} {log : List (ℕ × Note)} (h : Represents s t ms log) where
+  pub measures-section : measuresSection s t ≡ section headBytes ms
+  unfolding section encAll
+  measures-section =
+      ap (λ (k : ℕ). le32 k ++ part s (t .measures .at) (measureWidth * k)) (sym (h .measures-are)) ∙ ap (λ (l : List ℕ). le32 (length ms) ++ l) (h .measures-table .holds ∙ heads-bytes ms (h .fits .four-counts))
 
--- A WRITER OF THESE BYTES writes the section of whatever the tables hold
-pub notes-say : {d e : List ℕ} {r : Wrote} (s : List ℕ) (heads n notes count : ℕ) → WroteIs d (le32 count ++ notesOut s heads notes n) e r
-    → WroteIs d (le32 count ++ notesOut s heads notes n) e r × ((ms : List Head) (log : List (ℕ × Note)) → NotesIn s heads n notes count ms log → WroteIs d (section (λ (x : ℕ × Note). noteBytes (x .1)) (inOrder ms log)) e r)
-notes-say s heads n notes count w = (w, λ ms log h. wrote-as w (notes-section h))
+  pub notes-section : notesSection s t ≡ section (λ (x : ℕ × Note). noteBytes (x .1)) (inOrder ms log)
+  unfolding section encAll
+  notes-section =
+      let f = h .fits in
+      let l : t .notes .count ≡ length (inOrder ms log) = sym (length-in-order ms log (f .all-notes) (f .voices-below) ∙ h .notes-are) in
+      let bytes = ap (notesOut s (t .measures .at) (t .notes .at)) (sym (h .measures-are)) ∙ notes-out s (t .measures .at) (t .notes .at) ms log (h .measures-table) (h .notes-table) (f .four-counts) (f .all-notes) (omega (arith, h .few-notes, h .notes-are)) in
+      λ i. le32 (l i) ++ bytes i
 
-pub measures-say : {d e : List ℕ} {r : Wrote} (s : List ℕ) (heads n : ℕ) → WroteIs d (le32 n ++ part s heads (28 * n)) e r
-    → WroteIs d (le32 n ++ part s heads (28 * n)) e r
-    × ((ms : List Head) → Table headRow 28 s heads ms → length ms ≡ n → All (λ (m : Head). length (m .counts) ≡ 4) ms → WroteIs d (section headBytes ms) e r)
-measures-say s heads n w = (w, λ ms t h f. wrote-as w (measures-section s heads n ms t h f))
+  -- the measures count as many notes as the table of notes has
+  pub notes-total : total s (t .measures .at) (t .measures .count) ≡ t .notes .count
+  notes-total =
+      let f = h .fits in
+      ap (total s (t .measures .at)) (sym (h .measures-are)) ∙ total-out s (t .measures .at) ms (h .measures-table) (f .four-counts) (omega (arith, f .all-notes, h .few-notes, h .notes-are)) ∙ f .all-notes ∙ h .notes-are
+
+-- A WRITER OF THESE BYTES writes the section of whatever the tables represent
+pub measures-say : {d e : List ℕ} {r : Wrote} {s : List ℕ} {t : PartTables} → WroteIs d (measuresSection s t) e r
+    → WroteIs d (measuresSection s t) e r × ((ms : List Head) (log : List (ℕ × Note)) → Represents s t ms log → WroteIs d (section headBytes ms) e r)
+measures-say w = (w, λ ms log h. wrote-as w (measures-section h))
+
+pub notes-say : {d e : List ℕ} {r : Wrote} {s : List ℕ} {t : PartTables} → WroteIs d (notesSection s t) e r
+    → WroteIs d (notesSection s t) e r × ((ms : List Head) (log : List (ℕ × Note)) → Represents s t ms log → WroteIs d (section (λ (x : ℕ × Note). noteBytes (x .1)) (inOrder ms log)) e r)
+notes-say w = (w, λ ms log h. wrote-as w (notes-section h))

@@ -4,32 +4,34 @@ use mathlib.Core.Path.{_≡_, refl, sym, ap, _∙_}
 use mathlib.Core.Bool.{true}
 use mathlib.Core.List.{List, [], _++_, append-nil}
 use native.Mathlib.Omega.{arith}
-use borrow.Author.Tests.{eq-eqb}
 use lib.ListN.{getD}
 use Rattle.laws.specs.Bytes.{part}
 use Rattle.laws.proofs.Parts.{part-none, part-add}
+use Rattle.part_rows.specs.Encoded.{noteRowWidth, pitchRowWidth, voiceAt}
 use Rattle.write_notes.specs.Out.{leads}
 use Rattle.write_notes.proofs.Leads.{lead-first, lead-rest, lead-only}
-use Rattle.write_pitches.specs.Out.{pitchCount, pitchTotal, voiceOut, voicesOut}
+use Rattle.part_rows.specs.Read.{pitchCount}
+use Rattle.write_notes.specs.Tables.{pitchTotal}
+use Rattle.write_pitches.specs.Out.{voiceOut, voicesOut}
 
 lead-other : (s : List ℕ) (v p q k : ℕ) → 0 < v → leads s p k ≡ true → voiceOut s v p q k ≡ []
 unfolding voiceOut
 lead-other s v p q zero h e = refl
-lead-other s v p q (suc k) h e = rw (lead-only s p k e v h) (lead-other s v (p + 16) (q + 5 * pitchCount s p) k h (lead-rest s p k e))
+lead-other s v p q (suc k) h e = rw (lead-only s p k e v h) (lead-other s v (p + noteRowWidth) (q + pitchRowWidth * pitchCount s p) k h (lead-rest s p k e))
 
-lead-parts : (s : List ℕ) (p q k : ℕ) → leads s p k ≡ true → voiceOut s 0 p q k ≡ part s q (5 * pitchTotal s p k)
+lead-parts : (s : List ℕ) (p q k : ℕ) → leads s p k ≡ true → voiceOut s 0 p q k ≡ part s q (pitchRowWidth * pitchTotal s p k)
 unfolding voiceOut pitchTotal
 lead-parts s p q zero e = sym (part-none s q)
 lead-parts s p q (suc k) e =
-    let n = 5 * pitchCount s p in
-    let m = 5 * pitchTotal s (p + 16) k in
-    let both : n + m ≡ 5 * (pitchCount s p + pitchTotal s (p + 16) k) = omega arith in
-    rw (eq-eqb (getD s (p + 12) 0) 0 (lead-first s p k e))
-    (ap (λ (x : List ℕ). part s q n ++ x) (lead-parts s (p + 16) (q + n) k (lead-rest s p k e)) ∙ sym (part-add s q n m) ∙ ap (part s q) both)
+    let n = pitchRowWidth * pitchCount s p in
+    let m = pitchRowWidth * pitchTotal s (p + noteRowWidth) k in
+    let both : n + m ≡ pitchRowWidth * (pitchCount s p + pitchTotal s (p + noteRowWidth) k) = omega arith in
+    rw (lead-first s p k e)
+    (ap (λ (x : List ℕ). part s q n ++ x) (lead-parts s (p + noteRowWidth) (q + n) k (lead-rest s p k e)) ∙ sym (part-add s q n m) ∙ ap (part s q) both)
 
-pub lead-run : (s : List ℕ) (p q k end : ℕ) → end ≡ q + 5 * pitchTotal s p k → leads s p k ≡ true → part s q (end - q) ≡ voicesOut s p q k 0 4
+pub lead-run : (s : List ℕ) (p q k end : ℕ) → end ≡ q + pitchRowWidth * pitchTotal s p k → leads s p k ≡ true → part s q (end - q) ≡ voicesOut s p q k 0 4
 unfolding voicesOut
 lead-run s p q k end x e =
     let none : (v : ℕ) → 0 < v → voiceOut s v p q k ≡ [] = λ v h. lead-other s v p q k h e in
-    let long : end - q ≡ 5 * pitchTotal s p k = omega (arith, x) in
+    let long : end - q ≡ pitchRowWidth * pitchTotal s p k = omega (arith, x) in
     rw (none 1 (omega arith), none 2 (omega arith), none 3 (omega arith), append-nil) (ap (part s q) long ∙ sym (lead-parts s p q k e))

@@ -13,25 +13,27 @@ use Rattle.laws.proofs.Parts.{length-part}
 use Rattle.laws.proofs.Numbers.{littleAt-part, littleAt-little, littleAt-own}
 use Rattle.laws.proofs.Rows.{encAll-none, encAll-append}
 use Rattle.reader.specs.State.{Note}
-use Rattle.reader.specs.Records.{noteBytes, pitchBytes, section}
+use Rattle.reader.specs.Records.{noteBytes, pitchBytes, section, measureWidth}
 use Rattle.part_layout.specs.Log.{Head}
 use Rattle.part_layout.specs.Sections.{headBytes, notesIn, ofVoice, byVoice, inOrder}
 use Rattle.part_rows.specs.Table.{Table}
-use Rattle.part_rows.specs.Encoded.{rowBytes, noteRow}
+use Rattle.part_rows.specs.Read.{ofVoiceAt, pitchCount}
+use Rattle.part_rows.specs.Encoded.{rowBytes, noteRow, noteRowWidth, pitchRowWidth, voiceAt, pitchCountAt}
 use Rattle.part_rows.proofs.Bytes.{length-note, length-pitch}
-use Rattle.part_measures.specs.Heads.{headRow}
+use Rattle.part_measures.specs.Heads.{headRow, noteCount}
 use Rattle.part_measures.proofs.Heads.{length-head}
 use Rattle.store_sections.specs.declared.Wrote.{Wrote}
 use Rattle.store_sections.specs.declared.Wrote.the-variants.{To, NoRoom}
 use Rattle.store_sections.specs.Writes.{WroteIs}
 use Rattle.part_ends.proofs.Zipped.{table-front}
-use Rattle.write_notes.specs.Out.{noteCount, total, notesOut}
+use Rattle.write_notes.specs.declared.PartTables.{PartTables}
+use Rattle.write_notes.specs.Tables.{total, pitchTotal, pitchesOf, Represents}
 use Rattle.write_notes.proofs.Tables.{table-rest, table-take, table-drop, table-first}
-use Rattle.write_notes.proofs.Out.{wrote-as, byte-voice, by-voice, count-out, in-order-sum, notes-total, measures-section, notes-section}
-use Rattle.write_pitches.specs.Out.{pitchCount, pitchTotal, voiceOut, voicesOut, pitchesOut, musicOut, pitchesOf, PitchesIn}
+use Rattle.write_notes.proofs.Out.{wrote-as, byte-voice, by-voice, count-out, in-order-sum, notes-total}
+use Rattle.write_pitches.specs.Out.{voiceOut, voicesOut, pitchesOut, pitchesSection}
 
 -- STEPS, as the loops take them
-pub pitch-total-step : (s : List ℕ) (p k : ℕ) → 0 < k → pitchTotal s p k ≡ pitchCount s p + pitchTotal s (p + 16) (k - 1)
+pub pitch-total-step : (s : List ℕ) (p k : ℕ) → 0 < k → pitchTotal s p k ≡ pitchCount s p + pitchTotal s (p + noteRowWidth) (k - 1)
 unfolding pitchTotal
 pitch-total-step s p zero h = absurd (omega arith)
 pitch-total-step s p (suc k) h = let e : suc k - 1 ≡ k = omega arith in rw e
@@ -40,27 +42,27 @@ pub pitch-total-none : (s : List ℕ) (p k : ℕ) → k ≡ 0 → pitchTotal s p
 unfolding pitchTotal
 pitch-total-none s p k h = rw h
 
-pitch-total-add : (s : List ℕ) (p a b : ℕ) → pitchTotal s p (a + b) ≡ pitchTotal s p a + pitchTotal s (p + 16 * a) b
+pitch-total-add : (s : List ℕ) (p a b : ℕ) → pitchTotal s p (a + b) ≡ pitchTotal s p a + pitchTotal s (p + noteRowWidth * a) b
 unfolding pitchTotal
-pitch-total-add s p zero b = let e : 0 + b ≡ b = omega arith in let f : p + 16 * 0 ≡ p = omega arith in rw (e, f) (omega arith)
+pitch-total-add s p zero b = let e : 0 + b ≡ b = omega arith in let f : p + noteRowWidth * 0 ≡ p = omega arith in rw (e, f) (omega arith)
 pitch-total-add s p (suc a) b =
     let e : suc a + b ≡ suc (a + b) = omega arith in
-    let f : p + 16 + 16 * a ≡ p + 16 * suc a = omega arith in
-    rw (e, pitchTotal) (omega (arith, pitch-total-add s (p + 16) a b, ap (λ (k : ℕ). pitchTotal s k b) f))
+    let f : p + noteRowWidth + noteRowWidth * a ≡ p + noteRowWidth * suc a = omega arith in
+    rw (e, pitchTotal) (omega (arith, pitch-total-add s (p + noteRowWidth) a b, ap (λ (k : ℕ). pitchTotal s k b) f))
 
-pub pitch-total-split : (s : List ℕ) (p t a b : ℕ) → t ≡ a + b → pitchTotal s p t ≡ pitchTotal s p a + pitchTotal s (p + 16 * a) b
+pub pitch-total-split : (s : List ℕ) (p t a b : ℕ) → t ≡ a + b → pitchTotal s p t ≡ pitchTotal s p a + pitchTotal s (p + noteRowWidth * a) b
 pitch-total-split s p t a b e = ap (pitchTotal s p) e ∙ pitch-total-add s p a b
 
 voice-step : (s : List ℕ) (v p q k : ℕ) → 0 < k
-    → voiceOut s v p q k ≡ cond (eqb (getD s (p + 12) 0) v) (part s q (5 * pitchCount s p)) [] ++ voiceOut s v (p + 16) (q + 5 * pitchCount s p) (k - 1)
+    → voiceOut s v p q k ≡ cond (ofVoiceAt s v p) (part s q (pitchRowWidth * pitchCount s p)) [] ++ voiceOut s v (p + noteRowWidth) (q + pitchRowWidth * pitchCount s p) (k - 1)
 unfolding voiceOut
 voice-step s v p q zero h = absurd (omega arith)
 voice-step s v p q (suc k) h = let e : suc k - 1 ≡ k = omega arith in rw e
 
-pub voice-yes : (s : List ℕ) (v p q k len : ℕ) → 0 < k → len ≡ 5 * pitchCount s p → eqb (getD s (p + 12) 0) v ≡ true → voiceOut s v p q k ≡ part s q len ++ voiceOut s v (p + 16) (q + len) (k - 1)
+pub voice-yes : (s : List ℕ) (v p q k len : ℕ) → 0 < k → len ≡ pitchRowWidth * pitchCount s p → ofVoiceAt s v p ≡ true → voiceOut s v p q k ≡ part s q len ++ voiceOut s v (p + noteRowWidth) (q + len) (k - 1)
 voice-yes s v p q k len h l e = voice-step s v p q k h ∙ rw (e, l)
 
-pub voice-no : (s : List ℕ) (v p q k len : ℕ) → 0 < k → len ≡ 5 * pitchCount s p → eqb (getD s (p + 12) 0) v ≡ false → voiceOut s v p q k ≡ voiceOut s v (p + 16) (q + len) (k - 1)
+pub voice-no : (s : List ℕ) (v p q k len : ℕ) → 0 < k → len ≡ pitchRowWidth * pitchCount s p → ofVoiceAt s v p ≡ false → voiceOut s v p q k ≡ voiceOut s v (p + noteRowWidth) (q + len) (k - 1)
 voice-no s v p q k len h l e = voice-step s v p q k h ∙ rw (e, l)
 
 pub voice-none : (s : List ℕ) (v p q k : ℕ) → k ≡ 0 → voiceOut s v p q k ≡ []
@@ -78,7 +80,7 @@ pub voices-none : (s : List ℕ) (p q k v j : ℕ) → j ≤ v → voicesOut s p
 unfolding voicesOut
 voices-none s p q k v j h = let e : j - v ≡ 0 = omega arith in rw e
 
-pub pitches-step : (s : List ℕ) (h p q n k : ℕ) → 0 < n → k ≡ noteCount s h → pitchesOut s h p q n ≡ voicesOut s p q k 0 4 ++ pitchesOut s (h + 28) (p + 16 * k) (q + 5 * pitchTotal s p k) (n - 1)
+pub pitches-step : (s : List ℕ) (h p q n k : ℕ) → 0 < n → k ≡ noteCount s h → pitchesOut s h p q n ≡ voicesOut s p q k 0 4 ++ pitchesOut s (h + measureWidth) (p + noteRowWidth * k) (q + pitchRowWidth * pitchTotal s p k) (n - 1)
 unfolding pitchesOut
 pitches-step s h p q zero k l e = absurd (omega arith)
 pitches-step s h p q (suc n) k l e = let f : suc n - 1 ≡ n = omega arith in rw (f, e)
@@ -95,19 +97,18 @@ pub run-none : {d e : List ℕ} (s : List ℕ) (from len : ℕ) → from + len �
 run-none s from len h l = record { says = omega (arith, length-part s from len h) }
 
 -- A ROW
-number-at : (x : ℕ × Note) → part (noteRow x) 8 4 ≡ le32 (length (x .1 .pitches))
+number-at : (x : ℕ × Note) → part (noteRow x) pitchCountAt 4 ≡ le32 (length (x .1 .pitches))
 unfolding rowBytes little part
 number-at x = refl
 
-count-at : (s : List ℕ) (p : ℕ) (x : ℕ × Note) → part s p 16 ≡ noteRow x → length (x .1 .pitches) < 2 ^ 32 → pitchCount s p ≡ length (x .1 .pitches)
-unfolding pitchCount
+count-at : (s : List ℕ) (p : ℕ) (x : ℕ × Note) → part s p noteRowWidth ≡ noteRow x → length (x .1 .pitches) < 2 ^ 32 → pitchCount s p ≡ length (x .1 .pitches)
 count-at s p x e l =
-    sym (littleAt-part 4 s p 16 8 (omega arith)) ∙ ap (λ (r : List ℕ). u32At r 8) e ∙ littleAt-own 4 (noteRow x) 8
+    sym (littleAt-part 4 s p noteRowWidth pitchCountAt (omega arith)) ∙ ap (λ (r : List ℕ). u32At r pitchCountAt) e ∙ littleAt-own 4 (noteRow x) pitchCountAt
     ∙ ap (λ (r : List ℕ). u32At r 0) (number-at x)
     ∙ littleAt-little 4 (length (x .1 .pitches)) l
 
-row-first : (s : List ℕ) (p : ℕ) (x : ℕ × Note) (xs : List (ℕ × Note)) → Table noteRow 16 s p (x ∷ xs) → part s p 16 ≡ noteRow x
-row-first s p x xs t = let place : p + 16 * 0 ≡ p = omega arith in ap (λ (k : ℕ). part s k 16) (sym place) ∙ table-first noteRow 16 length-note x xs t
+row-first : (s : List ℕ) (p : ℕ) (x : ℕ × Note) (xs : List (ℕ × Note)) → Table noteRow noteRowWidth s p (x ∷ xs) → part s p noteRowWidth ≡ noteRow x
+row-first s p x xs t = let place : p + noteRowWidth * 0 ≡ p = omega arith in ap (λ (k : ℕ). part s k noteRowWidth) (sym place) ∙ table-first noteRow noteRowWidth length-note x xs t
 
 -- the bytes of the pitches of notes
 abbrev pub out : List (ℕ × Note) → List ℕ
@@ -126,7 +127,7 @@ kept-by v x xs true e = rw e (sym (encAll-append pitchBytes (x .1 .pitches) (pit
 kept-by v x xs false e = rw e
 
 module _ (s : List ℕ) where
-  voice-out : (v p q : ℕ) (xs : List (ℕ × Note)) → Table noteRow 16 s p xs → Table pitchBytes 5 s q (pitchesOf xs) → length (pitchesOf xs) < 2 ^ 32
+  voice-out : (v p q : ℕ) (xs : List (ℕ × Note)) → Table noteRow noteRowWidth s p xs → Table pitchBytes pitchRowWidth s q (pitchesOf xs) → length (pitchesOf xs) < 2 ^ 32
       → voiceOut s v p q (length xs) ≡ out (ofVoice v xs)
   unfolding voiceOut ofVoice
   voice-out v p q [] t u l = sym (encAll-none pitchBytes)
@@ -135,14 +136,14 @@ module _ (s : List ℕ) where
       let row = row-first s p x xs t in
       let len = length-append ps (pitchesOf xs) in
       let n = count-at s p x row (omega arith) in
-      let here : part s q (5 * length ps) ≡ encAll pitchBytes ps = table-front pitchBytes 5 length-pitch ps (pitchesOf xs) u .holds in
+      let here : part s q (pitchRowWidth * length ps) ≡ encAll pitchBytes ps = table-front pitchBytes pitchRowWidth length-pitch ps (pitchesOf xs) u .holds in
       let ih =
-      voice-out v (p + 16) (q + 5 * length ps) xs (table-rest noteRow 16 length-note (x ∷ []) xs (p + 16) (omega arith) t)
-      (table-rest pitchBytes 5 length-pitch ps (pitchesOf xs) (q + 5 * length ps) refl u)
+      voice-out v (p + noteRowWidth) (q + pitchRowWidth * length ps) xs (table-rest noteRow noteRowWidth length-note (x ∷ []) xs (p + noteRowWidth) (omega arith) t)
+      (table-rest pitchBytes pitchRowWidth length-pitch ps (pitchesOf xs) (q + pitchRowWidth * length ps) refl u)
       (omega arith) in
       rw (byte-voice s p x row, n, here, ih) (kept-by v x xs (eqb (x .0) v) refl)
 
-  measure-out : (p q : ℕ) (xs : List (ℕ × Note)) → Table noteRow 16 s p xs → Table pitchBytes 5 s q (pitchesOf xs) → length (pitchesOf xs) < 2 ^ 32
+  measure-out : (p q : ℕ) (xs : List (ℕ × Note)) → Table noteRow noteRowWidth s p xs → Table pitchBytes pitchRowWidth s q (pitchesOf xs) → length (pitchesOf xs) < 2 ^ 32
       → voicesOut s p q (length xs) 0 4 ≡ out (byVoice xs)
   unfolding voicesOut
   measure-out p q xs t u l =
@@ -151,15 +152,15 @@ module _ (s : List ℕ) where
       (sym (ap out (by-voice xs) ∙ out-append (ofVoice 0 xs) (ofVoice 1 xs ++ (ofVoice 2 xs ++ ofVoice 3 xs)) ∙ rw (out-append (ofVoice 1 xs) (ofVoice 2 xs ++ ofVoice 3 xs), out-append (ofVoice 2 xs) (ofVoice 3 xs))))
 
   -- how many
-  total-out : (p : ℕ) (xs : List (ℕ × Note)) → Table noteRow 16 s p xs → length (pitchesOf xs) < 2 ^ 32 → pitchTotal s p (length xs) ≡ length (pitchesOf xs)
+  total-out : (p : ℕ) (xs : List (ℕ × Note)) → Table noteRow noteRowWidth s p xs → length (pitchesOf xs) < 2 ^ 32 → pitchTotal s p (length xs) ≡ length (pitchesOf xs)
   unfolding pitchTotal
   total-out p [] t l = refl
   total-out p (x ∷ xs) t l =
       let len = length-append (x .1 .pitches) (pitchesOf xs) in
-      rw (count-at s p x (row-first s p x xs t) (omega arith), total-out (p + 16) xs (table-rest noteRow 16 length-note (x ∷ []) xs (p + 16) (omega arith) t) (omega arith)) (sym len)
+      rw (count-at s p x (row-first s p x xs t) (omega arith), total-out (p + noteRowWidth) xs (table-rest noteRow noteRowWidth length-note (x ∷ []) xs (p + noteRowWidth) (omega arith) t) (omega arith)) (sym len)
 
   -- ALL MEASURES
-  pitches-out : (h p q : ℕ) (ms : List Head) (log : List (ℕ × Note)) → Table headRow 28 s h ms → Table noteRow 16 s p log → Table pitchBytes 5 s q (pitchesOf log)
+  pitches-out : (h p q : ℕ) (ms : List Head) (log : List (ℕ × Note)) → Table headRow measureWidth s h ms → Table noteRow noteRowWidth s p log → Table pitchBytes pitchRowWidth s q (pitchesOf log)
       → All (λ (m : Head). length (m .counts) ≡ 4) ms → sum notesIn ms ≡ length log → length log < 2 ^ 32 → length (pitchesOf log) < 2 ^ 32 → pitchesOut s h p q (length ms) ≡ out (inOrder ms log)
   unfolding pitchesOut inOrder
   pitches-out h p q [] log t u w four e l z = sym (encAll-none pitchBytes)
@@ -171,21 +172,21 @@ module _ (s : List ℕ) where
       let front : length a ≡ k = length-take k log ∙ omega arith in
       let cut : pitchesOf log ≡ pitchesOf a ++ pitchesOf b = ap pitchesOf (sym (take-append-drop k log)) ∙ pitches-append a b in
       let len = ap length cut ∙ length-append (pitchesOf a) (pitchesOf b) in
-      let w′ = subst (Table pitchBytes 5 s q) cut w in
-      let ta = table-take noteRow 16 length-note k log u in
+      let w′ = subst (Table pitchBytes pitchRowWidth s q) cut w in
+      let ta = table-take noteRow noteRowWidth length-note k log u in
       let all = total-out p a ta (omega arith) in
-      let first = measure-out p q a ta (table-front pitchBytes 5 length-pitch (pitchesOf a) (pitchesOf b) w′) (omega arith) in
+      let first = measure-out p q a ta (table-front pitchBytes pitchRowWidth length-pitch (pitchesOf a) (pitchesOf b) w′) (omega arith) in
       let ih =
-      pitches-out (h + 28) (p + 16 * k) (q + 5 * length (pitchesOf a)) ms b (table-rest headRow 28 length-head (m ∷ []) ms (h + 28) (omega arith) t)
-      (table-drop noteRow 16 length-note k log (p + 16 * k) (omega arith) refl u)
-      (table-rest pitchBytes 5 length-pitch (pitchesOf a) (pitchesOf b) (q + 5 * length (pitchesOf a)) refl w′)
+      pitches-out (h + measureWidth) (p + noteRowWidth * k) (q + pitchRowWidth * length (pitchesOf a)) ms b (table-rest headRow measureWidth length-head (m ∷ []) ms (h + measureWidth) (omega arith) t)
+      (table-drop noteRow noteRowWidth length-note k log (p + noteRowWidth * k) (omega arith) refl u)
+      (table-rest pitchBytes pitchRowWidth length-pitch (pitchesOf a) (pitchesOf b) (q + pitchRowWidth * length (pitchesOf a)) refl w′)
       (four .1)
       (omega (arith, length-drop k log))
       (omega (arith, length-drop k log))
       (omega arith) in
-      (λ i. voicesOut s p q (n i) 0 4 ++ pitchesOut s (h + 28) (p + 16 * n i) (q + 5 * pitchTotal s p (n i)) (length ms))
-      ∙ (λ i. voicesOut s p q (sym front i) 0 4 ++ pitchesOut s (h + 28) (p + 16 * k) (q + 5 * pitchTotal s p (sym front i)) (length ms))
-      ∙ (λ i. first i ++ pitchesOut s (h + 28) (p + 16 * k) (q + 5 * all i) (length ms))
+      (λ i. voicesOut s p q (n i) 0 4 ++ pitchesOut s (h + measureWidth) (p + noteRowWidth * n i) (q + pitchRowWidth * pitchTotal s p (n i)) (length ms))
+      ∙ (λ i. voicesOut s p q (sym front i) 0 4 ++ pitchesOut s (h + measureWidth) (p + noteRowWidth * k) (q + pitchRowWidth * pitchTotal s p (sym front i)) (length ms))
+      ∙ (λ i. first i ++ pitchesOut s (h + measureWidth) (p + noteRowWidth * k) (q + pitchRowWidth * all i) (length ms))
       ∙ (λ i. out (byVoice a) ++ ih i)
       ∙ sym (out-append (byVoice a) (inOrder ms b))
 
@@ -193,42 +194,25 @@ module _ (s : List ℕ) where
 pitches-sum : (xs : List (ℕ × Note)) → length (pitchesOf xs) ≡ sum (λ (x : ℕ × Note). length (x .1 .pitches)) xs
 pitches-sum xs = length-concat (map (λ (x : ℕ × Note). x .1 .pitches) xs) ∙ sum-map (λ (x : ℕ × Note). x .1 .pitches) length xs
 
-module _ {s : List ℕ} {heads n notes pitches count : ℕ} {ms : List Head} {log : List (ℕ × Note)} (h : PitchesIn s heads n notes pitches count ms log) where
-  pub pitches-section : le32 count ++ pitchesOut s heads notes pitches n ≡ section pitchBytes (pitchesOf (inOrder ms log))
+module _ {s : List ℕ} {t : PartTables} {ms : List Head} {log : List (ℕ × Note)} (h : Represents s t ms log) where
+  pub pitches-section : pitchesSection s t ≡ section pitchBytes (pitchesOf (inOrder ms log))
   unfolding section encAll
   pitches-section =
-      let g = h .represents in
-      let f = g .fits in
-      let l : count ≡ length (pitchesOf (inOrder ms log)) =
-      sym (pitches-sum (inOrder ms log) ∙ in-order-sum (λ (x : ℕ × Note). length (x .1 .pitches)) ms log (f .all-notes) (f .voices-below) ∙ sym (pitches-sum log) ∙ h .pitches-count) in
+      let f = h .fits in
+      let l : t .pitches .count ≡ length (pitchesOf (inOrder ms log)) =
+      sym (pitches-sum (inOrder ms log) ∙ in-order-sum (λ (x : ℕ × Note). length (x .1 .pitches)) ms log (f .all-notes) (f .voices-below) ∙ sym (pitches-sum log) ∙ h .pitches-are) in
       let bytes =
-      ap (λ (k : ℕ). pitchesOut s heads notes pitches k) (sym (g .heads-count))
-      ∙ pitches-out s heads notes pitches ms log (g .heads-held) (g .notes-held) (h .pitches-held) (f .four-counts) (f .all-notes) (g .small) (omega (arith, h .small, h .pitches-count)) in
+      ap (pitchesOut s (t .measures .at) (t .notes .at) (t .pitches .at)) (sym (h .measures-are))
+      ∙ pitches-out s (t .measures .at) (t .notes .at) (t .pitches .at) ms log (h .measures-table) (h .notes-table) (h .pitches-table) (f .four-counts) (f .all-notes) (omega (arith, h .few-notes, h .notes-are)) (omega (arith, h .few-pitches, h .pitches-are)) in
       λ i. le32 (l i) ++ bytes i
 
-  -- the pitches have room where the tables hold them
-  pub pitches-total : pitchTotal s notes (total s heads n) ≡ count
-  pitches-total = ap (pitchTotal s notes) (notes-total (h .represents)) ∙ total-out s notes log (h .represents .notes-held) (omega (arith, h .small, h .pitches-count)) ∙ h .pitches-count
+  -- the notes count as many pitches as the table of pitches has
+  pub pitches-total : pitchTotal s (t .notes .at) (total s (t .measures .at) (t .measures .count)) ≡ t .pitches .count
+  pitches-total =
+      ap (pitchTotal s (t .notes .at)) (notes-total h ∙ sym (h .notes-are)) ∙ total-out s (t .notes .at) log (h .notes-table) (omega (arith, h .few-pitches, h .pitches-are)) ∙ h .pitches-are
 
--- A WRITER OF THESE BYTES writes the section of whatever the tables hold
-pub pitches-say : {d e : List ℕ} {r : Wrote} (s : List ℕ) (heads n notes pitches count : ℕ) → WroteIs d (le32 count ++ pitchesOut s heads notes pitches n) e r
-    → WroteIs d (le32 count ++ pitchesOut s heads notes pitches n) e r
-    × ((ms : List Head) (log : List (ℕ × Note)) → PitchesIn s heads n notes pitches count ms log → WroteIs d (section pitchBytes (concat (map (λ (x : ℕ × Note). x .1 .pitches) (inOrder ms log)))) e r)
-pitches-say s heads n notes pitches count w = (w, λ ms log h. wrote-as w (pitches-section h))
-
--- THREE SECTIONS
-pub music-section : {s : List ℕ} {heads n notes count pitches sounds : ℕ} {ms : List Head} {log : List (ℕ × Note)} → PitchesIn s heads n notes pitches sounds ms log → length log ≡ count
-    → musicOut s heads n notes count pitches sounds
-    ≡ section headBytes ms ++ section (λ (x : ℕ × Note). noteBytes (x .1)) (inOrder ms log) ++ section pitchBytes (pitchesOf (inOrder ms log))
-unfolding musicOut
-music-section {s} {heads} {n} {notes} {count} {pitches} {sounds} {ms} {log} h e =
-    let g = h .represents in
-    let a = measures-section s heads n ms (g .heads-held) (g .heads-count) (g .fits .four-counts) in
-    let b = ap (λ (k : ℕ). le32 k ++ notesOut s heads notes n) (sym e) ∙ notes-section g in
-    λ i. a i ++ b i ++ pitches-section h i
-
-pub music-say : {d e : List ℕ} {r : Wrote} (s : List ℕ) (heads n notes count pitches sounds : ℕ) → WroteIs d (musicOut s heads n notes count pitches sounds) e r
-    → WroteIs d (musicOut s heads n notes count pitches sounds) e r
-    × ((ms : List Head) (log : List (ℕ × Note)) → PitchesIn s heads n notes pitches sounds ms log → length log ≡ count
-    → WroteIs d (section headBytes ms ++ section (λ (x : ℕ × Note). noteBytes (x .1)) (inOrder ms log) ++ section pitchBytes (concat (map (λ (x : ℕ × Note). x .1 .pitches) (inOrder ms log)))) e r)
-music-say s heads n notes count pitches sounds w = (w, λ ms log h e. wrote-as w (music-section h e))
+-- A WRITER OF THESE BYTES writes the section of whatever the tables represent
+pub pitches-say : {d e : List ℕ} {r : Wrote} {s : List ℕ} {t : PartTables} → WroteIs d (pitchesSection s t) e r
+    → WroteIs d (pitchesSection s t) e r
+    × ((ms : List Head) (log : List (ℕ × Note)) → Represents s t ms log → WroteIs d (section pitchBytes (concat (map (λ (x : ℕ × Note). x .1 .pitches) (inOrder ms log)))) e r)
+pitches-say w = (w, λ ms log h. wrote-as w (pitches-section h))

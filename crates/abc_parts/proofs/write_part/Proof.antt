@@ -1,6 +1,6 @@
 -- `abc_parts::write_part` meets its contract.
-use Rattle.standard.specs.Keys.{Key}
 use Rattle.abc_parts.proofs.Reading.{part-stands, part-wrote, sung-items, sung-length}
+use Rattle.field_keys.specs.Passed.{keyAs}
 use borrow.Author.Needs.{needs}
 use Rattle.abc_parts.proofs.write_part.Statement.{statement}
 use Rattle.abc_parts.proofs.write_part.Tie as tie
@@ -11,7 +11,7 @@ write-sections-requires c κs =
     let t = c .before .before .before .before .before .before .before .before .before .before .size-part .result in
     let d = c .before .before .before .before .before .before .before .before .read-part in
     let u = c .before .before .before .before .sing-part in
-    part-stands (a .text .now) (a .scratch .now) (a .n) (a .part) (record { fifths = a .fifths; minor = a .minor }) t _ (d .result) (d .ensures) _ (u .result) (u .ensures .0) (u .ensures .1)
+    part-stands (a .text .now) (a .scratch .now) (a .n) (a .part) (keyAs (a .key)) t _ (d .result) (d .ensures) _ (u .result) (u .ensures .0) (u .ensures .1)
 
 returns : tie.Need-returns
 returns c =
@@ -19,7 +19,7 @@ returns c =
     let t = c .before .before .before .before .before .before .before .before .before .before .before .before .before .size-part .result in
     let d = c .before .before .before .before .before .before .before .before .before .before .before .read-part in
     let u = c .before .before .before .before .before .before .before .sing-part in
-    let header : Key = record { fifths = a .fifths; minor = a .minor } in (
+    let header = keyAs (a .key) in (
       part-wrote (a .text .now) (a .scratch .now) (a .n) (a .part) header t _ (d .result) (d .ensures) _ (u .result) (u .ensures .0) (u .ensures .1) (c .before .before .write-sections .ensures),
       (
         sung-items (a .text .now) (a .scratch .now) (a .n) (a .part) header t _ (d .result) (d .ensures) _ (u .result) (u .ensures .0) (u .ensures .1),

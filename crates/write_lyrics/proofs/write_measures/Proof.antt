@@ -4,7 +4,9 @@ use mathlib.Core.Path.{_≡_, refl, sym, ap}
 use native.Mathlib.Omega.{arith}
 use borrow.Author.Needs.{needs}
 use lib.ListN.{length}
-use Rattle.write_notes.specs.Out.{total}
+use Rattle.reader.specs.Records.{measureWidth}
+use Rattle.part_rows.specs.Encoded.{noteRowWidth}
+use Rattle.write_notes.specs.Tables.{total}
 use Rattle.write_notes.proofs.Out.{total-step}
 use Rattle.write_notes.proofs.Written.{Written, begin, written-in, written-as, written-on, written-none, written-all}
 use Rattle.lyrics.specs.Sheet.{syllablesIn}
@@ -14,15 +16,15 @@ use Rattle.write_lyrics.proofs.write_measures.Statement.{statement}
 use Rattle.write_lyrics.proofs.write_measures.Tie as tie
 
 abbrev Inv-loop : tie.InvT-loop
-Inv-loop text store sheet heads n notes texts to₀ at₀ i₀ j₀ h₀ p₀ left₀ to at i j h p left =
-    (h + 28 * left ≤ length store) × (p + 16 * total store h left ≤ length store) × (16 * i ≤ p) × (j ≤ i) × (length to ≡ length to₀)
-    × Written to₀ (measuresOut texts (syllablesIn text store sheet) store 0 0 heads notes n) (measuresOut texts (syllablesIn text store sheet) store i j h p left) to at
+Inv-loop text store sheet texts to₀ at₀ i₀ j₀ h₀ p₀ left₀ to at i j h p left =
+    (h + measureWidth * left ≤ length store) × (p + noteRowWidth * total store h left ≤ length store) × (noteRowWidth * i ≤ p) × (j ≤ i) × (length to ≡ length to₀)
+    × Written to₀ (measuresOut texts (syllablesIn text store sheet) store 0 0 h₀ p₀ left₀) (measuresOut texts (syllablesIn text store sheet) store i j h p left) to at
 
 abbrev μ-loop : tie.MeasureT-loop
-μ-loop text store sheet heads n notes texts to₀ at₀ i₀ j₀ h₀ p₀ left₀ to at i j h p left = left
+μ-loop text store sheet texts to₀ at₀ i₀ j₀ h₀ p₀ left₀ to at i j h p left = left
 
 loop-holds : tie.Need-loop-holds Inv-loop μ-loop
-loop-holds c = (c .before .before .before .pre .2, c .before .before .before .pre .3, omega arith, omega arith, refl, begin _ _)
+loop-holds c = (c .before .before .before .pre .1 .measures-in, c .before .before .before .pre .1 .notes-in, omega arith, omega arith, refl, begin _ _)
 
 sub-write-rows : tie.Need-sub-write-rows Inv-loop μ-loop
 sub-write-rows c = omega (arith, written-in (c .before .before .loop .inv .5) .0)
@@ -37,7 +39,7 @@ write-rows-requires c κs =
     let t = total-step (c .before .before .before .before .before .before .before .args .store .now) (l .h) (l .left) (c .before .before .loop-test .taken) in
     let k = c .before .note-count .ensures .0 in
     let good = c .before .before .before .before .before .before .before .good in
-    (c .before .before .before .before .before .before .before .pre .0, c .before .before .before .before .before .before .before .pre .1, omega (arith, v .1, t, k), omega (arith, v .1, v .2, t, k, good), omega (arith, v .1, v .2, v .3, t, k, good))
+    (c .before .before .before .before .before .before .before .pre .0, omega (arith, v .1, t, k), omega (arith, v .1, v .2, t, k, good), omega (arith, v .1, v .2, v .3, t, k, good))
 
 -- no room for a measure
 
@@ -47,7 +49,7 @@ returns c =
     let a = c .before .before .before .before .before .before .before .before .before .before .before .before .args in
     let k = c .before .before .before .before .before .before .note-count in
     let q = sungRows (a .store .now) (l .p) (k .result) in
-    written-none (l .inv .5) (passed-none (c .before .before .before .before .write-rows .ensures) (c .enum-told .given .1)) (measuresOut (a .texts) (syllablesIn (a .text .now) (a .store .now) (a .sheet)) (a .store .now) (l .i + k .result) (l .j + q) (l .h + 28) (l .p + 16 * k .result) (l .left - 1))
+    written-none (l .inv .5) (passed-none (c .before .before .before .before .write-rows .ensures) (c .enum-told .given .1)) (measuresOut (a .texts) (syllablesIn (a .text .now) (a .store .now) (a .sheet)) (a .store .now) (l .i + k .result) (l .j + q) (l .h + measureWidth) (l .p + noteRowWidth * k .result) (l .left - 1))
     (measures-step _ _ _ _ _ _ _ _ _ q (c .before .before .before .before .before .before .before .loop-test .taken) (k .ensures .0) refl)
 
 add-at : tie.Need-add-at Inv-loop μ-loop
@@ -89,7 +91,7 @@ loop-again c =
       omega (arith, v .2),
       omega (arith, v .3, e, sung-low (a .store .now) (l .p) n),
       written-in g .1,
-      written-as g (ap (λ (x : ℕ). measuresOut (a .texts) (syllablesIn (a .text .now) (a .store .now) (a .sheet)) (a .store .now) (l .i + n) x (l .h + 28) (l .p + 16 * n) (l .left - 1)) (sym e)),
+      written-as g (ap (λ (x : ℕ). measuresOut (a .texts) (syllablesIn (a .text .now) (a .store .now) (a .sheet)) (a .store .now) (l .i + n) x (l .h + measureWidth) (l .p + noteRowWidth * n) (l .left - 1)) (sym e)),
     )
 
 returns-2 : tie.Need-returns-2 Inv-loop μ-loop

@@ -1,6 +1,6 @@
 -- `write_notes::write_note` meets its contract.
 use native.Mathlib.Omega.{arith}
-use Rattle.write_notes.proofs.Out.{length-note-out, note-wrote, copied-twice}
+use Rattle.write_notes.proofs.Out.{length-note-out, note-wrote}
 use borrow.Author.Needs.{needs}
 use Rattle.write_notes.proofs.write_note.Statement.{statement}
 use Rattle.write_notes.proofs.write_note.Tie as tie
@@ -12,8 +12,8 @@ returns c =
 
 returns-2 : tie.Need-returns-2
 returns-2 c =
-    let a = c .before .before .before .before .before .before .before .before .before .before .before .before .before .before .before .before .before .before .before .args in
-    note-wrote _ _ _ (c .before .before .before .before .before .before .before .before .before .before .put-4 .ensures) (copied-twice _ _ _ (a .store .now) (a .place) (c .before .before .before .before .before .before .copy-4 .ensures) (c .before .before .copy-42 .ensures) (omega arith)) (c .before .before .before .before .before .before .before .before .before .before .before .before .before .before .before .flags-of .ensures) (omega arith) (omega arith)
+    let a = c .before .before .before .before .before .before .before .before .before .before .before .before .before .args in
+    note-wrote (a .store .now) (a .place) _ _ (c .before .before .before .before .before .before .before .before .before .note-start .ensures) (c .before .before .before .before .before .before .put-4 .ensures) (c .before .before .copy-note-rest .ensures) (c .before .before .before .before .before .before .before .before .flags-of .ensures) (omega arith) (omega arith)
 
 pub write-note-spec : {M : Type 1} → statement M
-write-note-spec = tie.close (tie.spec returns (λ c κs. search needs) (λ c. search needs) (λ c. search needs) (λ c. search needs) (λ c. search needs) (λ c. search needs) (λ c κs. search needs) (λ c. search needs) (λ c κs. search needs) (λ c. search needs) (λ c κs. search needs) (λ c. search needs) returns-2)
+write-note-spec = tie.close (tie.spec returns (λ c κs. search needs) (λ c κs. search needs) (λ c κs. search needs) (λ c κs. search needs) (λ c. search needs) returns-2)

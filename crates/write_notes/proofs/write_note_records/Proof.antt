@@ -3,9 +3,12 @@ use Prim.Native.Nat.{ℕ, _+_, _-_, _*_, _≤_}
 use mathlib.Core.Path.{_≡_, refl, ap, sym, _∙_}
 use native.Mathlib.Omega.{arith}
 use lib.ListN.{length}
+use Rattle.reader.specs.Records.{measureWidth}
+use Rattle.part_rows.specs.Encoded.{noteRowWidth}
 use Rattle.store_sections.proofs.Writes.{told}
 use mathlib.Core.List.{_++_}
-use Rattle.write_notes.specs.Out.{voicesOut, notesOut, total}
+use Rattle.write_notes.specs.Tables.{total}
+use Rattle.write_notes.specs.Out.{voicesOut, notesOut}
 use Rattle.write_notes.proofs.Written.{Written, begin, written-in, written-on, written-none, written-all}
 use Rattle.write_notes.proofs.Out.{notes-step, notes-none, total-step}
 use borrow.Author.Needs.{needs}
@@ -13,14 +16,14 @@ use Rattle.write_notes.proofs.write_note_records.Statement.{statement}
 use Rattle.write_notes.proofs.write_note_records.Tie as tie
 
 abbrev Inv-loop : tie.InvT-loop
-Inv-loop store heads n notes to₀ at₀ h₀ p₀ left₀ to at h p left =
-    (h + 28 * left ≤ length store) × (p + 16 * total store h left ≤ length store) × (length to ≡ length to₀) × Written to₀ (notesOut store heads notes n) (notesOut store h p left) to at
+Inv-loop store to₀ at₀ h₀ p₀ left₀ to at h p left =
+    (h + measureWidth * left ≤ length store) × (p + noteRowWidth * total store h left ≤ length store) × (length to ≡ length to₀) × Written to₀ (notesOut store h₀ p₀ left₀) (notesOut store h p left) to at
 
 abbrev μ-loop : tie.MeasureT-loop
-μ-loop store heads n notes to₀ at₀ h₀ p₀ left₀ to at h p left = left
+μ-loop store to₀ at₀ h₀ p₀ left₀ to at h p left = left
 
 loop-holds : tie.Need-loop-holds Inv-loop μ-loop
-loop-holds c = (c .before .before .pre .0, c .before .before .pre .1, refl, begin _ _)
+loop-holds c = (c .before .before .pre .measures-in, c .before .before .pre .notes-in, refl, begin _ _)
 
 sub-write-measure-notes : tie.Need-sub-write-measure-notes Inv-loop μ-loop
 sub-write-measure-notes c = omega (arith, written-in (c .before .before .loop .inv .3) .0)
@@ -37,14 +40,14 @@ returns : tie.Need-returns Inv-loop μ-loop
 returns c =
     let l = c .before .before .before .before .before .before .before .before .loop in
     let a = c .before .before .before .before .before .before .before .before .before .before .before .args in
-    written-none (l .inv .3) (told (c .before .before .before .before .write-measure-notes .ensures) (c .enum-told .given .1)) (notesOut (a .store .now) (l .h + 28) (l .p + 16 * c .before .before .before .before .before .before .note-count .result) (l .left - 1))
-    (notes-step _ _ _ _ (c .before .before .before .before .before .before .before .loop-test .taken) ∙ ap (λ (k : ℕ). voicesOut (a .store .now) (l .p) k 0 4 ++ notesOut (a .store .now) (l .h + 28) (l .p + 16 * k) (l .left - 1)) (sym (c .before .before .before .before .before .before .note-count .ensures .0)))
+    written-none (l .inv .3) (told (c .before .before .before .before .write-measure-notes .ensures) (c .enum-told .given .1)) (notesOut (a .store .now) (l .h + measureWidth) (l .p + noteRowWidth * c .before .before .before .before .before .before .note-count .result) (l .left - 1))
+    (notes-step _ _ _ _ (c .before .before .before .before .before .before .before .loop-test .taken) ∙ ap (λ (k : ℕ). voicesOut (a .store .now) (l .p) k 0 4 ++ notesOut (a .store .now) (l .h + measureWidth) (l .p + noteRowWidth * k) (l .left - 1)) (sym (c .before .before .before .before .before .before .note-count .ensures .0)))
 
 add-at : tie.Need-add-at Inv-loop μ-loop
 add-at c =
     let l = c .before .before .before .before .before .before .before .before .before .loop in
     let a = c .before .before .before .before .before .before .before .before .before .before .before .before .args in
-    let w = written-on (l .inv .3) (told (c .before .before .before .before .before .write-measure-notes .ensures) (c .before .m .given .1)) (notes-step _ _ _ _ (c .before .before .before .before .before .before .before .before .loop-test .taken) ∙ ap (λ (k : ℕ). voicesOut (a .store .now) (l .p) k 0 4 ++ notesOut (a .store .now) (l .h + 28) (l .p + 16 * k) (l .left - 1)) (sym (c .before .before .before .before .before .before .before .note-count .ensures .0))) in
+    let w = written-on (l .inv .3) (told (c .before .before .before .before .before .write-measure-notes .ensures) (c .before .m .given .1)) (notes-step _ _ _ _ (c .before .before .before .before .before .before .before .before .loop-test .taken) ∙ ap (λ (k : ℕ). voicesOut (a .store .now) (l .p) k 0 4 ++ notesOut (a .store .now) (l .h + measureWidth) (l .p + noteRowWidth * k) (l .left - 1)) (sym (c .before .before .before .before .before .before .before .note-count .ensures .0))) in
     omega (arith, w .wrote .says .1, c .before .before .before .before .before .before .before .before .before .before .before .before .good)
 
 mul-p : tie.Need-mul-p Inv-loop μ-loop
@@ -61,7 +64,7 @@ loop-again : tie.Need-loop-again Inv-loop μ-loop
 loop-again c =
     let l = c .before .before .before .before .before .before .before .before .before .loop in
     let a = c .before .before .before .before .before .before .before .before .before .before .before .before .args in
-    let w = written-on (l .inv .3) (told (c .before .before .before .before .before .write-measure-notes .ensures) (c .before .m .given .1)) (notes-step _ _ _ _ (c .before .before .before .before .before .before .before .before .loop-test .taken) ∙ ap (λ (k : ℕ). voicesOut (a .store .now) (l .p) k 0 4 ++ notesOut (a .store .now) (l .h + 28) (l .p + 16 * k) (l .left - 1)) (sym (c .before .before .before .before .before .before .before .note-count .ensures .0))) in (
+    let w = written-on (l .inv .3) (told (c .before .before .before .before .before .write-measure-notes .ensures) (c .before .m .given .1)) (notes-step _ _ _ _ (c .before .before .before .before .before .before .before .before .loop-test .taken) ∙ ap (λ (k : ℕ). voicesOut (a .store .now) (l .p) k 0 4 ++ notesOut (a .store .now) (l .h + measureWidth) (l .p + noteRowWidth * k) (l .left - 1)) (sym (c .before .before .before .before .before .before .before .note-count .ensures .0))) in (
       omega (arith, l .inv .0),
       omega (arith, l .inv .1, total-step (a .store .now) (l .h) (l .left) (c .before .before .before .before .before .before .before .before .loop-test .taken), c .before .before .before .before .before .before .before .note-count .ensures),
       written-in w .1,

@@ -3,13 +3,14 @@ use Prim.Native.Nat.{_+_, _*_, _≤_}
 use mathlib.Core.Path.{_≡_, refl}
 use native.Mathlib.Omega.{arith}
 use lib.ListN.{length}
-use Rattle.write_pitches.specs.Out.{pitchTotal}
+use Rattle.part_rows.specs.Encoded.{noteRowWidth, pitchRowWidth}
+use Rattle.write_notes.specs.Tables.{pitchTotal}
 use Rattle.write_pitches.proofs.Out.{pitch-total-step, pitch-total-none}
 use Rattle.write_pitches.proofs.pitches_end.Statement.{statement}
 use Rattle.write_pitches.proofs.pitches_end.Tie as tie
 
 abbrev Inv-loop : tie.InvT-loop
-Inv-loop store place k pitches q₀ p₀ left₀ q p left = (p + 16 * left ≤ length store) × (q + 5 * pitchTotal store p left ≡ pitches + 5 * pitchTotal store place k)
+Inv-loop store place k pitches q₀ p₀ left₀ q p left = (p + noteRowWidth * left ≤ length store) × (q + pitchRowWidth * pitchTotal store p left ≡ pitches + pitchRowWidth * pitchTotal store place k)
 
 abbrev μ-loop : tie.MeasureT-loop
 μ-loop store place k pitches q₀ p₀ left₀ q p left = left

@@ -1,9 +1,9 @@
--- `write_notes::note_count` meets its contract.
+-- `part_measures::note_count` meets its contract.
 use native.Mathlib.Omega.{arith}
-use Rattle.write_notes.specs.Out.{noteCount}
+use Rattle.part_measures.specs.Heads.{noteCount}
 use borrow.Author.Needs.{needs}
-use Rattle.write_notes.proofs.note_count.Statement.{statement}
-use Rattle.write_notes.proofs.note_count.Tie as tie
+use Rattle.part_measures.proofs.note_count.Statement.{statement}
+use Rattle.part_measures.proofs.note_count.Tie as tie
 
 returns : tie.Need-returns
 unfolding noteCount

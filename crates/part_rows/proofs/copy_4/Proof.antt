@@ -1,10 +1,10 @@
--- `write_notes::copy_4` meets its contract.
+-- `part_rows::copy_4` meets its contract.
 use mathlib.Core.Path.{sym, ap, _∙_}
 use borrow.Author.Needs.{needs}
 use Rattle.laws.specs.Bytes.{splice}
-use Rattle.write_notes.proofs.Out.{four-bytes}
-use Rattle.write_notes.proofs.copy_4.Statement.{statement}
-use Rattle.write_notes.proofs.copy_4.Tie as tie
+use Rattle.part_rows.proofs.Copied.{four-bytes}
+use Rattle.part_rows.proofs.copy_4.Statement.{statement}
+use Rattle.part_rows.proofs.copy_4.Tie as tie
 
 returns : tie.Need-returns
 returns c =
