@@ -40,13 +40,26 @@ abbrev pub sectionWeights : Weights
 sectionWeights =
     record { measure = measureWidth; note = noteWidth; pitch = pitchWidth; accidental = 0; syllable = lyricWidth; text = 1; byte = 23; kept = 5 }
 
--- the tables of a scratch store, by their rows (a note's 16 and the 4 of its lyric head): 28 bytes for each byte of a line
-abbrev pub tableWeights : Weights
-tableWeights = record { measure = 28; note = 20; pitch = 5; accidental = 8; syllable = 16; text = 0; byte = 28; kept = 3 }
+-- THE ROWS OF SCRATCH that are no records of a reading: a note, an accidental in force, the head of a note's syllables, a syllable, an item of the line table
+abbrev pub noteRowWidth : ℕ
+noteRowWidth = 16
 
--- a row of the line table
+abbrev pub scopeRowWidth : ℕ
+scopeRowWidth = 8
+
+abbrev pub lyricHeadWidth : ℕ
+lyricHeadWidth = 4
+
+abbrev pub lyricRowWidth : ℕ
+lyricRowWidth = 16
+
 abbrev pub itemRowWidth : ℕ
 itemRowWidth = 16
+
+-- the tables of a part in scratch, by their rows: a measure's bytes for each byte of a line
+abbrev pub tableWeights : Weights
+tableWeights =
+    record { measure = measureWidth; note = noteRowWidth + lyricHeadWidth; pitch = pitchWidth; accidental = scopeRowWidth; syllable = lyricRowWidth; text = 0; byte = measureWidth; kept = 3 }
 
 -- the budget of each byte of the text for the line table and one part's tables
 abbrev pub scratchPerByte : ℕ

@@ -9,6 +9,7 @@ use Rattle.laws.specs.Lists.{All, alterAt}
 use Rattle.laws.specs.Bytes.{part, between, rows, le32, u32At}
 use Rattle.standard.specs.Lyrics.{syllableText}
 use Rattle.reader.specs.Lyrics.{Syllable, put, held}
+use Rattle.bounds.specs.Weights as bounds
 use Rattle.lyric_words.specs.Words.{asSyllabic}
 use Rattle.lyrics.specs.declared.Sheet.{Sheet}
 use Rattle.lyrics.specs.declared.Row.{Row}
@@ -18,10 +19,10 @@ withCount h n = record { heads = h .heads; sounded = h .sounded; log = h .log; c
 
 -- THE WIDTHS of a note's head and of a row
 abbrev pub lyricHeadWidth : ℕ
-lyricHeadWidth = 4
+lyricHeadWidth = bounds.lyricHeadWidth
 
 abbrev pub lyricRowWidth : ℕ
-lyricRowWidth = 16
+lyricRowWidth = bounds.lyricRowWidth
 
 -- WHERE THE FIELDS OF A ROW STAND
 abbrev pub verseAt : ℕ

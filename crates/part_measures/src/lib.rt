@@ -11,7 +11,7 @@ ghost use Rattle.part_measures.specs.Heads.{newRow, noNotes, noteCount, 
 use field_keys::Key;
 
 // The bytes of a row: those of the measure record.
-pub const MEASURE: usize = 28;
+pub const MEASURE: usize = reading_records::MEASURE;
 
 // Where the fields of a row stand, as in the measure record: four counts of four bytes first.
 const LEFT: usize = 16;

@@ -7,19 +7,20 @@ use Rattle.standard.specs.Pitches.{Pitch}
 use Rattle.standard.specs.Notes.{Flags}
 use Rattle.reader.specs.State.{Note}
 use Rattle.reader.specs.Codes.{kindCode, beamCode, bit}
+use Rattle.bounds.specs.Weights as bounds
 use Rattle.reader.specs.Records.{pitchWidth, signed8, signed16}
 use Rattle.part_rows.specs.declared.NoteRow.{NoteRow}
 use Rattle.part_rows.specs.declared.Sounded.{Sounded}
 
 -- WIDTHS
 abbrev pub noteRowWidth : ℕ
-noteRowWidth = 16
+noteRowWidth = bounds.noteRowWidth
 
 abbrev pub pitchRowWidth : ℕ
 pitchRowWidth = pitchWidth
 
 abbrev pub scopeRowWidth : ℕ
-scopeRowWidth = 8
+scopeRowWidth = bounds.scopeRowWidth
 
 -- WHERE THE FIELDS OF A NOTE'S ROW STAND; the first twelve bytes are where the note record has them
 abbrev pub kindAt : ℕ

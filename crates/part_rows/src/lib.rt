@@ -12,7 +12,7 @@ ghost use Rattle.part_rows.specs.Read.{startAt, restAt, soundsAt, ofVoic
 // The bytes of a row: a note's, a pitch's (those of its record), an accidental's.
 pub const NOTE_ROW: usize = 16;
 
-pub const PITCH_ROW: usize = 5;
+pub const PITCH_ROW: usize = reading_records::PITCH;
 
 pub const SCOPE_ROW: usize = 8;
 

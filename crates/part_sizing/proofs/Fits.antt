@@ -26,7 +26,8 @@ use Rattle.part_rows.specs.Encoded.{noteRowWidth, pitchRowWidth, scopeRowWidth}
 use Rattle.part_registers.specs.declared.Tables.{Tables}
 use Rattle.part_sizing.specs.declared.Made.{Made}
 use Rattle.part_sizing.specs.Counting.{madeOf, tablesAt}
-use Rattle.part_sizing.specs.Room.{lyricHeadWidth, PartRoom, musicAt, Sized}
+use Rattle.lyrics.specs.Sheet.{lyricHeadWidth}
+use Rattle.part_sizing.specs.Room.{PartRoom, musicAt, Sized}
 use Rattle.part_sizing.proofs.Counting.{bytes-in}
 
 -- A BYTE OF MUSIC

@@ -13,14 +13,8 @@ use Rattle.scan_table.specs.Rows.{itemsIn, tableEnd}
 use Rattle.part_registers.specs.declared.Tables.{Tables}
 use Rattle.part_registers.specs.declared.Counts.{Counts}
 use Rattle.part_invariant.specs.Lines.{RoomForBytes}
+use Rattle.lyrics.specs.Sheet.{lyricHeadWidth, lyricRowWidth}
 use Rattle.part_sizing.specs.Counting.{madeOf, tablesAt}
-
--- the bytes of a note's head and of a syllable's row in the lyrics (crate lyrics)
-abbrev pub lyricHeadWidth : ℕ
-lyricHeadWidth = 4
-
-abbrev pub lyricRowWidth : ℕ
-lyricRowWidth = 16
 
 -- behind the line table there are a measure's bytes for a first measure and for each byte of the part's lines
 pub record PartRoom (text s : List ℕ) (n part : ℕ) : Type 0 where
