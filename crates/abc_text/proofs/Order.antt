@@ -1,8 +1,8 @@
 -- Demand 3 of calls: the theorem of crate blocks, at the contract of `parse_abc`.
-use Prim.Native.Nat.{ℕ, _-_}
-use mathlib.Core.Path.{_≡_, refl, sym, ap, subst, _∙_}
+use Prim.Native.Nat.{ℕ, _-_, max}
+use mathlib.Core.Path.{_≡_, refl, sym, ap, _∙_}
 use mathlib.Core.Bool.{Bool, true}
-use mathlib.Core.Option.{Option, none, some}
+use mathlib.Core.Option.{some}
 use mathlib.Core.List.{List, _++_}
 use native.Mathlib.Omega.{arith}
 use lib.ListN.{length, getElem?}
@@ -10,16 +10,18 @@ use Rattle.laws.specs.Lists.{elem, indexOf}
 use Rattle.laws.specs.Bytes.{zeros}
 use Rattle.reader.specs.Steps.{TextLine}
 use Rattle.reader.specs.Part.{Part}
+use Rattle.reader.specs.Answer as answers
 use Rattle.reader.specs.Answer.{Verdict, refusal, reading, Outcome, Answer, read, refused, encode, refusedWith, written, parseAbc, answerOf}
 use Rattle.bounds.proofs.Reading.{outcome-cases}
 use Rattle.blocks.specs.Blocks.{blocks, rebuilt}
-use Rattle.blocks.specs.Demand.{IsReading, Accepted, Hypotheses, Moved, voices, onlyVoice, partIn, partOf}
+use Rattle.blocks.specs.Demand.{IsReading, Accepted, Hypotheses, Moved, voices, onlyPart, onlyVoice, partIn, partOf}
 use Rattle.blocks.proofs.Demand.{demand-3, by-name}
-use Rattle.blocks.proofs.Parts.{part-there}
+use Rattle.blocks.proofs.Lists.{getElem?-some}
+use Rattle.blocks.proofs.Parts.{parts-count, part-there}
 use Rattle.abc_text.specs.declared.Answer as code
 use Rattle.abc_text.specs.declared.Answer.the-variants as A
 use Rattle.abc_text.specs.Answers.{answerAs}
-use Rattle.abc_text.specs.Calls.{Call, In-any-order, PartIn, Each-alone}
+use Rattle.abc_text.specs.Calls.{Call, In-any-order, Holds, Each-part, Each-alone}
 
 -- an answer is told by its meaning
 back : Answer → code.Answer
@@ -40,7 +42,7 @@ unfolding answerOf back
 accepted-read (refusal n l) h r e = absurd h
 accepted-read (reading ps) h r e = (length (encode ps), sym (back-as r) ∙ ap back e)
 
-read≢refused : (k n l : ℕ) → read k ≡ refused n l → ⊥
+pub read≢refused : (k n l : ℕ) → read k ≡ refused n l → ⊥
 read≢refused k n l e = let z : _≡_ {A = ℕ} 0 1 = cc in omega arith
 
 read-accepted : (v : Verdict) (n : ℕ) → read n ≡ answerOf v → IsReading v
@@ -63,18 +65,28 @@ in-any-order text rl sl m bs mv r r′ d d′ s s′ c c′ =
     )
 
 -- THE SECOND HALF
--- a part of the verdict is one of the store
-abbrev Held : Outcome → Type 0
-Held w = (p : ℕ) (x : Part) → partIn (w .verdict) p ≡ some x → PartIn (w .reading) p x
+-- what is behind a reading's verdict
+abbrev Written : ℕ → Outcome → Type 0
+Written rl w = IsReading (w .verdict) → (ps : List Part) × ((w .verdict ≡ answers.reading ps) × (w .reading ≡ encode ps ++ zeros (rl - length (encode ps))))
 
-none≢some : (x : Part) → none ≡ some x → ⊥
-none≢some x e = let z : _≡_ {A = ℕ} 0 1 = cc in omega arith
-
-held : (text : List ℕ) (rl sl : ℕ) → Held (parseAbc text rl sl)
+held : (text : List ℕ) (rl sl : ℕ) → Written rl (parseAbc text rl sl)
 unfolding refusedWith written
-held text rl sl =
-    outcome-cases Held text rl sl (λ n l h p x e. absurd (none≢some x e)) (λ h p x e. absurd (none≢some x e))
-    (λ t a h f len short p x e. record { parts = _; zeros-behind = _; holds = refl; part = e })
+held text rl sl = outcome-cases (Written rl) text rl sl (λ n l h a. absurd a) (λ h a. absurd a) (λ t a h f len short _. (_, (refl, refl)))
+
+holds-of : (text : List ℕ) (rl sl : ℕ) (store : List ℕ) (p : ℕ) (x : Part) → Accepted (parseAbc text rl sl) → store ≡ parseAbc text rl sl .reading → partIn (parseAbc text rl sl .verdict) p ≡ some x → Holds text rl sl store p x
+holds-of text rl sl store p x a s e = let q = held text rl sl a in record { parts = q .0; read-as = q .1 .0; holds = s ∙ q .1 .1; part = e }
+
+pub each-part : Each-part
+each-part text rl sl m p h rl′ sl′ n r d d′ s s′ c c′ = go (parts-count text rl sl (m .accepted))
+  where
+    a : Accepted (parseAbc (onlyPart text p) rl′ sl′)
+    a = read-accepted (parseAbc (onlyPart text p) rl′ sl′ .verdict) n (c′ .0)
+
+    go : (ps : List Part) × (parseAbc text rl sl .verdict ≡ answers.reading ps) × (length ps ≡ max 1 (length (voices text))) → (x : Part) × (Holds text rl sl d p x × Holds (onlyPart text p) rl′ sl′ d′ p x)
+    go q =
+        let w : (x : Part) × (getElem? (q .0) p ≡ some x) = getElem?-some (q .0) p (omega (arith, q .2, h)) in
+        let e : partIn (parseAbc text rl sl .verdict) p ≡ some (w .0) = ap (λ (v : Verdict). partIn v p) (q .1) ∙ w .1 in
+        (w .0, (holds-of text rl sl d p (w .0) (m .accepted) (c .1 .0) e, holds-of (onlyPart text p) rl′ sl′ d′ p (w .0) a (c′ .1 .0) (sym (demand-3 text rl sl m .apart p rl′ sl′ a) ∙ e)))
 
 pub each-alone : Each-alone
 each-alone text rl sl m v hv rl′ sl′ n r d d′ s s′ c c′ =
@@ -82,8 +94,7 @@ each-alone text rl sl m v hv rl′ sl′ n r d d′ s s′ c c′ =
     let q : (x : Part) × (partOf text rl sl v ≡ some x) = part-there text rl sl (m .accepted) v hv in (
       q .0,
       (
-        subst (λ (l : List ℕ). PartIn l (indexOf v (voices text)) (q .0)) (sym (c .1 .0)) (held text rl sl (indexOf v (voices text)) (q .0) (q .1)),
-        subst (λ (l : List ℕ). PartIn l (indexOf v (voices (onlyVoice text v))) (q .0)) (sym (c′ .1 .0))
-            (held (onlyVoice text v) rl′ sl′ (indexOf v (voices (onlyVoice text v))) (q .0) (sym (by-name text rl sl m v hv rl′ sl′ a) ∙ q .1)),
+        holds-of text rl sl d (indexOf v (voices text)) (q .0) (m .accepted) (c .1 .0) (q .1),
+        holds-of (onlyVoice text v) rl′ sl′ d′ (indexOf v (voices (onlyVoice text v))) (q .0) a (c′ .1 .0) (sym (by-name text rl sl m v hv rl′ sl′ a) ∙ q .1),
       ),
     )

@@ -1,17 +1,18 @@
 -- DEMAND 3 OF CALLS OF `parse_abc`: "The order of the voice blocks changes no byte of the reading." Its words (`Hypotheses`, `Moved`, `onlyVoice`) are those of crate blocks.
-use Prim.Native.Nat.{ℕ}
+use Prim.Native.Nat.{ℕ, _-_, _<_, max}
 use mathlib.Core.Path.{_≡_}
 use mathlib.Core.Bool.{true}
 use mathlib.Core.Option.{some}
 use mathlib.Core.List.{List, _++_}
-use lib.ListN.{getElem?}
+use lib.ListN.{length}
 use Rattle.laws.specs.Lists.{elem, indexOf}
 use Rattle.laws.specs.Bytes.{zeros}
 use Rattle.reader.specs.Steps.{TextLine}
 use Rattle.reader.specs.Part.{Part}
+use Rattle.reader.specs.Answer as answers
 use Rattle.reader.specs.Answer.{encode, parseAbc, answerOf}
 use Rattle.blocks.specs.Blocks.{blocks, rebuilt}
-use Rattle.blocks.specs.Demand.{Hypotheses, Moved, voices, onlyVoice}
+use Rattle.blocks.specs.Demand.{Hypotheses, Moved, voices, onlyPart, onlyVoice, partIn}
 use Rattle.abc_text.specs.declared.Answer as code
 use Rattle.abc_text.specs.declared.Answer.the-variants as A
 use Rattle.abc_text.specs.Answers.{answerAs}
@@ -28,16 +29,24 @@ In-any-order =
     → (r r′ : code.Answer) (reading reading′ scratch scratch′ : List ℕ) → Call text rl sl r reading scratch → Call (rebuilt text bs) rl sl r′ reading′ scratch′
     → ((n : ℕ) × (r ≡ A.Read n)) × ((r′ ≡ r) × ((reading′ ≡ reading) × (scratch′ ≡ scratch)))
 
--- x is part p of what a reading store holds
-pub record PartIn (reading : List ℕ) (p : ℕ) (x : Part) : Type 0 where
+-- the store holds the reading of the call, and x is part p of that reading
+pub record Holds (text : List ℕ) (rl sl : ℕ) (store : List ℕ) (p : ℕ) (x : Part) : Type 0 where
   pub parts : List Part
-  pub zeros-behind : ℕ
-  pub holds : reading ≡ encode parts ++ zeros zeros-behind
-  pub part : getElem? parts p ≡ some x
+  pub read-as : parseAbc text rl sl .verdict ≡ answers.reading parts
+  pub holds : store ≡ encode parts ++ zeros (rl - length (encode parts))
+  pub part : partIn (parseAbc text rl sl .verdict) p ≡ some x
 
--- "every voice's part equals, in all five sections, the one read with all other voices' blocks removed, if that text is accepted", with stores of any length
+-- "every voice's part equals, in all five sections, the one read with all other voices' blocks removed, if that text is accepted", with stores of any length;
+-- "every voice with a part in the first reading is meant": by the part's number, also where the text has no V: line
+abbrev pub Each-part : Type 0
+Each-part =
+    (text : List ℕ) (rl sl : ℕ) → Hypotheses text rl sl → (p : ℕ) → p < max 1 (length (voices text)) → (rl′ sl′ n : ℕ)
+    → (r : code.Answer) (reading reading′ scratch scratch′ : List ℕ) → Call text rl sl r reading scratch → Call (onlyPart text p) rl′ sl′ (A.Read n) reading′ scratch′
+    → (x : Part) × (Holds text rl sl reading p x × Holds (onlyPart text p) rl′ sl′ reading′ p x)
+
+-- the same by the voice's name
 abbrev pub Each-alone : Type 0
 Each-alone =
     (text : List ℕ) (rl sl : ℕ) → Hypotheses text rl sl → (v : List ℕ) → elem v (voices text) ≡ true → (rl′ sl′ n : ℕ)
     → (r : code.Answer) (reading reading′ scratch scratch′ : List ℕ) → Call text rl sl r reading scratch → Call (onlyVoice text v) rl′ sl′ (A.Read n) reading′ scratch′
-    → (x : Part) × (PartIn reading (indexOf v (voices text)) x × PartIn reading′ (indexOf v (voices (onlyVoice text v))) x)
+    → (x : Part) × (Holds text rl sl reading (indexOf v (voices text)) x × Holds (onlyVoice text v) rl′ sl′ reading′ (indexOf v (voices (onlyVoice text v))) x)

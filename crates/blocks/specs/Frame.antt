@@ -99,7 +99,7 @@ module _ (R : Reader) where
   SetsNeither r = ((u : ℕ) → R .afterL r u ≡ u) × ((m : R .Meter) → R .afterM r m ≡ m)
 
   -- a block that brings its own L and M: its V: line, then an L: line and an M: line, and from both a value is taken whatever was in force before.
-  -- Demand 3 does not use it; T-13 does (specs/Demand says where)
+  -- The demand asks of blocks that they set neither; the claim covers these, too
   abbrev pub Brings : List TextLine → Type 0
   Brings [] = ⊥
   Brings (v ∷ []) = ⊥
