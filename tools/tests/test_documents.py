@@ -67,6 +67,50 @@ class Decisions(unittest.TestCase):
         self.assertEqual(len(indented), len(found))
 
 
+class Charged(unittest.TestCase):
+    """docs/CHARGED.md has the rows of the theorem, and no others."""
+    THEOREM = read('crates', 'examples', 'proofs', 'Charged.antt')
+    PAGE = read('docs', 'CHARGED.md')
+
+    def theorem(self):
+        found = re.findall(r'record \{ text = "(.*)"; charged = (.*) ∷ \[\] \}', self.THEOREM)
+        return [(text.replace('\\"', '"'), [int(number) for number in numbers.split(' ∷ ')]) for text, numbers in found]
+
+    def page(self, document):
+        for text, columns in re.findall(r'^\| [^`]*\| `(.*)` \| ([0-9][0-9 /|]*) \|$', document, re.M):
+            parts = zip(*(column.split(' / ') for column in columns.split(' | ')))
+            yield text.replace('\\|', '|'), [int(number) for part in parts for number in part]
+
+    def test_rows(self):
+        rows = self.theorem()
+        self.assertGreater(len(rows), 20)
+        self.assertEqual(list(self.page(self.PAGE)), rows)
+
+    def test_another_number_shows(self):
+        self.assertNotEqual(list(self.page(self.PAGE.replace('| 1 | 5 | 0 | 0 |', '| 1 | 4 | 0 | 0 |'))), self.theorem())
+
+
+class Theorems(unittest.TestCase):
+    """A theorem that PROMISES or DIFFERENCES names before a file stands in that file."""
+
+    def named(self, document):
+        for names, path in re.findall(r'((?:`[^`]+`(?:, | and )?)+) \((crates/\w+/proofs/\w+\.antt)', document):
+            for name in re.findall(r'`([^`]+)`', names):
+                yield name, path
+
+    def lost(self, document):
+        return [(name, path) for name, path in self.named(document) if not re.search(r'^ *pub %s( :|$)' % re.escape(name), read(*path.split('/')), re.M)]
+
+    def test_each_stands_there(self):
+        for name in ('PROMISES.md', 'DIFFERENCES.md', 'CHARGED.md'):
+            with self.subTest(name):
+                self.assertEqual(self.lost(read('docs', name)), [])
+        self.assertGreater(len(list(self.named(read('docs', 'PROMISES.md')))), 25)
+
+    def test_a_lost_theorem_shows(self):
+        self.assertEqual(self.lost('`demand-4` (crates/blocks/proofs/Demand.antt)'), [('demand-4', 'crates/blocks/proofs/Demand.antt')])
+
+
 class Files(unittest.TestCase):
     def files(self):
         for folder, folders, names in os.walk(ROOT):
