@@ -40,7 +40,7 @@ unfolding answerOf back
 accepted-read (refusal n l) h r e = absurd h
 accepted-read (reading ps) h r e = (length (encode ps), sym (back-as r) ∙ ap back e)
 
-read≢refused : (k n l : ℕ) → read k ≡ refused n l → ⊥
+pub read≢refused : (k n l : ℕ) → read k ≡ refused n l → ⊥
 read≢refused k n l e = let z : _≡_ {A = ℕ} 0 1 = cc in omega arith
 
 read-accepted : (v : Verdict) (n : ℕ) → read n ≡ answerOf v → IsReading v
