@@ -7,11 +7,13 @@ ghost use lib.ListN.{length};
 ghost use Rattle.reader.specs.Text.{textLines};
 ghost use Rattle.reader.specs.Scan.{scan};
 ghost use Rattle.reader.specs.Answer.{scratchNeeded, refusedWith, scanned, parseAbc, answerOf};
+ghost use Rattle.field_keys.specs.Passed.{keyAs};
 ghost use Rattle.scan_table.specs.Rows.{itemsIn};
 ghost use Rattle.store_sections.specs.Writes.{WroteIs};
 ghost use Rattle.scan.specs.Scanned.{Done};
 ghost use Rattle.abc_answers.specs.Parts.{partsOf, bytesOf};
 ghost use Rattle.abc_text.specs.Answers.{answerAs, wroteAs, Parsed, EarlyIs, Rooms};
+use field_keys::Key;
 use scan::Scanned;
 use scan::Shared;
 use store_sections::Wrote;
@@ -70,25 +72,16 @@ fn append_parts(
     scratch: &mut [u8],
     n: usize,
     count: u8,
-    fifths: u8,
-    minor: bool,
+    key: Key,
     to: &mut [u8],
 ) -> Wrote
     requires { ⌜ Rooms (now text) (now scratch) n ⌝ }
-    ensures { λ r. ⌜ WroteIs (now (to .entry)) (partsOf (record { fifths = fifths; minor = minor }) (itemsIn (now (text .entry)) (now (scratch .entry)) n) count) (now (to .exit)) r ⌝ }
+    ensures { λ r. ⌜ WroteIs (now (to .entry)) (partsOf (keyAs key) (itemsIn (now (text .entry)) (now (scratch .entry)) n) count) (now (to .exit)) r ⌝ }
 {
     let mut at: usize = 0;
     let mut part: u8 = 0;
     while part < count {
-        let Wrote::To(m) = abc_parts::write_part(
-            text,
-            scratch,
-            n,
-            part,
-            fifths,
-            minor,
-            &mut to[at..],
-        ) else {
+        let Wrote::To(m) = abc_parts::write_part(text, scratch, n, part, key, &mut to[at..]) else {
             return Wrote::NoRoom;
         };
         at += m;
@@ -103,17 +96,16 @@ fn write_parts(
     scratch: &mut [u8],
     n: usize,
     count: u8,
-    fifths: u8,
-    minor: bool,
+    key: Key,
     to: &mut [u8],
 ) -> Wrote
     requires { ⌜ Rooms (now text) (now scratch) n ⌝ }
-    ensures { λ r. ⌜ WroteIs (now (to .entry)) (bytesOf (record { fifths = fifths; minor = minor }) (itemsIn (now (text .entry)) (now (scratch .entry)) n) count) (now (to .exit)) r ⌝ }
+    ensures { λ r. ⌜ WroteIs (now (to .entry)) (bytesOf (keyAs key) (itemsIn (now (text .entry)) (now (scratch .entry)) n) count) (now (to .exit)) r ⌝ }
 {
     let Wrote::To(at) = store_sections::write_u32(to, count as u32) else {
         return Wrote::NoRoom;
     };
-    let Wrote::To(m) = append_parts(text, scratch, n, count, fifths, minor, &mut to[at..]) else {
+    let Wrote::To(m) = append_parts(text, scratch, n, count, key, &mut to[at..]) else {
         return Wrote::NoRoom;
     };
     Wrote::To(at + m)
@@ -139,7 +131,11 @@ fn finish(text: &[u8], reading: &mut [u8], scratch: &mut [u8], h: Shared) -> Ans
         return refuse(reading, scratch, 1, 0);
     }
     let count = count_parts(h.voices);
-    let w = write_parts(text, scratch, h.items, count, h.fifths, h.minor, reading);
+    let key = Key {
+        fifths: h.fifths,
+        minor: h.minor,
+    };
+    let w = write_parts(text, scratch, h.items, count, key, reading);
     store::clear(scratch, 0);
     store_sections::seal(reading, w);
     wrote_answer(w)

@@ -8,6 +8,7 @@ use lib.ListN.{length}
 use Rattle.store_sections.specs.Writes.{WroteIs}
 use Rattle.store_sections.specs.declared.Wrote.the-variants.{To}
 use Rattle.store_sections.proofs.Writes.{told, in-store, start}
+use Rattle.field_keys.specs.Passed.{keyAs}
 use Rattle.scan_table.specs.Rows.{itemsIn}
 use Rattle.abc_answers.specs.Parts.{partsOf}
 use Rattle.abc_text.proofs.Room.{room-kept, parts-none, one-part, no-part}
@@ -15,12 +16,12 @@ use Rattle.abc_text.proofs.append_parts.Statement.{statement}
 use Rattle.abc_text.proofs.append_parts.Tie as tie
 
 abbrev Inv-loop : tie.InvT-loop
-Inv-loop text scratch₀ n count fifths minor to₀ at₀ part₀ scratch to at part =
+Inv-loop text scratch₀ n count key to₀ at₀ part₀ scratch to at part =
     (part ≤ count) × (length to ≡ length to₀) × (length scratch ≡ length scratch₀) × (itemsIn text scratch n ≡ itemsIn text scratch₀ n)
-    × WroteIs to₀ (partsOf (record { fifths = fifths; minor = minor }) (itemsIn text scratch₀ n) part) to (To at)
+    × WroteIs to₀ (partsOf (keyAs key) (itemsIn text scratch₀ n) part) to (To at)
 
 abbrev μ-loop : tie.MeasureT-loop
-μ-loop text scratch₀ n count fifths minor to₀ at₀ part₀ scratch to at part = count - part
+μ-loop text scratch₀ n count key to₀ at₀ part₀ scratch to at part = count - part
 
 loop-holds : tie.Need-loop-holds Inv-loop μ-loop
 loop-holds c = (search needs, refl, refl, refl, rw parts-none (start _))
@@ -42,7 +43,7 @@ returns : tie.Need-returns Inv-loop μ-loop
 returns c =
     let l = c .before .before .before .before .before .before .before .before .before .before .loop in
     let a = c .before .before .before .before .before .before .before .before .before .before .before .before .before .before .args in
-    no-part (record { fifths = a .fifths; minor = a .minor }) (itemsIn (a .text .now) (a .scratch .now) (a .n)) _ (l .part) (a .count) (c .before .before .before .before .before .before .before .before .before .loop-test .taken) (l .inv .4) (l .inv .3)
+    no-part (keyAs (a .key)) (itemsIn (a .text .now) (a .scratch .now) (a .n)) _ (l .part) (a .count) (c .before .before .before .before .before .before .before .before .before .loop-test .taken) (l .inv .4) (l .inv .3)
     (told (c .before .before .before .before .before .before .write-part .ensures .0) (c .enum-told .given .1))
 
 add-at : tie.Need-add-at Inv-loop μ-loop
@@ -51,7 +52,7 @@ add-at c =
     let a = c .before .before .before .before .before .before .before .before .before .before .before .before .before .before .before .args in
     omega (
       arith,
-      one-part (record { fifths = a .fifths; minor = a .minor }) (itemsIn (a .text .now) (a .scratch .now) (a .n)) _ (l .part) (l .inv .4) (l .inv .3)
+      one-part (keyAs (a .key)) (itemsIn (a .text .now) (a .scratch .now) (a .n)) _ (l .part) (l .inv .4) (l .inv .3)
           (told (c .before .before .before .before .before .before .before .write-part .ensures .0) (c .before .m .given .1)) .says .1,
       c .before .before .before .before .before .before .before .before .before .before .before .before .before .before .before .good,
     )
@@ -60,7 +61,7 @@ loop-again : tie.Need-loop-again Inv-loop μ-loop
 loop-again c =
     let l = c .before .before .before .before .before .before .before .before .before .before .before .loop in
     let a = c .before .before .before .before .before .before .before .before .before .before .before .before .before .before .before .args in
-    let w = one-part (record { fifths = a .fifths; minor = a .minor }) (itemsIn (a .text .now) (a .scratch .now) (a .n)) _ (l .part) (l .inv .4) (l .inv .3)
+    let w = one-part (keyAs (a .key)) (itemsIn (a .text .now) (a .scratch .now) (a .n)) _ (l .part) (l .inv .4) (l .inv .3)
     (told (c .before .before .before .before .before .before .before .write-part .ensures .0) (c .before .m .given .1)) in
     (search needs, in-store w .1, search needs, c .before .before .before .before .before .before .before .write-part .ensures .1 .0 ∙ l .inv .3, w)
 
