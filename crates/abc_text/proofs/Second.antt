@@ -18,6 +18,7 @@ use Rattle.store_sections.specs.declared.Wrote.the-variants.{To, NoRoom}
 use Rattle.store_sections.specs.Writes.{Filled}
 use Rattle.scan_table.specs.Rows.{voicesIn, itemsIn}
 use Rattle.scan_table.proofs.Rows.{length-voices}
+use Rattle.field_keys.specs.Passed.{keyAs}
 use Rattle.scan.specs.declared.Shared.{Shared}
 use Rattle.scan.specs.Scanned.{Done}
 use Rattle.abc_answers.specs.Parts.{bytesOf, hasMusic}
@@ -70,7 +71,7 @@ module _ (text s : List ℕ) (h : Shared) (d : Done text s h) where
   count : max 1 (length (d .state .env .voices)) ≡ max 1 (h .voices)
   count = ap (λ (vs : List (List ℕ)). max 1 (length vs)) (d .voices) ∙ ap (max 1) (length-voices text s (h .voices))
 
-  bytes : encode allParts ≡ bytesOf (record { fifths = h .fifths; minor = h .minor }) (itemsIn text s (h .items)) (max 1 (h .voices))
+  bytes : encode allParts ≡ bytesOf (keyAs (h .key)) (itemsIn text s (h .items)) (max 1 (h .voices))
   unfolding allParts items
   bytes =
       encode-same (d .state .env) (itemsIn text s (h .items)) (max 1 (length (d .state .env .voices)))
@@ -83,7 +84,7 @@ module _ (text s : List ℕ) (h : Shared) (d : Done text s h) where
 
   -- A MEASURE: the parts are written, and the rest is cleared
   pub written-parsed : (rl sl : ℕ) (w : Wrote) (reading scratch : List ℕ) → h .music ≡ true
-      → Filled (bytesOf (record { fifths = h .fifths; minor = h .minor }) (itemsIn text s (h .items)) (max 1 (h .voices))) rl w reading → scratch ≡ zeros sl
+      → Filled (bytesOf (keyAs (h .key)) (itemsIn text s (h .items)) (max 1 (h .voices))) rl w reading → scratch ≡ zeros sl
       → Parsed (scanned rl sl (scan (textLines text))) (wroteAs w) reading scratch
   written-parsed rl sl w reading scratch m f z =
       rw (after rl sl) (ended-written allParts rl sl w reading scratch (measures ∙ m) (subst (λ (bs : List ℕ). Filled bs rl w reading) (sym bytes) f) z)

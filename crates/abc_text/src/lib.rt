@@ -131,10 +131,7 @@ fn finish(text: &[u8], reading: &mut [u8], scratch: &mut [u8], h: Shared) -> Ans
         return refuse(reading, scratch, 1, 0);
     }
     let count = count_parts(h.voices);
-    let key = Key {
-        fifths: h.fifths,
-        minor: h.minor,
-    };
+    let key = h.key;
     let w = write_parts(text, scratch, h.items, count, key, reading);
     store::clear(scratch, 0);
     store_sections::seal(reading, w);
