@@ -24,3 +24,7 @@ unpacked r = cond (ltb r refusedBit) (read r) (refused ((r - refusedBit) / numbe
 abbrev pub Short : Answer → Type 0
 Short (read n) = n < refusedBit
 Short (refused n l) = Unit {0}
+
+-- the version of what the calls promise: 1,000,000 × major + 1,000 × minor + patch (include/abc.h, bindings/rust)
+abbrev pub version : ℕ
+version = 1000

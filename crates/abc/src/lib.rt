@@ -5,8 +5,13 @@ ghost use Prim.Native.Nat.{ℕ};
 ghost use lib.ListN.{length};
 ghost use Rattle.reader.specs.Answer.{parseAbc, answerOf};
 ghost use Rattle.abc_text.specs.Answers.{answerAs};
-ghost use Rattle.abc.specs.Packed.{packed, unpacked, Short};
+ghost use Rattle.abc.specs.Packed.{packed, unpacked, Short, version};
 use abc_text::Answer;
+
+// Bit 63, which a refusal has; and what a refusal's number is counted in, bit 32.
+const REFUSED: u64 = 9223372036854775808;
+
+const NUMBER: u64 = 4294967296;
 
 // An answer as a number.
 fn pack(a: Answer) -> u64
@@ -16,7 +21,7 @@ fn pack(a: Answer) -> u64
 {
     match a {
         Answer::Read(n) => n as u64,
-        Answer::Refused(n, l) => 9223372036854775808 + (n as u64) * 4294967296 + (l as u64),
+        Answer::Refused(n, l) => REFUSED + (n as u64) * NUMBER + (l as u64),
     }
 }
 
@@ -29,4 +34,12 @@ pub extern "C" fn abc_parse(text: &[u8], reading: &mut [u8], scratch: &mut [u8])
     ensures { λ _. ⌜ now (scratch .exit) ≡ parseAbc (now (text .entry)) (length (now (reading .entry))) (length (now (scratch .entry))) .scratch ⌝ }
 {
     pack(abc_text::parse_abc(text, reading, scratch))
+}
+
+// The version of what the calls promise; include/abc.h has the same as ABC_VERSION.
+#[no_mangle]
+pub extern "C" fn abc_version() -> u64
+    ensures { λ r. ⌜ r ≡ version ⌝ }
+{
+    1000
 }
