@@ -147,8 +147,9 @@ struct Head {
     /// Octaves by which it is drawn lower (or higher, below 0) than it is.
     moved: i32,
     pitch: Pitch,
-    /// The sign before it, if it is not what the key says.
+    /// The sign before it, if it is not what the key says, and how many signs stand between.
     sign: Option<i32>,
+    sign_at: usize,
     /// Beside its neighbour, on the stem's other side.
     aside: bool,
 }
@@ -270,7 +271,7 @@ fn bar_width(barline: Barline) -> f64 {
         Barline::Double => 5.0,
         Barline::Final => 7.0,
         Barline::RepeatStart | Barline::RepeatEnd => 15.0,
-        Barline::RepeatBoth => 24.0,
+        Barline::RepeatBoth => 26.0,
     }
 }
 
@@ -298,22 +299,25 @@ fn head(pitch: Pitch, octave: i32, key: KeySignature) -> Head {
         moved -= 1;
     }
     let alter = i32::from(pitch.alter);
-    Head { place, moved, pitch, sign: (alter != in_key(step, key.fifths)).then_some(alter), aside: false }
+    Head { place, moved, pitch, sign: (alter != in_key(step, key.fifths)).then_some(alter), sign_at: 0, aside: false }
 }
 
-/// Where each of some signs goes, in columns to the left: those that are close to one another stand side by side.
-fn sign_columns(heads: &[Head]) -> Vec<(usize, usize)> {
+/// Gives the signs of a column their places: those that are close to one another stand side by side.
+fn place_signs(events: &mut [Event], members: &[usize]) {
+    let mut signs: Vec<(i32, usize, usize)> = Vec::new();
+    for i in members {
+        signs.extend(events[*i].heads.iter().enumerate().filter(|(_, head)| head.sign.is_some()).map(|(h, head)| (-head.place, *i, h)));
+    }
+    signs.sort_unstable();
     let mut taken: Vec<Vec<i32>> = Vec::new();
-    let mut out = Vec::new();
-    for (i, head) in heads.iter().enumerate().rev().filter(|(_, head)| head.sign.is_some()) {
-        let at = (0..).find(|at| taken.get(*at).is_none_or(|places| places.iter().all(|place| (place - head.place).abs() > 5))).unwrap_or(0);
+    for (place, i, h) in signs {
+        let at = (0..).find(|at| taken.get(*at).is_none_or(|places| places.iter().all(|other| (other - place).abs() > 5))).unwrap_or(0);
         if taken.len() <= at {
             taken.resize(at + 1, Vec::new());
         }
-        taken[at].push(head.place);
-        out.push((i, at));
+        taken[at].push(place);
+        events[i].heads[h].sign_at = at;
     }
-    out
 }
 
 /// Lays a measure out by itself.
@@ -354,6 +358,7 @@ fn bar<'a>(number: usize, measure: Measure<'a>, octave: i32, key: KeySignature, 
     for (c, members) in places.values().enumerate() {
         let mut column = Column { left: HEAD, right: HEAD + 2.0, time: starts.get(c + 1).map_or(end, |next| *next) - starts[c], x: 0.0 };
         let mut before: Vec<i32> = Vec::new();
+        place_signs(&mut events, members);
         for i in members {
             let event = &mut events[*i];
             event.column = c;
@@ -361,14 +366,15 @@ fn bar<'a>(number: usize, measure: Measure<'a>, octave: i32, key: KeySignature, 
                 event.shift = 12.0;
             }
             before.extend(event.heads.iter().map(|head| head.place));
-            let signs = sign_columns(&event.heads).iter().map(|(_, at)| at + 1).max().unwrap_or(0) as f64;
+            let signs = event.heads.iter().filter(|head| head.sign.is_some()).map(|head| head.sign_at + 1).max().unwrap_or(0) as f64;
             let wide = if event.heads.iter().any(|head| head.sign.is_some_and(|sign| sign.abs() > 1)) { 8.0 } else { 0.0 };
             let aside = event.heads.iter().any(|head| head.aside);
-            let left = (HEAD + signs * 10.0 + wide + if aside && !event.up { 11.0 } else { 0.0 }) * event.scale;
+            let bar_rest = if event.is_rest() && event.note.duration() == Duration::WholeBar { 14.0 } else { 0.0 };
+            let left = (HEAD + bar_rest + signs * 10.0 + wide + if aside && !event.up { 11.0 } else { 0.0 }) * event.scale;
             let dots = 7.0 * f64::from(event.note.dot_count());
             let flags = if event.flags() > 0 && event.up && event.note.beam() == BeamState::None { 9.0 } else { 0.0 };
             let cents = if event.heads.iter().any(|head| head.pitch.microtone_cents != 0) { 24.0 } else { 0.0 };
-            let right = event.shift + (HEAD + 2.0 + dots + flags + cents + if aside && event.up { 11.0 } else { 0.0 }) * event.scale;
+            let right = event.shift + (HEAD + 2.0 + bar_rest + dots + flags + cents + if aside && event.up { 11.0 } else { 0.0 }) * event.scale;
             column.left = column.left.max(left);
             column.right = column.right.max(right);
         }
@@ -560,9 +566,8 @@ fn rest(c: &mut Canvas, event: &Event) {
 
 fn heads(c: &mut Canvas, event: &Event) {
     let (s, colour) = (event.scale, event.colour());
-    let signs = sign_columns(&event.heads);
     let aside_left = if !event.up && event.heads.iter().any(|head| head.aside) { 11.0 } else { 0.0 };
-    for (i, head) in event.heads.iter().enumerate() {
+    for head in &event.heads {
         let y = -5.0 * f64::from(head.place);
         let x = event.x + if !head.aside { 0.0 } else if event.up { 11.0 * s } else { -11.0 * s };
         c.reach(y - 6.0);
@@ -587,8 +592,8 @@ fn heads(c: &mut Canvas, event: &Event) {
             Duration::Half => ellipse(c, 5.3 * s, 3.5 * s, -24.0, &format!(r#"{open} stroke-width="{:.1}""#, 1.9 * s)),
             _ => ellipse(c, 6.1 * s, 4.3 * s, -22.0, &fill(colour)),
         }
-        for (_, at) in signs.iter().filter(|(owner, _)| *owner == i) {
-            accidental(c, head.sign.unwrap_or(0), event.x - (13.0 + aside_left + 10.0 * *at as f64) * s, y, s.max(0.75), colour);
+        if let Some(sign) = head.sign {
+            accidental(c, sign, event.x - event.shift - (13.0 + aside_left + 10.0 * head.sign_at as f64) * s, y, s.max(0.75), colour);
         }
         let dot_y = if head.place % 2 == 0 { y - 5.0 } else { y };
         let dot_x = event.x + (11.0 + if event.up && event.heads.iter().any(|head| head.aside) { 11.0 } else { 0.0 }) * s;
@@ -768,6 +773,16 @@ fn draw_curves(c: &mut Canvas, system: usize, systems: &[Vec<Bar>], all: &[Curve
         match (here(from), here(to)) {
             (Some(from), Some(to)) => {
                 let (a, b) = (at(from), at(to));
+                let held: Vec<i32> = a.heads.iter().map(|head| head.place).filter(|place| b.heads.iter().any(|head| head.place == *place)).collect();
+                if *tie && held.len() > 1 {
+                    // A chord's notes each have a tie, the lower half below.
+                    for (i, place) in held.iter().enumerate() {
+                        let up = 2 * i + 1 > held.len() || (2 * i + 1 == held.len() && !a.up);
+                        let y = -5.0 * f64::from(*place) + if up { -3.0 } else { 3.0 };
+                        curve(c, (a.x + 8.0, y), (b.x - 8.0, y), up, true, a.colour());
+                    }
+                    continue;
+                }
                 let (ya, up) = meets(a, *tie);
                 let (yb, _) = meets(b, *tie);
                 // Both ends on the first one's side.
@@ -848,7 +863,8 @@ struct Sung<'a> {
 /// The verses below a system.
 fn lyrics(c: &mut Canvas, bars: &[Bar], verses: &[u8], end: f64) {
     let first = c.bottom.max(8.0) + 20.0;
-    for (row, verse) in verses.iter().enumerate() {
+    let is_sung = |verse: u8| bars.iter().any(|bar| bar.measure.notes().any(|note| note.lyrics().any(|lyric| lyric.verse == verse)));
+    for (row, verse) in verses.iter().filter(|verse| is_sung(**verse)).enumerate() {
         let y = first + 18.0 * row as f64;
         let mut sung: Vec<Sung> = Vec::new();
         let mut notes: Vec<f64> = Vec::new();
@@ -857,7 +873,7 @@ fn lyrics(c: &mut Canvas, bars: &[Bar], verses: &[u8], end: f64) {
             sung.extend(event.note.lyrics().filter(|lyric| lyric.verse == *verse).map(|lyric| Sung { x: event.x, lyric }));
         }
         if verses.len() > 1 {
-            c.text(LEFT + 2.0, y, 11.0, "start", &fill(FAINT), &format!("{verse}."));
+            c.text(LEFT + 16.0, y, 11.0, "end", &fill(FAINT), &format!("{verse}."));
         }
         for (i, Sung { x, lyric }) in sung.iter().enumerate() {
             let half = text_width(lyric.text, WORDS) / 2.0;
@@ -880,7 +896,7 @@ fn lyrics(c: &mut Canvas, bars: &[Bar], verses: &[u8], end: f64) {
 
 /// What stands before the first measure of a system: the G and the key in force.
 fn opening(key: KeySignature, first: bool) -> f64 {
-    22.0 + if first { 0.0 } else { key_width(key) }
+    24.0 + if first { 0.0 } else { key_width(key) }
 }
 
 /// Breaks the measures of a part into systems and gives each its place.
@@ -934,17 +950,27 @@ fn system(at: usize, all: &mut [Vec<Bar>], ties: &[Curve], octave: i32, verses: 
     let mut c = Canvas::new();
     let end = all[at].last().map_or(RIGHT, |bar| bar.x + bar.width);
     for line in 0..5 {
-        c.line(LEFT, -10.0 * f64::from(line), end, -10.0 * f64::from(line), 0.8, "#666");
+        c.line(LEFT + 20.0, -10.0 * f64::from(line), end, -10.0 * f64::from(line), 0.8, "#666");
     }
-    c.text(LEFT + 4.0, -6.5, 11.0, "start", &format!(r#"{} font-style="italic""#, fill(FAINT)), &format!("G{octave}"));
+    c.text(LEFT + 16.0, -6.5, 11.0, "end", &format!(r#"{} font-style="italic""#, fill(FAINT)), &format!("G{octave}"));
     if at > 0 {
-        key_signs(&mut c, all[at][0].key, LEFT + 22.0, FAINT);
+        key_signs(&mut c, all[at][0].key, LEFT + 24.0, FAINT);
     }
-    for bar in &mut all[at] {
+    let lefts: Vec<Barline> = all[at].iter().map(|bar| bar.measure.barline_left()).skip(1).collect();
+    let mut before = None;
+    for (b, bar) in all[at].iter_mut().enumerate() {
         let mut x = bar.x;
         let left = bar.measure.barline_left();
-        if left != Barline::Normal {
-            barline(&mut c, left, if left == Barline::RepeatBoth { x + 12.0 } else if left == Barline::Double { x + 4.0 } else if left == Barline::RepeatEnd { x + 15.0 } else { x });
+        // What both measures say of one barline is drawn once.
+        if left != Barline::Normal && before != Some(left) {
+            let in_front = match left {
+                Barline::RepeatBoth => 14.0,
+                Barline::Double => 4.0,
+                Barline::Final => 7.0,
+                Barline::RepeatEnd => 15.0,
+                _ => 0.0,
+            };
+            barline(&mut c, left, x + in_front);
         }
         x += 4.0 + bar_width(left);
         if let Some(key) = bar.measure.key_sig() {
@@ -957,8 +983,12 @@ fn system(at: usize, all: &mut [Vec<Bar>], ties: &[Curve], octave: i32, verses: 
             }
         }
         let right = bar.measure.barline_right();
-        let at = bar.x + bar.width;
-        barline(&mut c, right, if right == Barline::RepeatStart { at - 15.0 } else { at });
+        let end = bar.x + bar.width;
+        let next = lefts.get(b).copied();
+        if right != Barline::Normal || next.is_none_or(|left| left == Barline::Normal) {
+            barline(&mut c, right, if right == Barline::RepeatStart { end - 15.0 } else if right == Barline::RepeatBoth { end - 12.0 } else { end });
+        }
+        before = Some(right);
         let groups = beams(&bar.events);
         for event in &mut bar.events {
             event.tip = free_tip(event);
