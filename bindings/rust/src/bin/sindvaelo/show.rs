@@ -229,6 +229,8 @@ struct Bar<'a> {
     measure: Measure<'a>,
     events: Vec<Event<'a>>,
     columns: Vec<Column>,
+    /// The events of each column.
+    members: Vec<Vec<usize>>,
     /// The key in force before it.
     key: KeySignature,
     /// The meter, where it is not that of the measure before.
@@ -329,10 +331,14 @@ fn bar<'a>(number: usize, measure: Measure<'a>, octave: i32, key: KeySignature, 
     let mut end = 0.0f64;
     for voice in 0..4 {
         let notes: Vec<Note> = measure.voice(voice).collect();
+        // How many graces there are from each note on before the next plain one.
+        let mut graces = vec![0i64; notes.len() + 1];
+        for (i, note) in notes.iter().enumerate().rev() {
+            graces[i] = if note.is_grace() { graces[i + 1] + 1 } else { 0 };
+        }
         let mut at = 0.0;
         for (i, note) in notes.iter().enumerate() {
-            let graces = if note.is_grace() { notes[i..].iter().take_while(|note| note.is_grace()).count() as i64 } else { 0 };
-            places.entry(((at * 1e6f64).round() as i64, -graces)).or_default().push(events.len());
+            places.entry(((at * 1e6f64).round() as i64, -graces[i])).or_default().push(events.len());
             at += length(note, measure.time_sig());
             let mut heads: Vec<Head> = note.pitches().map(|pitch| head(pitch, octave, now)).collect();
             heads.sort_by_key(|head| head.place);
@@ -387,7 +393,8 @@ fn bar<'a>(number: usize, measure: Measure<'a>, octave: i32, key: KeySignature, 
     if time.is_some() {
         prefix += 20.0;
     }
-    let mut bar = Bar { number, measure, events, columns, key, time, ending, prefix, width: 0.0, x: 0.0 };
+    let members = places.into_values().collect();
+    let mut bar = Bar { number, measure, events, columns, members, key, time, ending, prefix, width: 0.0, x: 0.0 };
     bar.space();
     bar
 }
@@ -403,11 +410,11 @@ impl Bar<'_> {
                 x += self.columns[0].left + 4.0;
             } else {
                 let last = &self.columns[c - 1];
-                let grace = if self.events.iter().any(|event| event.column == c - 1 && event.note.is_grace()) { 0.7 } else { 1.0 };
+                let grace = if self.members[c - 1].iter().any(|i| self.events[*i].note.is_grace()) { 0.7 } else { 1.0 };
                 let wanted = (16.0 + 9.0 * (last.time * 32.0 + 1.0).log2()) * grace;
                 x = last.x + wanted.max(last.right + self.columns[c].left + 3.0);
             }
-            for event in self.events.iter().filter(|event| event.column == c) {
+            for event in self.members[c].iter().map(|i| &self.events[*i]) {
                 for lyric in event.note.lyrics() {
                     let half = text_width(lyric.text, WORDS) / 2.0;
                     x = x.max(sung.get(&lyric.verse).map_or(self.prefix.min(4.0), |end| end + 7.0) + half);
@@ -415,7 +422,7 @@ impl Bar<'_> {
             }
             self.columns[c].x = x;
             end = x + self.columns[c].right + if c + 1 == self.columns.len() { 7.0 * (self.columns[c].time * 8.0 + 1.0).log2() } else { 0.0 };
-            for event in self.events.iter().filter(|event| event.column == c) {
+            for event in self.members[c].iter().map(|i| &self.events[*i]) {
                 for lyric in event.note.lyrics() {
                     let hyphen = if matches!(lyric.syllabic, Syllabic::Begin | Syllabic::Middle) { 8.0 } else { 0.0 };
                     sung.insert(lyric.verse, x + text_width(lyric.text, WORDS) / 2.0 + hyphen);
@@ -933,10 +940,9 @@ fn systems(bars: Vec<Bar>) -> Vec<Vec<Bar>> {
                 event.x = bar.columns[event.column].x + event.shift;
             }
             // A rest for the whole bar stands in its middle.
-            for i in 0..bar.events.len() {
-                let voice = bar.events[i].voice;
-                if bar.events[i].note.duration() == Duration::WholeBar && bar.events[i].note.kind() != Kind::Note && bar.measure.voice_len(voice) == 1 {
-                    bar.events[i].x = x + (bar.prefix + bar.width) / 2.0;
+            for event in &mut bar.events {
+                if event.note.duration() == Duration::WholeBar && event.note.kind() != Kind::Note && bar.measure.voice_len(event.voice) == 1 {
+                    event.x = x + (bar.prefix + bar.width) / 2.0;
                 }
             }
             x += bar.width;
@@ -994,17 +1000,18 @@ fn system(at: usize, all: &mut [Vec<Bar>], ties: &[Curve], octave: i32, verses: 
             event.tip = free_tip(event);
         }
         draw_beams(&mut c, &mut bar.events, &groups);
+        let mut beamed = vec![false; bar.events.len()];
+        groups.iter().flatten().for_each(|i| beamed[*i] = true);
         for (i, event) in bar.events.iter().enumerate() {
             if event.is_rest() {
                 rest(&mut c, event);
                 continue;
             }
-            let beamed = groups.iter().any(|group| group.contains(&i));
             if event.has_stem() {
-                stem(&mut c, event, !beamed);
+                stem(&mut c, event, !beamed[i]);
             }
             heads(&mut c, event);
-            if event.note.is_grace() && !beamed && event.has_stem() {
+            if event.note.is_grace() && !beamed[i] && event.has_stem() {
                 // A grace note that stands alone has a stroke through its stem.
                 let (x, y) = (event.stem_x(), (event.tip + if event.up { event.high() } else { event.low() }) / 2.0);
                 c.line(x - 5.0, y + 3.0, x + 6.0, y - 4.0, 1.0, event.colour());
@@ -1053,8 +1060,8 @@ fn octave(part: &Part) -> i32 {
     4 + (f64::from(middle - 34) / 7.0).round() as i32
 }
 
-/// A part's picture, and how high it is.
-fn part(number: usize, part: &Part, y: f64) -> (String, f64) {
+/// A part's picture below a height, and how low and wide it is.
+fn part(number: usize, part: &Part, y: f64) -> (String, f64, f64) {
     let octave = octave(part);
     let mut key = KeySignature { fifths: 0, mode: sindvaelo::Mode::Major };
     let (mut time, mut ending): (Option<TimeSignature>, bool) = (None, false);
@@ -1079,12 +1086,13 @@ fn part(number: usize, part: &Part, y: f64) -> (String, f64) {
     y += 24.0;
     let mut all = systems(bars);
     let ties = curves(&all);
-    let mut last = (LEFT, y);
+    let (mut last, mut wide) = ((LEFT, y), RIGHT);
     for at in 0..all.len() {
         let (c, end) = system(at, &mut all, &ties, octave, &verses);
         let line = y - c.top + 4.0;
         let _ = writeln!(out, "<g transform=\"translate(0 {line:.1})\">\n{}</g>", c.out);
-        last = (end.min(RIGHT), line);
+        last = (end, line);
+        wide = wide.max(end);
         y = line + c.bottom + 18.0;
     }
     let counts = words::count(part);
@@ -1095,16 +1103,17 @@ fn part(number: usize, part: &Part, y: f64) -> (String, f64) {
         let _ = writeln!(out, r##"<text x="{:.1}" y="{row:.1}" font-size="13" fill="#111">{name}</text>"##, last.0 + 18.0);
         let _ = writeln!(out, r##"<text x="{:.1}" y="{row:.1}" font-size="13" font-weight="bold" text-anchor="end" fill="#111">{number}</text>"##, last.0 + 138.0);
     }
-    (out, y.max(top + 60.0))
+    (out, y.max(top + 60.0), wide + WIDTH - RIGHT)
 }
 
 /// The whole picture.
 pub fn picture(reading: &Reading<&[u8]>) -> String {
     let mut body = String::new();
-    let mut y = 10.0;
+    let (mut y, mut wide) = (10.0, WIDTH);
     for (i, each) in reading.parts().enumerate() {
-        let (out, end) = part(i + 1, &each, y);
+        let (out, end, reaches) = part(i + 1, &each, y);
         body += &out;
+        wide = wide.max(reaches);
         y = end + 14.0;
     }
     let mut legend = String::from("numbers above: measures. thick curves: ties; thin ones: slurs. small: grace notes. dashed: hidden rests. ");
@@ -1116,7 +1125,7 @@ pub fn picture(reading: &Reading<&[u8]>) -> String {
     let _ = writeln!(body, r##"<text x="{LEFT}" y="{:.1}" font-size="12" fill="#111">{}</text>"##, y + 26.0, escape(&commit));
     y += 40.0;
     format!(
-        "<?xml version=\"1.0\" encoding=\"UTF-8\"?>\n<svg xmlns=\"http://www.w3.org/2000/svg\" width=\"{WIDTH}\" height=\"{y:.0}\" viewBox=\"0 0 {WIDTH} {y:.0}\" \
+        "<?xml version=\"1.0\" encoding=\"UTF-8\"?>\n<svg xmlns=\"http://www.w3.org/2000/svg\" width=\"{wide:.0}\" height=\"{y:.0}\" viewBox=\"0 0 {wide:.0} {y:.0}\" \
          font-family=\"Georgia, 'DejaVu Serif', 'Times New Roman', serif\">\n<rect width=\"100%\" height=\"100%\" fill=\"#fff\"/>\n{body}</svg>\n"
     )
 }
