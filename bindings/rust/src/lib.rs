@@ -15,9 +15,9 @@
 //!
 //! # Memory
 //!
-//! A text of n bytes is read with a scratch store of 32 × (n + 256) bytes and a reading store of at most 23 × n, most often of 8 × n ([`Reader`] tries the
-//! smaller one first). A text that is refused for its length, its bytes or because it is blank takes neither. [`Reader`] has a limit for texts and gives
-//! its stores back on request.
+//! A text of n bytes is read with a scratch store of 32 × (n + 256) bytes and a reading store of 12 × n + 1,024, or, where the reading is
+//! longer, in a second try of 23 × n, which is never too short: 44 bytes for each byte of text, 55 at most. A text that is refused for its length, its bytes or because it is blank takes
+//! nothing. What [`read`] answers keeps the reading alone. A [`Reader`] has a limit for texts and gives its stores back on request.
 #![deny(missing_docs)]
 
 mod reader;

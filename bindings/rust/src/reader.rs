@@ -26,9 +26,10 @@ impl Default for Reader {
     }
 }
 
-/// How long a reading store is tried first. Of the texts measured (docs/PERFORMANCE.md) nine in ten have a reading of at most 8 bytes for a byte of text.
+/// How long a reading store is tried first. Of the texts measured (docs/SWITCHING.md) none has a reading of more than 12 bytes for a byte of text, and most of
+/// a quarter of that.
 fn first_bytes(n: usize) -> usize {
-    reading_bytes(n).min(8 * n + 1024)
+    reading_bytes(n).min(12 * n + 1024)
 }
 
 /// Makes a store `n` bytes long at least. What it held does not matter, so nothing is copied.
