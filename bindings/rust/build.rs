@@ -35,6 +35,8 @@ fn main() {
             // `cargo check` and `cargo doc` want no library; where one is linked, the linker's complaint about this name is the sentence.
             println!("cargo:warning=no {}: nothing can be linked. To link, {MISSING}", library.display());
             println!("cargo:rustc-link-lib=static=abc (it is not built; {MISSING})");
+            // Look again at the next build, whatever the age of a library that is there then: a file that is never there counts as changed.
+            println!("cargo:rerun-if-changed={}", PathBuf::from(std::env::var_os("OUT_DIR").unwrap()).join("none").display());
         }
     }
     let mut commit = root.as_deref().and_then(commit).unwrap_or_else(|| "unknown".to_owned());
