@@ -232,7 +232,7 @@ def differences(t):
     # Once the library answers its version.
     if 'fn abc_version' in t['library']:
         major, minor, patch = map(int, header['version'].split('.'))
-        same('version of the library', number(t['packed'] + t['library'], r'\n(?:version = |    )(\d+)\n(?=\}|\n|$)'), 1000000 * major + 1000 * minor + patch)
+        same('version of the library', number(t['packed'], r'\nversion = (\d+)\n'), 1000000 * major + 1000 * minor + patch)
     return out
 
 
@@ -267,6 +267,13 @@ class Doors(unittest.TestCase):
                 except (AssertionError, KeyError, ValueError, IndexError) as error:
                     found = [str(error)]
                 self.assertTrue(found)
+
+    def test_a_library_that_answers_its_version(self):
+        texts = dict(self.texts, library=self.texts['library'] + '\npub extern "C" fn abc_version() -> u64 {}\n')
+        if '\nversion = ' not in texts['packed']:
+            texts['packed'] += '\nversion = 1000\n'
+        self.assertEqual(differences(texts), [])
+        self.assertTrue(differences(dict(texts, packed=texts['packed'].replace('\nversion = ', '\nversion = 9'))))
 
     def test_sixteen_refusals(self):
         self.assertEqual(specified(self.texts)['refused numbers'], set(range(1, 17)))
