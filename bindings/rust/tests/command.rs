@@ -53,6 +53,10 @@ fn a_refusal_shows_the_line() {
     let (out, told, status) = said(run_bytes(&["tally", "-"], b"K:C\nA\xff\n"));
     assert_eq!((out.as_str(), status), ("refused 3 0\n", 1));
     assert!(told.ends_with("Convert the file to UTF-8\nthe first byte that is none stands in line 2, behind 1 bytes\n"), "{told}");
+    // A picture goes into a file: nothing is printed.
+    let (out, told, status) = said(run(&["show", "-"], "K:C\nA\nX:2\n"));
+    assert_eq!((out.as_str(), status), ("", 1));
+    assert!(told.starts_with("standard input: refused (7) at line 3"), "{told}");
     // A long line is cut around what is wrong.
     let (_, told, _) = said(run(&["tally", "-"], &format!("K:C\n{}é{}\n", "A".repeat(500), "B".repeat(500))));
     assert!(told.lines().all(|line| line.chars().count() < 160), "{told}");

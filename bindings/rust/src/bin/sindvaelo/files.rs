@@ -7,28 +7,23 @@ use std::sync::atomic::{AtomicBool, AtomicUsize, Ordering};
 use std::sync::mpsc;
 use std::time::{Duration, Instant};
 
-/// A text that was read from a file.
-pub struct Text;
+/// A file's name as it is shown.
+pub fn shown(name: &OsStr) -> String {
+    if name == "-" { "standard input".to_owned() } else { name.to_string_lossy().into_owned() }
+}
 
-impl Text {
-    /// A file's name as it is shown.
-    pub fn name_of(name: &OsStr) -> String {
-        if name == "-" { "standard input".to_owned() } else { name.to_string_lossy().into_owned() }
+/// The bytes of a file, `-` for standard input; of a longer one no more than tell that it is too long.
+pub fn text_of(name: &OsStr) -> std::io::Result<Vec<u8>> {
+    let mut text = Vec::new();
+    let most = MOST_BYTES as u64 + 1;
+    if name == "-" {
+        std::io::stdin().lock().take(most).read_to_end(&mut text)?;
+    } else {
+        let file = std::fs::File::open(name)?;
+        text.reserve_exact(file.metadata().map_or(0, |data| data.len().min(most) as usize));
+        file.take(most).read_to_end(&mut text)?;
     }
-
-    /// The bytes of a file, `-` for standard input; of a longer one no more than tell that it is too long.
-    pub fn of(name: &OsStr) -> std::io::Result<Vec<u8>> {
-        let mut text = Vec::new();
-        let most = MOST_BYTES as u64 + 1;
-        if name == "-" {
-            std::io::stdin().lock().take(most).read_to_end(&mut text)?;
-        } else {
-            let file = std::fs::File::open(name)?;
-            text.reserve_exact(file.metadata().map_or(0, |data| data.len().min(most) as usize));
-            file.take(most).read_to_end(&mut text)?;
-        }
-        Ok(text)
-    }
+    Ok(text)
 }
 
 /// Does the work of each item with a `Reader` for each processor, and takes the results in the items' order, until it is told to stop. On a terminal standard

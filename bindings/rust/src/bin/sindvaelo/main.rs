@@ -5,8 +5,9 @@ mod show;
 mod table;
 mod words;
 
-use files::{Text, in_order};
-use sindvaelo::{Reader, Reading, Refusal};
+use files::{in_order, shown, text_of};
+use sindvaelo::{Reader, Reading};
+use std::ffi::{OsStr, OsString};
 use std::io::Write;
 use std::process::ExitCode;
 
@@ -57,12 +58,14 @@ fn main() -> ExitCode {
         (Some("--help" | "-h" | "help"), _) => return print(HELP),
         (Some("--version" | "-V" | "version"), _) => return print(&version()),
         (Some("tally" | "read" | "show"), 0) => return wrong("no FILE (- is standard input)"),
-        (Some("tally"), 1) => one(&names[0], |reading| if json { json::tally(&Text::name_of(&names[0]), reading) } else { tally(reading) }, json),
+        (Some("tally"), 1) if json => one(&names[0], Form::Json, |reading| json::tally(&shown(&names[0]), reading)),
+        (Some("tally"), 1) => one(&names[0], Form::Words, tally),
         (Some("tally"), _) => many(&names, json),
         (Some("show"), _) if json => return wrong("show draws; --json is for tally and read"),
         (Some("read" | "show"), 2..) => return wrong("one FILE at a time; tally takes several"),
-        (Some("read"), _) => one(&names[0], |reading| if json { json::read(&Text::name_of(&names[0]), reading) } else { table::read(reading) }, json),
-        (Some("show"), _) => one(&names[0], show::picture, false),
+        (Some("read"), _) if json => one(&names[0], Form::Json, |reading| json::read(&shown(&names[0]), reading)),
+        (Some("read"), _) => one(&names[0], Form::Words, table::read),
+        (Some("show"), _) => one(&names[0], Form::Picture, show::picture),
         (Some(other), _) => return wrong(&format!("no command {other}")),
         (None, _) => return wrong("no command"),
     };
@@ -105,6 +108,14 @@ fn tally(reading: &Reading<&[u8]>) -> String {
     out
 }
 
+/// What is printed where there is no reading: document 01's words, an object, or nothing, since a picture goes into a file.
+#[derive(Clone, Copy)]
+enum Form {
+    Words,
+    Json,
+    Picture,
+}
+
 /// What is printed of a text and told to its sender.
 struct Answer {
     out: String,
@@ -112,40 +123,41 @@ struct Answer {
     end: End,
 }
 
-fn answer(reader: &mut Reader, name: &std::ffi::OsStr, json: bool, accepted: impl Fn(&Reading<&[u8]>) -> String) -> Answer {
-    let shown = Text::name_of(name);
-    let text = match Text::of(name) {
+fn answer(reader: &mut Reader, name: &OsStr, form: Form, accepted: impl Fn(&Reading<&[u8]>) -> String) -> Answer {
+    let shown = shown(name);
+    let text = match text_of(name) {
         Ok(text) => text,
         Err(error) => {
-            let out = if json { json::error(&shown, &error) } else { String::new() };
+            let out = if let Form::Json = form { json::error(&shown, &error) } else { String::new() };
             return Answer { out, told: format!("sindvaelo: {shown}: {error}\n"), end: End::Error };
         }
     };
     match reader.read(&text) {
         Ok(reading) => Answer { out: accepted(&reading), told: String::new(), end: End::Fine },
         Err(refusal) => {
-            let told = format!("{shown}: {refusal}\n{}", words::marked(&text, &refusal));
-            Answer { out: if json { json::refused(&shown, &refusal) } else { refused(&refusal) }, told, end: End::Refused }
+            let out = match form {
+                Form::Words => format!("refused {} {}\n", refusal.number(), refusal.line().unwrap_or(0)),
+                Form::Json => json::refused(&shown, &refusal),
+                Form::Picture => String::new(),
+            };
+            Answer { out, told: format!("{shown}: {refusal}\n{}", words::marked(&text, &refusal)), end: End::Refused }
         }
     }
 }
 
-fn refused(refusal: &Refusal) -> String {
-    format!("refused {} {}\n", refusal.number(), refusal.line().unwrap_or(0))
-}
-
-fn one(name: &std::ffi::OsStr, accepted: impl Fn(&Reading<&[u8]>) -> String, json: bool) -> End {
-    let Answer { out, told, end } = answer(&mut Reader::new(), name, json, accepted);
+fn one(name: &OsStr, form: Form, accepted: impl Fn(&Reading<&[u8]>) -> String) -> End {
+    let Answer { out, told, end } = answer(&mut Reader::new(), name, form, accepted);
     let put = put(&out);
     eprint!("{told}");
     end.max(put)
 }
 
 /// The tally of each file on a line of its own, in the order given.
-fn many(names: &[std::ffi::OsString], json: bool) -> End {
-    let work = |reader: &mut Reader, name: &std::ffi::OsString| {
-        let shown = Text::name_of(name);
-        let mut answer = answer(reader, name, json, |reading| if json { json::tally(&shown, reading) } else { tally(reading) });
+fn many(names: &[OsString], json: bool) -> End {
+    let work = |reader: &mut Reader, name: &OsString| {
+        let shown = shown(name);
+        let form = if json { Form::Json } else { Form::Words };
+        let mut answer = answer(reader, name, form, |reading| if json { json::tally(&shown, reading) } else { tally(reading) });
         if !json && !answer.out.is_empty() {
             answer.out = format!("{shown}: {}\n", answer.out.trim_end().replace('\n', "; "));
         }

@@ -758,7 +758,7 @@ fn curves(systems: &[Vec<Bar>]) -> Vec<Curve> {
 
 /// The height at which a curve meets a note, and on which side.
 fn meets(event: &Event, tie: bool) -> (f64, bool) {
-    let up = if event.crowded { event.voice % 2 == 0 } else { !event.up };
+    let up = if event.crowded { event.voice.is_multiple_of(2) } else { !event.up };
     let y = if event.is_rest() {
         rest_height(event) + if up { -14.0 } else { 14.0 }
     } else if up {
