@@ -17,6 +17,10 @@ fn main() {
     let folder = std::env::var_os("ABC_LIB").map_or_else(|| manifest.join("../../target/staticlib"), PathBuf::from);
     let library = folder.join("libabc.a");
     println!("cargo:rerun-if-changed={}", library.display());
+    let target = |what: &str| std::env::var(format!("CARGO_CFG_TARGET_{what}")).unwrap_or_default();
+    if (target("ARCH").as_str(), target("OS").as_str()) != ("x86_64", "linux") {
+        println!("cargo:warning=libabc.a is compiled for x86-64 Linux; on {} {} nothing can be linked", target("ARCH"), target("OS"));
+    }
     let mut stale = false;
     match std::fs::read(&library) {
         Ok(archive) => {
@@ -56,7 +60,8 @@ fn answer(command: &mut Command) -> Option<String> {
 
 /// The commit checked out at the repository's root, with `-dirty` where files that the reader or this crate are made of differ from it; none without git.
 fn commit(root: &Path) -> Option<String> {
-    let git = |words: &[&str]| answer(Command::new("git").arg("-C").arg(root).args(words));
+    // Without optional locks git writes nothing, so that the files watched below change with commits and checkouts alone.
+    let git = |words: &[&str]| answer(Command::new("git").arg("--no-optional-locks").arg("-C").arg(root).args(words));
     // A copy of the crate inside another repository has no commit of ours.
     (Path::new(&git(&["rev-parse", "--show-toplevel"])?).canonicalize().ok()?.as_path() == root).then_some(())?;
     for file in ["HEAD", "index"] {

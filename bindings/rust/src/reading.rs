@@ -261,6 +261,14 @@ impl<'a> Part<'a> {
     }
 
     /// All lyrics: by note, then by verse.
+    ///
+    /// ```
+    /// let reading = sindvaelo::read("K:C\nAB\nw: one two\nw: eins\n")?;
+    /// let part = reading.parts().next().unwrap();
+    /// let sung: Vec<_> = part.lyrics().map(|lyric| (lyric.note, lyric.verse, lyric.text)).collect();
+    /// assert_eq!(sung, [(0, 1, "one"), (0, 2, "eins"), (1, 1, "two")]);
+    /// # Ok::<(), sindvaelo::Refusal>(())
+    /// ```
     pub fn lyrics(&self) -> Lyrics<'a> {
         Lyrics { rest: self.run.lyrics, text: self.run.text }
     }
@@ -421,6 +429,13 @@ pub struct VoltaBracket {
 
 impl VoltaBracket {
     /// Its passes, rising, from 1 to 32.
+    ///
+    /// ```
+    /// let reading = sindvaelo::read("K:C\nA:|[1,3-5 B:|")?;
+    /// let volta = reading.parts().next().unwrap().measures().nth(1).unwrap().volta().unwrap();
+    /// assert_eq!(volta.pass_numbers().collect::<Vec<_>>(), [1, 3, 4, 5]);
+    /// # Ok::<(), sindvaelo::Refusal>(())
+    /// ```
     pub fn pass_numbers(&self) -> impl Iterator<Item = u8> + use<> {
         let passes = self.passes;
         (1..=32).filter(move |pass| passes >> (pass - 1) & 1 == 1)
@@ -489,7 +504,14 @@ impl<'a> Measure<'a> {
         if v < 4 { number(self.record, 4 * v) } else { 0 }
     }
 
-    /// The notes and rests of voice `v`, 0 to 3; none for any other.
+    /// The notes and rests of voice `v`, 0 to 3; none for any other. `&` in a text moves on to the next.
+    ///
+    /// ```
+    /// let reading = sindvaelo::read("K:C\nABcd & E2 z2 |")?;
+    /// let measure = reading.parts().next().unwrap().measures().next().unwrap();
+    /// assert_eq!((0..5).map(|v| measure.voice(v).len()).collect::<Vec<_>>(), [4, 2, 0, 0, 0]);
+    /// # Ok::<(), sindvaelo::Refusal>(())
+    /// ```
     pub fn voice(&self, v: usize) -> Notes<'a> {
         let before = (0..v.min(4)).map(|w| self.voice_len(w)).sum();
         Notes { run: self.run.split(before).1.split(self.voice_len(v)).0 }
@@ -617,6 +639,15 @@ impl<'a> Note<'a> {
     }
 
     /// Its written value, without dots.
+    ///
+    /// ```
+    /// use sindvaelo::Duration;
+    ///
+    /// let reading = sindvaelo::read("L:1/8\nK:C\nA3")?;
+    /// let note = reading.parts().next().unwrap().notes().next().unwrap();
+    /// assert_eq!((note.duration(), note.dot_count()), (Duration::Quarter, 1));
+    /// # Ok::<(), sindvaelo::Refusal>(())
+    /// ```
     pub fn duration(&self) -> Duration {
         Duration::of(self.byte(1))
     }
