@@ -431,7 +431,7 @@ impl VoltaBracket {
     /// Its passes, rising, from 1 to 32.
     ///
     /// ```
-    /// let reading = sindvaelo::read("K:C\nA:|[1,3-5 B:|")?;
+    /// let reading = sindvaelo::read("K:C\nA|[1,3-5 B:|")?;
     /// let volta = reading.parts().next().unwrap().measures().nth(1).unwrap().volta().unwrap();
     /// assert_eq!(volta.pass_numbers().collect::<Vec<_>>(), [1, 3, 4, 5]);
     /// # Ok::<(), sindvaelo::Refusal>(())
