@@ -210,12 +210,19 @@ fn kept_bytes() {
     assert_eq!(Reading::from_bytes(&bytes[..]).unwrap().parts().count(), 1);
     assert!(Reading::from_bytes(&bytes[..bytes.len() - 1]).is_none());
     assert!(Reading::from_bytes(&[][..]).is_none());
-    for at in 0..bytes.len() {
+    let mut passed = 0;
+    for (at, change) in (0..bytes.len()).flat_map(|at| [1, 2, 0x41, 0x80, 0xff].map(|change| (at, change))) {
         let mut other = bytes.clone();
-        other[at] ^= 0x41;
+        other[at] ^= change;
         if let Some(reading) = Reading::from_bytes(&other[..]) {
-            // Whatever passes can be walked.
+            // Whatever passes can be walked, from both ends.
+            passed += 1;
             let _ = format!("{reading:?}");
+            for part in &reading {
+                let _ = format!("{:?}{:?}", part.measures().rev().collect::<Vec<_>>(), part.lyrics().rev().collect::<Vec<_>>());
+                part.measures().rev().for_each(|measure| both_ends(measure.notes()));
+            }
         }
     }
+    assert!(passed > 100);
 }

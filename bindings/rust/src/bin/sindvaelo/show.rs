@@ -967,8 +967,12 @@ fn system(at: usize, all: &mut [Vec<Bar>], ties: &[Curve], octave: i32, verses: 
     for (b, bar) in all[at].iter_mut().enumerate() {
         let mut x = bar.x;
         let left = bar.measure.barline_left();
-        // What both measures say of one barline is drawn once.
-        if left != Barline::Normal && before != Some(left) {
+        // What both measures say of one barline is drawn once; a repeat that ends where the next begins shares its thick line.
+        if (before, left) == (Some(Barline::RepeatEnd), Barline::RepeatStart) {
+            c.line(x + 2.8, -40.0, x + 2.8, 0.0, 1.2, "#111");
+            c.dot(x + 8.4, -15.0, 2.0, "fill=\"#111\"");
+            c.dot(x + 8.4, -25.0, 2.0, "fill=\"#111\"");
+        } else if left != Barline::Normal && before != Some(left) {
             let in_front = match left {
                 Barline::RepeatBoth => 14.0,
                 Barline::Double => 4.0,
@@ -1118,7 +1122,9 @@ pub fn picture(reading: &Reading<&[u8]>) -> String {
     }
     let mut legend = String::from("numbers above: measures. thick curves: ties; thin ones: slurs. small: grace notes. dashed: hidden rests. ");
     for (voice, colour) in COLOURS.iter().enumerate().skip(1) {
-        let _ = write!(legend, "<tspan fill=\"{colour}\">overlay {voice}</tspan> ");
+        if reading.parts().any(|part| part.measures().any(|measure| measure.voice_len(voice) > 0)) {
+            let _ = write!(legend, "<tspan fill=\"{colour}\">overlay {voice}</tspan> ");
+        }
     }
     let _ = writeln!(body, r#"<text x="{LEFT}" y="{:.1}" font-size="11" fill="{FAINT}">{legend}</text>"#, y + 8.0);
     let commit = format!("read by sindvaelo {}, commit {}", sindvaelo::VERSION, sindvaelo::COMMIT);
