@@ -12,11 +12,21 @@
 extern "C" {
 #endif
 
+/* The version of this header, 1,000,000 * major + 1,000 * minor + patch. abc_version answers that of the linked library: where the two are unlike, one of them is
+ * stale. The version changes with what the calls promise; the commit to put under a quote is the repository's (in Rust, sindvaelo::COMMIT). */
+#define ABC_VERSION_MAJOR 0
+#define ABC_VERSION_MINOR 1
+#define ABC_VERSION_PATCH 0
+#define ABC_VERSION ((uint64_t)(1000000 * ABC_VERSION_MAJOR + 1000 * ABC_VERSION_MINOR + ABC_VERSION_PATCH))
+uint64_t abc_version(void);
+
 /* The most bytes of a text: a longer one is refused with ABC_TOO_LONG. */
 #define ABC_MOST_BYTES ((size_t)67108864)
 
 /* How long the stores have to be for a text of n bytes. A reading never has more than 23 bytes for each byte of its text, so a reading store of
- * ABC_READING_BYTES(n) is never too short; a shorter one will do if the reading fits. Scratch has to have ABC_SCRATCH_BYTES(n). */
+ * ABC_READING_BYTES(n) is never too short; a shorter one will do if the reading fits: 12 * n bytes do for every tune of the benchmark, and most readings
+ * take a quarter of that. Scratch has to have ABC_SCRATCH_BYTES(n). A call clears all that it is lent, so lend no more than the text needs. A call that is lent nothing
+ * answers ABC_TOO_LONG, ABC_NOT_UTF8 and a blank text's ABC_NO_MUSIC, which come first, and else ABC_SCRATCH_SHORT: worth asking before memory is taken for a text from outside. */
 #define ABC_READING_BYTES(n) ((size_t)23 * (size_t)(n))
 #define ABC_SCRATCH_BYTES(n) ((size_t)32 * ((size_t)(n) + 256))
 

@@ -1,5 +1,6 @@
 //! A reading, looked at where it stands: parts, their measures, notes, pitches and lyrics. Nothing is copied.
 use std::fmt;
+use std::iter::FusedIterator;
 
 const MEASURE: usize = 28;
 const NOTE: usize = 12;
@@ -16,8 +17,15 @@ fn section(bytes: &[u8], width: usize) -> Option<(&[u8], &[u8])> {
     rest.split_at_checked(number(count, 0).checked_mul(width)?)
 }
 
-/// A whole reading: `Reading<Vec<u8>>` owns its bytes, `Reading<&[u8]>` looks into a store.
-#[derive(Clone, Copy, PartialEq, Eq)]
+/// A whole reading: `Reading<Vec<u8>>` owns its bytes, `Reading<&[u8]>` looks into a store. Readings are equal if their bytes are.
+///
+/// ```
+/// let owned = sindvaelo::read("K:C\nA")?;
+/// let mut reader = sindvaelo::Reader::new();
+/// assert_eq!(owned, reader.read("K:C\nA")?);
+/// # Ok::<(), sindvaelo::Refusal>(())
+/// ```
+#[derive(Clone, Copy)]
 pub struct Reading<B> {
     bytes: B,
 }
@@ -29,6 +37,18 @@ impl<B: AsRef<[u8]>> Reading<B> {
     }
 
     /// Bytes kept from an earlier call; none if they are no whole reading.
+    ///
+    /// It tests what this crate's views need: the counts and sections fill the bytes exactly, each part's notes are as many as its measures count and its pitches
+    /// as many as its notes count, each number is one that the format has a name for, lyrics come by note and each belongs to one of the part's notes, and
+    /// lyric texts are UTF-8 and as long as their records say. It does not test that some text has this reading.
+    ///
+    /// ```
+    /// use sindvaelo::Reading;
+    ///
+    /// let kept = sindvaelo::read("K:C\nA").unwrap().into_bytes();
+    /// assert!(Reading::from_bytes(&kept).is_some());
+    /// assert!(Reading::from_bytes(&kept[1..]).is_none());
+    /// ```
     pub fn from_bytes(bytes: B) -> Option<Self> {
         let all = bytes.as_ref();
         let mut rest = all.get(4..)?;
@@ -43,21 +63,41 @@ impl<B: AsRef<[u8]>> Reading<B> {
         Some(Self { bytes })
     }
 
-    /// The bytes of the contract's format.
+    /// The bytes of the contract's format. The same text gives the same bytes for ever.
     pub fn as_bytes(&self) -> &[u8] {
         self.bytes.as_ref()
     }
 
+    /// The bytes, or the store's slice, without the view.
     pub fn into_bytes(self) -> B {
         self.bytes
     }
 
+    /// A reading that looks into this one, to pass on without a copy.
+    pub fn view(&self) -> Reading<&[u8]> {
+        Reading { bytes: self.bytes.as_ref() }
+    }
+
     /// One part for each voice, in order.
     pub fn parts(&self) -> Parts<'_> {
-        let bytes = self.as_bytes();
-        Parts { left: number(bytes, 0), rest: &bytes[4..] }
+        self.view().into_parts()
     }
 }
+
+impl<'a> Reading<&'a [u8]> {
+    /// The parts, which live as long as the store that this reading looks into.
+    pub fn into_parts(self) -> Parts<'a> {
+        Parts { left: number(self.bytes, 0), rest: &self.bytes[4..] }
+    }
+}
+
+impl<A: AsRef<[u8]>, B: AsRef<[u8]>> PartialEq<Reading<B>> for Reading<A> {
+    fn eq(&self, other: &Reading<B>) -> bool {
+        self.as_bytes() == other.as_bytes()
+    }
+}
+
+impl<B: AsRef<[u8]>> Eq for Reading<B> {}
 
 impl<B: AsRef<[u8]>> fmt::Debug for Reading<B> {
     fn fmt(&self, f: &mut fmt::Formatter<'_>) -> fmt::Result {
@@ -65,7 +105,25 @@ impl<B: AsRef<[u8]>> fmt::Debug for Reading<B> {
     }
 }
 
-/// The parts of a reading.
+impl<'r, B: AsRef<[u8]>> IntoIterator for &'r Reading<B> {
+    type Item = Part<'r>;
+    type IntoIter = Parts<'r>;
+
+    fn into_iter(self) -> Parts<'r> {
+        self.parts()
+    }
+}
+
+impl<'a> IntoIterator for Reading<&'a [u8]> {
+    type Item = Part<'a>;
+    type IntoIter = Parts<'a>;
+
+    fn into_iter(self) -> Parts<'a> {
+        self.into_parts()
+    }
+}
+
+/// The parts of a reading. Where one begins is known once those before it are passed, so they come from the front alone.
 #[derive(Debug, Clone)]
 pub struct Parts<'a> {
     left: usize,
@@ -87,14 +145,66 @@ impl<'a> Iterator for Parts<'a> {
     }
 }
 
-/// A part: acorde's `Part` with its one staff.
+impl ExactSizeIterator for Parts<'_> {}
+impl FusedIterator for Parts<'_> {}
+
+/// A run of a part's notes with their pitches and lyrics, and no others.
 #[derive(Clone, Copy, PartialEq, Eq)]
-pub struct Part<'a> {
-    measures: &'a [u8],
+struct Run<'a> {
+    /// The first note's number among the part's notes.
+    first: usize,
     notes: &'a [u8],
     pitches: &'a [u8],
     lyrics: &'a [u8],
     text: &'a [u8],
+}
+
+impl<'a> Run<'a> {
+    fn len(&self) -> usize {
+        self.notes.len() / NOTE
+    }
+
+    /// The first n notes, and the others.
+    fn split(self, n: usize) -> (Self, Self) {
+        let (notes, other_notes) = self.notes.split_at(NOTE * n);
+        let pitches = notes.chunks_exact(NOTE).map(|note| number(note, 8)).sum::<usize>();
+        let mut sung = 0;
+        let mut text = 0;
+        while let Some(lyric) = self.lyrics.get(sung..sung + LYRIC).filter(|lyric| number(lyric, 0) < self.first + n) {
+            sung += LYRIC;
+            text += number(lyric, 7);
+        }
+        let (pitches, other_pitches) = self.pitches.split_at(PITCH * pitches);
+        let (lyrics, other_lyrics) = self.lyrics.split_at(sung);
+        let (text, other_text) = self.text.split_at(text);
+        let front = Self { first: self.first, notes, pitches, lyrics, text };
+        (front, Self { first: self.first + n, notes: other_notes, pitches: other_pitches, lyrics: other_lyrics, text: other_text })
+    }
+
+    /// All notes but the last n, and those.
+    fn split_back(self, n: usize) -> (Self, Self) {
+        let (other_notes, notes) = self.notes.split_at(self.notes.len() - NOTE * n);
+        let pitches = notes.chunks_exact(NOTE).map(|note| number(note, 8)).sum::<usize>();
+        let first = self.first + other_notes.len() / NOTE;
+        let mut sung = 0;
+        let mut text = 0;
+        while let Some(lyric) = (self.lyrics.len()).checked_sub(sung + LYRIC).map(|at| &self.lyrics[at..]).filter(|lyric| number(lyric, 0) >= first) {
+            sung += LYRIC;
+            text += number(lyric, 7);
+        }
+        let (other_pitches, pitches) = self.pitches.split_at(self.pitches.len() - PITCH * pitches);
+        let (other_lyrics, lyrics) = self.lyrics.split_at(self.lyrics.len() - sung);
+        let (other_text, text) = self.text.split_at(self.text.len() - text);
+        let back = Self { first, notes, pitches, lyrics, text };
+        (Self { first: self.first, notes: other_notes, pitches: other_pitches, lyrics: other_lyrics, text: other_text }, back)
+    }
+}
+
+/// A part: acorde's `Part` with its one staff. Parts are equal if all their records are.
+#[derive(Clone, Copy, PartialEq, Eq)]
+pub struct Part<'a> {
+    measures: &'a [u8],
+    run: Run<'a>,
 }
 
 impl<'a> Part<'a> {
@@ -104,55 +214,63 @@ impl<'a> Part<'a> {
         let (pitches, rest) = section(rest, PITCH)?;
         let (lyrics, rest) = section(rest, LYRIC)?;
         let (text, _) = section(rest, 1)?;
-        Some(Self { measures, notes, pitches, lyrics, text })
+        Some(Self { measures, run: Run { first: 0, notes, pitches, lyrics, text } })
     }
 
     fn length(&self) -> usize {
-        20 + self.measures.len() + self.notes.len() + self.pitches.len() + self.lyrics.len() + self.text.len()
+        let Run { notes, pitches, lyrics, text, .. } = self.run;
+        20 + self.measures.len() + notes.len() + pitches.len() + lyrics.len() + text.len()
     }
 
     /// Its counts agree with each other, its numbers are ones of the format and its texts are UTF-8.
     fn is_whole(&self) -> bool {
+        let Run { notes, pitches, lyrics, text, .. } = self.run;
+        let all_notes = notes.len() / NOTE;
         let measures = self.measures.chunks_exact(MEASURE);
-        let notes = self.notes.chunks_exact(NOTE);
+        let notes = notes.chunks_exact(NOTE);
         let counted = measures.clone().map(|m| (0..4).map(|v| number(m, 4 * v)).sum::<usize>()).sum::<usize>();
         let sounding = notes.clone().map(|n| number(n, 8)).sum::<usize>();
         let measures_fine = measures.into_iter().all(|m| m[16] < 6 && m[17] < 6 && m[20] < 3 && m[22] < 4);
         let notes_fine = notes.into_iter().all(|n| n[0] < 5 && n[1] < 11 && n[4] < 4 && n[7] < 4);
-        let pitches_fine = self.pitches.chunks_exact(PITCH).all(|p| p[0] < 7);
+        let pitches_fine = pitches.chunks_exact(PITCH).all(|p| p[0] < 7);
         let (mut at, mut before) = (0usize, 0);
-        for l in self.lyrics.chunks_exact(LYRIC) {
-            let text = self.text.get(at..at + number(l, 7));
-            if l[5] > 3 || number(l, 0) < before || number(l, 0) >= self.notes.len() / NOTE || text.is_none_or(|t| str::from_utf8(t).is_err()) {
+        for l in lyrics.chunks_exact(LYRIC) {
+            let words = text.get(at..at + number(l, 7));
+            if l[5] > 3 || number(l, 0) < before || number(l, 0) >= all_notes || words.is_none_or(|t| str::from_utf8(t).is_err()) {
                 return false;
             }
             at += number(l, 7);
             before = number(l, 0);
         }
-        counted == self.notes.len() / NOTE
-            && sounding == self.pitches.len() / PITCH
-            && at == self.text.len()
-            && measures_fine
-            && notes_fine
-            && pitches_fine
+        counted == all_notes && sounding == pitches.len() / PITCH && at == text.len() && measures_fine && notes_fine && pitches_fine
     }
 
+    /// Its measures, in order.
     pub fn measures(&self) -> Measures<'a> {
-        Measures { rest: self.measures, notes: self.notes() }
+        Measures { records: self.measures, run: self.run }
     }
 
     /// All notes and rests: by measure, then by voice 0 to 3, then as written.
     pub fn notes(&self) -> Notes<'a> {
-        Notes { left: self.notes.len() / NOTE, index: 0, notes: self.notes, pitches: self.pitches, lyrics: self.lyrics, text: self.text }
+        Notes { run: self.run }
     }
 
+    /// The pitches of all notes, in the order of their notes.
     pub fn pitches(&self) -> Pitches<'a> {
-        Pitches { rest: self.pitches }
+        Pitches { rest: self.run.pitches }
     }
 
     /// All lyrics: by note, then by verse.
+    ///
+    /// ```
+    /// let reading = sindvaelo::read("K:C\nAB\nw: one two\nw: eins\n")?;
+    /// let part = reading.parts().next().unwrap();
+    /// let sung: Vec<_> = part.lyrics().map(|lyric| (lyric.note, lyric.verse, lyric.text)).collect();
+    /// assert_eq!(sung, [(0, 1, "one"), (0, 2, "eins"), (1, 1, "two")]);
+    /// # Ok::<(), sindvaelo::Refusal>(())
+    /// ```
     pub fn lyrics(&self) -> Lyrics<'a> {
-        Lyrics { rest: self.lyrics, text: self.text }
+        Lyrics { rest: self.run.lyrics, text: self.run.text }
     }
 }
 
@@ -163,11 +281,11 @@ impl fmt::Debug for Part<'_> {
 }
 
 macro_rules! numbered {
-    ($(#[$doc:meta])* $name:ident { $($number:literal $case:ident,)* }) => {
+    ($(#[$doc:meta])* $name:ident { $($number:literal $case:ident $text:literal,)* }) => {
         $(#[$doc])*
         #[derive(Debug, Clone, Copy, PartialEq, Eq, Hash)]
         pub enum $name {
-            $($case,)*
+            $(#[doc = $text] $case,)*
         }
 
         impl $name {
@@ -182,135 +300,234 @@ macro_rules! numbered {
 }
 
 numbered! {
-    Barline { 0 Normal, 1 RepeatStart, 2 RepeatEnd, 3 RepeatBoth, 4 Double, 5 Final, }
-}
-
-numbered! {
-    /// acorde's `VoltaBracket::kind`: `begin`, `end`, `begin_end`.
-    VoltaKind { 1 Begin, 2 End, 3 BeginEnd, }
-}
-
-numbered! {
-    Mode { 1 Major, 2 Minor, }
-}
-
-numbered! {
-    /// `WholeBar` is the value of `Z` and `X`.
-    Duration {
-        0 Longa, 1 Breve, 2 Whole, 3 Half, 4 Quarter, 5 Eighth, 6 Sixteenth, 7 ThirtySecond, 8 SixtyFourth, 9 HundredTwentyEighth, 10 WholeBar,
+    /// A barline.
+    Barline {
+        0 Normal "`|`, or none written.",
+        1 RepeatStart "`|:`.",
+        2 RepeatEnd "`:|`.",
+        3 RepeatBoth "`::`.",
+        4 Double "`||`.",
+        5 Final "`|]`.",
     }
 }
 
 numbered! {
-    BeamState { 0 None, 1 Begin, 2 Continue, 3 End, }
+    /// acorde's `VoltaBracket::kind`: `begin`, `end`, `begin_end`.
+    VoltaKind {
+        1 Begin "The ending begins here.",
+        2 End "The ending that began earlier stops here.",
+        3 BeginEnd "The ending is this measure.",
+    }
 }
 
 numbered! {
-    TupletBoundary { 1 Start, 2 Stop, 3 StartStop, }
+    /// A key's mode.
+    Mode {
+        1 Major "Major.",
+        2 Minor "Minor.",
+    }
 }
 
 numbered! {
-    Step { 0 C, 1 D, 2 E, 3 F, 4 G, 5 A, 6 B, }
+    /// A written value, without its dots.
+    Duration {
+        0 Longa "Four wholes.",
+        1 Breve "Two wholes.",
+        2 Whole "A whole.",
+        3 Half "A half.",
+        4 Quarter "A quarter.",
+        5 Eighth "An eighth.",
+        6 Sixteenth "A 16th.",
+        7 ThirtySecond "A 32nd.",
+        8 SixtyFourth "A 64th.",
+        9 HundredTwentyEighth "A 128th.",
+        10 WholeBar "The value of `Z` and `X`.",
+    }
 }
 
 numbered! {
-    Syllabic { 0 Single, 1 Begin, 2 End, 3 Middle, }
+    /// A note's place in a beam.
+    BeamState {
+        0 None "Not beamed.",
+        1 Begin "The beam's first note.",
+        2 Continue "Neither its first nor its last.",
+        3 End "Its last note.",
+    }
 }
 
 numbered! {
-    /// How a note was written: a note or chord, `z`, `x`, `Z` or `X`.
-    Kind { 0 Note, 1 Rest, 2 HiddenRest, 3 BarRest, 4 HiddenBarRest, }
+    /// A note's place at the edge of a tuplet.
+    TupletBoundary {
+        1 Start "The tuplet's first note.",
+        2 Stop "Its last note.",
+        3 StartStop "Its only note.",
+    }
 }
 
-#[derive(Debug, Clone, Copy, PartialEq, Eq)]
+numbered! {
+    /// A pitch's letter.
+    Step {
+        0 C "C.",
+        1 D "D.",
+        2 E "E.",
+        3 F "F.",
+        4 G "G.",
+        5 A "A.",
+        6 B "B.",
+    }
+}
+
+numbered! {
+    /// A syllable's place in its word.
+    Syllabic {
+        0 Single "A word of one syllable.",
+        1 Begin "A word's first syllable.",
+        2 End "A word's last syllable.",
+        3 Middle "Neither.",
+    }
+}
+
+numbered! {
+    /// How a note was written.
+    Kind {
+        0 Note "A note or chord.",
+        1 Rest "`z`.",
+        2 HiddenRest "`x`.",
+        3 BarRest "`Z`.",
+        4 HiddenBarRest "`X`.",
+    }
+}
+
+/// A meter, as in 3/4.
+#[derive(Debug, Clone, Copy, PartialEq, Eq, Hash)]
 pub struct TimeSignature {
+    /// The upper number.
     pub numerator: u8,
+    /// The lower number.
     pub denominator: u8,
 }
 
-#[derive(Debug, Clone, Copy, PartialEq, Eq)]
+/// A key.
+#[derive(Debug, Clone, Copy, PartialEq, Eq, Hash)]
 pub struct KeySignature {
+    /// Sharps, or flats below 0.
     pub fifths: i8,
+    /// Major or minor.
     pub mode: Mode,
 }
 
-/// `passes` has bit p − 1 for pass p, and `number` is the first.
-#[derive(Debug, Clone, Copy, PartialEq, Eq)]
+/// A measure's place in an ending (volta).
+#[derive(Debug, Clone, Copy, PartialEq, Eq, Hash)]
 pub struct VoltaBracket {
+    /// Whether it begins or stops here.
     pub kind: VoltaKind,
+    /// Its first pass.
     pub number: u8,
+    /// All its passes: bit p − 1 for pass p.
     pub passes: u32,
 }
 
-#[derive(Debug, Clone, Copy, PartialEq, Eq)]
+impl VoltaBracket {
+    /// Its passes, rising, from 1 to 32.
+    ///
+    /// ```
+    /// let reading = sindvaelo::read("K:C\nA|[1,3-5 B:|")?;
+    /// let volta = reading.parts().next().unwrap().measures().nth(1).unwrap().volta().unwrap();
+    /// assert_eq!(volta.pass_numbers().collect::<Vec<_>>(), [1, 3, 4, 5]);
+    /// # Ok::<(), sindvaelo::Refusal>(())
+    /// ```
+    pub fn pass_numbers(&self) -> impl Iterator<Item = u8> + use<> {
+        let passes = self.passes;
+        (1..=32).filter(move |pass| passes >> (pass - 1) & 1 == 1)
+    }
+}
+
+/// So many notes in the time of so many.
+#[derive(Debug, Clone, Copy, PartialEq, Eq, Hash)]
 pub struct TupletInfo {
+    /// The notes there are.
     pub actual_notes: u8,
+    /// The notes whose time they take.
     pub normal_notes: u8,
 }
 
 /// The measures of a part.
 #[derive(Debug, Clone)]
 pub struct Measures<'a> {
-    rest: &'a [u8],
-    notes: Notes<'a>,
+    records: &'a [u8],
+    run: Run<'a>,
 }
 
 impl<'a> Iterator for Measures<'a> {
     type Item = Measure<'a>;
 
     fn next(&mut self) -> Option<Measure<'a>> {
-        let (record, rest) = self.rest.split_at_checked(MEASURE)?;
-        self.rest = rest;
-        let measure = Measure { record, notes: self.notes.clone() };
-        for _ in 0..measure.note_count() {
-            self.notes.next();
-        }
-        Some(measure)
+        let (record, records) = self.records.split_at_checked(MEASURE)?;
+        let (run, others) = self.run.split(note_count(record));
+        (self.records, self.run) = (records, others);
+        Some(Measure { record, run })
     }
 
     fn size_hint(&self) -> (usize, Option<usize>) {
-        let left = self.rest.len() / MEASURE;
+        let left = self.records.len() / MEASURE;
         (left, Some(left))
     }
 }
 
-#[derive(Clone)]
+impl DoubleEndedIterator for Measures<'_> {
+    fn next_back(&mut self) -> Option<Self::Item> {
+        let (records, record) = self.records.split_at(self.records.len().checked_sub(MEASURE)?);
+        let (others, run) = self.run.split_back(note_count(record));
+        (self.records, self.run) = (records, others);
+        Some(Measure { record, run })
+    }
+}
+
+impl ExactSizeIterator for Measures<'_> {}
+impl FusedIterator for Measures<'_> {}
+
+/// How many notes a measure's record counts.
+fn note_count(record: &[u8]) -> usize {
+    (0..4).map(|v| number(record, 4 * v)).sum()
+}
+
+/// A measure with its notes. Measures are equal if their records and their notes are, places among the part's notes included.
+#[derive(Clone, Copy, PartialEq, Eq)]
 pub struct Measure<'a> {
     record: &'a [u8],
-    notes: Notes<'a>,
+    run: Run<'a>,
 }
 
 impl<'a> Measure<'a> {
-    /// How many notes and rests voice `v`, 0 to 3, has.
+    /// How many notes and rests voice `v`, 0 to 3, has; 0 for any other.
     pub fn voice_len(&self, v: usize) -> usize {
-        number(&self.record[..16], 4 * v)
+        if v < 4 { number(self.record, 4 * v) } else { 0 }
     }
 
-    fn note_count(&self) -> usize {
-        (0..4).map(|v| self.voice_len(v)).sum()
-    }
-
-    /// The notes and rests of voice `v`, 0 to 3.
+    /// The notes and rests of voice `v`, 0 to 3; none for any other. `&` in a text moves on to the next.
+    ///
+    /// ```
+    /// let reading = sindvaelo::read("K:C\nABcd & E2 z2 |")?;
+    /// let measure = reading.parts().next().unwrap().measures().next().unwrap();
+    /// assert_eq!((0..5).map(|v| measure.voice(v).len()).collect::<Vec<_>>(), [4, 2, 0, 0, 0]);
+    /// # Ok::<(), sindvaelo::Refusal>(())
+    /// ```
     pub fn voice(&self, v: usize) -> Notes<'a> {
-        let mut notes = self.notes.clone();
-        for _ in 0..(0..v).map(|w| self.voice_len(w)).sum() {
-            notes.next();
-        }
-        notes.left = self.voice_len(v);
-        notes
+        let before = (0..v.min(4)).map(|w| self.voice_len(w)).sum();
+        Notes { run: self.run.split(before).1.split(self.voice_len(v)).0 }
     }
 
     /// All four voices, one after the other.
     pub fn notes(&self) -> Notes<'a> {
-        let mut notes = self.notes.clone();
-        notes.left = self.note_count();
-        notes
+        Notes { run: self.run }
     }
 
+    /// The barline at its left.
     pub fn barline_left(&self) -> Barline {
         Barline::of(self.record[16])
     }
 
+    /// The barline at its right.
     pub fn barline_right(&self) -> Barline {
         Barline::of(self.record[17])
     }
@@ -320,6 +537,7 @@ impl<'a> Measure<'a> {
         TimeSignature { numerator: self.record[18], denominator: self.record[19] }
     }
 
+    /// The key, where the measure bears a key mark: the first one always does.
     pub fn key_sig(&self) -> Option<KeySignature> {
         match self.record[20] {
             0 => None,
@@ -327,6 +545,7 @@ impl<'a> Measure<'a> {
         }
     }
 
+    /// The ending that begins or stops here.
     pub fn volta(&self) -> Option<VoltaBracket> {
         match self.record[22] {
             0 => None,
@@ -349,76 +568,98 @@ impl fmt::Debug for Measure<'_> {
 }
 
 /// Notes and rests, each with its pitches and lyrics.
-#[derive(Debug, Clone)]
+#[derive(Clone)]
 pub struct Notes<'a> {
-    left: usize,
-    index: usize,
-    notes: &'a [u8],
-    pitches: &'a [u8],
-    lyrics: &'a [u8],
-    text: &'a [u8],
+    run: Run<'a>,
 }
 
 impl<'a> Iterator for Notes<'a> {
     type Item = Note<'a>;
 
     fn next(&mut self) -> Option<Note<'a>> {
-        // A measure's notes are stepped over by the part's iterator too, so `left` may be 0 while there are more.
-        let (record, notes) = self.notes.split_at_checked(NOTE)?;
-        self.left = self.left.checked_sub(1)?;
-        let (pitches, rest) = self.pitches.split_at(PITCH * number(record, 8));
-        let mut sung = 0;
-        let mut text = 0;
-        while let Some(lyric) = self.lyrics.get(sung..sung + LYRIC).filter(|l| number(l, 0) == self.index) {
-            sung += LYRIC;
-            text += number(lyric, 7);
-        }
-        let (lyrics, more) = self.lyrics.split_at(sung);
-        let (words, texts) = self.text.split_at(text);
-        let note = Note { record, index: self.index, pitches, lyrics, text: words };
-        *self = Self { left: self.left, index: self.index + 1, notes, pitches: rest, lyrics: more, text: texts };
-        Some(note)
+        (self.run.len() > 0).then_some(())?;
+        let (note, others) = self.run.split(1);
+        self.run = others;
+        Some(Note { run: note })
     }
 
     fn size_hint(&self) -> (usize, Option<usize>) {
-        (self.left, Some(self.left))
+        (self.run.len(), Some(self.run.len()))
     }
 }
 
-/// A note, chord or rest.
-#[derive(Clone, Copy)]
+impl DoubleEndedIterator for Notes<'_> {
+    fn next_back(&mut self) -> Option<Self::Item> {
+        (self.run.len() > 0).then_some(())?;
+        let (others, note) = self.run.split_back(1);
+        self.run = others;
+        Some(Note { run: note })
+    }
+}
+
+impl ExactSizeIterator for Notes<'_> {}
+impl FusedIterator for Notes<'_> {}
+
+impl fmt::Debug for Notes<'_> {
+    fn fmt(&self, f: &mut fmt::Formatter<'_>) -> fmt::Result {
+        f.debug_list().entries(self.clone()).finish()
+    }
+}
+
+impl fmt::Debug for Run<'_> {
+    fn fmt(&self, f: &mut fmt::Formatter<'_>) -> fmt::Result {
+        Notes { run: *self }.fmt(f)
+    }
+}
+
+/// A note, chord or rest. Notes are equal if all that they say is, their place among the part's notes included.
+#[derive(Clone, Copy, PartialEq, Eq)]
 pub struct Note<'a> {
-    record: &'a [u8],
-    index: usize,
-    pitches: &'a [u8],
-    lyrics: &'a [u8],
-    text: &'a [u8],
+    run: Run<'a>,
 }
 
 impl<'a> Note<'a> {
+    fn byte(&self, at: usize) -> u8 {
+        self.run.notes[at]
+    }
+
     /// Its number among the part's notes, from 0.
     pub fn index(&self) -> usize {
-        self.index
+        self.run.first
     }
 
+    /// How it was written.
     pub fn kind(&self) -> Kind {
-        Kind::of(self.record[0])
+        Kind::of(self.byte(0))
     }
 
+    /// Its pitches, as written: several for a chord, none for a rest.
     pub fn pitches(&self) -> Pitches<'a> {
-        Pitches { rest: self.pitches }
+        Pitches { rest: self.run.pitches }
     }
 
+    /// Its written value, without dots.
+    ///
+    /// ```
+    /// use sindvaelo::Duration;
+    ///
+    /// let reading = sindvaelo::read("L:1/8\nK:C\nA3")?;
+    /// let note = reading.parts().next().unwrap().notes().next().unwrap();
+    /// assert_eq!((note.duration(), note.dot_count()), (Duration::Quarter, 1));
+    /// # Ok::<(), sindvaelo::Refusal>(())
+    /// ```
     pub fn duration(&self) -> Duration {
-        Duration::of(self.record[1])
+        Duration::of(self.byte(1))
     }
 
+    /// Its dots, 0 to 3.
     pub fn dot_count(&self) -> u8 {
-        self.record[2]
+        self.byte(2)
     }
 
+    /// `z`, `x`, `Z` or `X`.
     pub fn is_rest(&self) -> bool {
-        self.record[0] != 0
+        self.byte(0) != 0
     }
 
     /// `x` or `X`.
@@ -426,43 +667,52 @@ impl<'a> Note<'a> {
         matches!(self.kind(), Kind::HiddenRest | Kind::HiddenBarRest)
     }
 
+    /// In braces.
     pub fn is_grace(&self) -> bool {
-        self.record[3] & 16 != 0
+        self.byte(3) & 16 != 0
     }
 
+    /// A tie begins here.
     pub fn tie_start(&self) -> bool {
-        self.record[3] & 1 != 0
+        self.byte(3) & 1 != 0
     }
 
+    /// A tie ends here.
     pub fn tie_end(&self) -> bool {
-        self.record[3] & 2 != 0
+        self.byte(3) & 2 != 0
     }
 
+    /// A slur begins here.
     pub fn slur_start(&self) -> bool {
-        self.record[3] & 4 != 0
+        self.byte(3) & 4 != 0
     }
 
+    /// A slur ends here.
     pub fn slur_end(&self) -> bool {
-        self.record[3] & 8 != 0
+        self.byte(3) & 8 != 0
     }
 
+    /// Its place in a beam.
     pub fn beam(&self) -> BeamState {
-        BeamState::of(self.record[4])
+        BeamState::of(self.byte(4))
     }
 
+    /// An eighth or shorter without a beam.
     pub fn explicit_unbeamed(&self) -> bool {
-        self.record[3] & 32 != 0
+        self.byte(3) & 32 != 0
     }
 
+    /// The tuplet that it is in.
     pub fn tuplet(&self) -> Option<TupletInfo> {
-        match self.record[5] {
+        match self.byte(5) {
             0 => None,
-            actual_notes => Some(TupletInfo { actual_notes, normal_notes: self.record[6] }),
+            actual_notes => Some(TupletInfo { actual_notes, normal_notes: self.byte(6) }),
         }
     }
 
+    /// Whether that tuplet begins or stops here.
     pub fn tuplet_boundary(&self) -> Option<TupletBoundary> {
-        match self.record[7] {
+        match self.byte(7) {
             0 => None,
             boundary => Some(TupletBoundary::of(boundary)),
         }
@@ -470,7 +720,7 @@ impl<'a> Note<'a> {
 
     /// Its syllables, by verse: acorde's `lyric` is that of verse 1, `additional_lyrics` the others.
     pub fn lyrics(&self) -> Lyrics<'a> {
-        Lyrics { rest: self.lyrics, text: self.text }
+        Lyrics { rest: self.run.lyrics, text: self.run.text }
     }
 }
 
@@ -505,9 +755,9 @@ impl Iterator for Pitches<'_> {
     type Item = Pitch;
 
     fn next(&mut self) -> Option<Pitch> {
-        let (p, rest) = self.rest.split_at_checked(PITCH)?;
+        let (record, rest) = self.rest.split_at_checked(PITCH)?;
         self.rest = rest;
-        Some(Pitch { step: Step::of(p[0]), octave: p[1] as i8, alter: p[2] as i8, microtone_cents: i16::from_le_bytes([p[3], p[4]]) })
+        Some(Pitch::of(record))
     }
 
     fn size_hint(&self) -> (usize, Option<usize>) {
@@ -516,12 +766,34 @@ impl Iterator for Pitches<'_> {
     }
 }
 
+impl DoubleEndedIterator for Pitches<'_> {
+    fn next_back(&mut self) -> Option<Pitch> {
+        let (rest, record) = self.rest.split_at(self.rest.len().checked_sub(PITCH)?);
+        self.rest = rest;
+        Some(Pitch::of(record))
+    }
+}
+
+impl ExactSizeIterator for Pitches<'_> {}
+impl FusedIterator for Pitches<'_> {}
+
+/// A pitch as it sounds: the key and the accidentals before it are in `alter`.
 #[derive(Debug, Clone, Copy, PartialEq, Eq, Hash)]
 pub struct Pitch {
+    /// The letter.
     pub step: Step,
+    /// The octave; 4 begins at middle C.
     pub octave: i8,
+    /// Semitones up, or down below 0.
     pub alter: i8,
+    /// Hundredths of a semitone beside them.
     pub microtone_cents: i16,
+}
+
+impl Pitch {
+    fn of(p: &[u8]) -> Self {
+        Self { step: Step::of(p[0]), octave: p[1] as i8, alter: p[2] as i8, microtone_cents: i16::from_le_bytes([p[3], p[4]]) }
+    }
 }
 
 /// Syllables.
@@ -535,12 +807,10 @@ impl<'a> Iterator for Lyrics<'a> {
     type Item = Lyric<'a>;
 
     fn next(&mut self) -> Option<Lyric<'a>> {
-        let (l, rest) = self.rest.split_at_checked(LYRIC)?;
-        let (text, texts) = self.text.split_at(number(l, 7));
+        let (record, rest) = self.rest.split_at_checked(LYRIC)?;
+        let (text, texts) = self.text.split_at(number(record, 7));
         (self.rest, self.text) = (rest, texts);
-        // The reader cuts UTF-8 at white space and ASCII only.
-        let text = str::from_utf8(text).expect("a syllable of a reading is UTF-8");
-        Some(Lyric { note: number(l, 0), verse: l[4], syllabic: Syllabic::of(l[5]), extend: l[6] == 1, text })
+        Some(Lyric::of(record, text))
     }
 
     fn size_hint(&self) -> (usize, Option<usize>) {
@@ -549,13 +819,37 @@ impl<'a> Iterator for Lyrics<'a> {
     }
 }
 
-#[derive(Debug, Clone, Copy, PartialEq, Eq)]
+impl DoubleEndedIterator for Lyrics<'_> {
+    fn next_back(&mut self) -> Option<Self::Item> {
+        let (rest, record) = self.rest.split_at(self.rest.len().checked_sub(LYRIC)?);
+        let (texts, text) = self.text.split_at(self.text.len() - number(record, 7));
+        (self.rest, self.text) = (rest, texts);
+        Some(Lyric::of(record, text))
+    }
+}
+
+impl ExactSizeIterator for Lyrics<'_> {}
+impl FusedIterator for Lyrics<'_> {}
+
+/// A syllable.
+#[derive(Debug, Clone, Copy, PartialEq, Eq, Hash)]
 pub struct Lyric<'a> {
     /// Its note's number among the part's notes, from 0.
     pub note: usize,
     /// 1 to 32.
     pub verse: u8,
+    /// Its place in its word.
     pub syllabic: Syllabic,
+    /// It is held on (`_`).
     pub extend: bool,
+    /// Its text, which may be empty.
     pub text: &'a str,
+}
+
+impl<'a> Lyric<'a> {
+    fn of(record: &[u8], text: &'a [u8]) -> Self {
+        // The reader cuts UTF-8 at white space and ASCII only.
+        let text = str::from_utf8(text).expect("a syllable of a reading is UTF-8");
+        Self { note: number(record, 0), verse: record[4], syllabic: Syllabic::of(record[5]), extend: record[6] == 1, text }
+    }
 }

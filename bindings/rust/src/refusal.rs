@@ -5,24 +5,83 @@ use std::fmt;
 #[derive(Debug, Clone, Copy, PartialEq, Eq, Hash)]
 #[non_exhaustive]
 pub enum Refusal {
+    /// 1: a blank text, or no measure at its end.
     NoMusic,
+    /// 2: over [`MOST_BYTES`](crate::MOST_BYTES).
     TooLong,
+    /// 3: not UTF-8.
     NotUtf8,
-    TooManyLines { line: u32 },
-    LineTooLong { line: u32 },
-    NotAscii { line: u32 },
-    SecondTune { line: u32 },
-    NoVoiceIdentifier { line: u32 },
-    TooManyVoices { line: u32 },
-    Middle { line: u32 },
-    TooManyNotes { line: u32 },
-    Octave { line: u32 },
-    BrokenRhythm { line: u32 },
-    Passes { line: u32 },
+    /// 4: a line after the 10,000th.
+    TooManyLines {
+        /// The line, from 1.
+        line: u32,
+    },
+    /// 5: a line over 1,048,576 bytes once cut and trimmed.
+    LineTooLong {
+        /// The line, from 1.
+        line: u32,
+    },
+    /// 6: a byte above 127 in a K, L, M or V line or in music.
+    NotAscii {
+        /// The line, from 1.
+        line: u32,
+    },
+    /// 7: an X: line after the first K: line.
+    SecondTune {
+        /// The line, from 1.
+        line: u32,
+    },
+    /// 8: V: without an identifier.
+    NoVoiceIdentifier {
+        /// The line, from 1.
+        line: u32,
+    },
+    /// 9: a 33rd voice; unnamed opening music counts as one.
+    TooManyVoices {
+        /// The line, from 1.
+        line: u32,
+    },
+    /// 10: a `middle=` word in a K or V field.
+    Middle {
+        /// The line, from 1.
+        line: u32,
+    },
+    /// 11: the 100,001st note, rest or non-empty chord.
+    TooManyNotes {
+        /// The line, from 1.
+        line: u32,
+    },
+    /// 12: octave marks that leave −128 to 127.
+    Octave {
+        /// The line, from 1.
+        line: u32,
+    },
+    /// 13: more than 255 equal `>` or `<` together.
+    BrokenRhythm {
+        /// The line, from 1.
+        line: u32,
+    },
+    /// 14: `[` and a digit that begin no pass list.
+    Passes {
+        /// The line, from 1.
+        line: u32,
+    },
+    /// 15: the scratch store is shorter than [`scratch_bytes`](crate::scratch_bytes).
     ScratchShort,
+    /// 16: the reading store is shorter than the reading.
     ReadingShort,
+    /// No number of the contract: the text is longer than the limit of a [`Reader`](crate::Reader).
+    OverLimit {
+        /// The reader's limit.
+        limit: usize,
+    },
     /// A number that this version of the crate has no name for.
-    Other { number: u8, line: u32 },
+    Other {
+        /// The contract's number.
+        number: u8,
+        /// The line, from 1; 0: no line brought it about.
+        line: u32,
+    },
 }
 
 impl Refusal {
@@ -48,7 +107,7 @@ impl Refusal {
         }
     }
 
-    /// Its number in the contract, 1 to 16.
+    /// Its number in the contract, 1 to 16; 0 for a reader's own limit.
     pub fn number(&self) -> u8 {
         match self {
             Self::NoMusic => 1,
@@ -67,14 +126,25 @@ impl Refusal {
             Self::Passes { .. } => 14,
             Self::ScratchShort => 15,
             Self::ReadingShort => 16,
+            Self::OverLimit { .. } => 0,
             Self::Other { number, .. } => *number,
         }
+    }
+
+    /// Whether the sender of the tune can mend it; else the calling program can.
+    ///
+    /// ```
+    /// assert!(sindvaelo::Refusal::NotUtf8.is_senders());
+    /// assert!(!sindvaelo::Refusal::ReadingShort.is_senders());
+    /// ```
+    pub fn is_senders(&self) -> bool {
+        !matches!(self.number(), 15 | 16)
     }
 
     /// The line of the text that brought it about; none for what no line does.
     pub fn line(&self) -> Option<u32> {
         match self {
-            Self::NoMusic | Self::TooLong | Self::NotUtf8 | Self::ScratchShort | Self::ReadingShort => None,
+            Self::NoMusic | Self::TooLong | Self::NotUtf8 | Self::ScratchShort | Self::ReadingShort | Self::OverLimit { .. } => None,
             Self::TooManyLines { line }
             | Self::LineTooLong { line }
             | Self::NotAscii { line }
@@ -93,6 +163,9 @@ impl Refusal {
 
 impl fmt::Display for Refusal {
     fn fmt(&self, f: &mut fmt::Formatter<'_>) -> fmt::Result {
+        if let Self::OverLimit { limit } = self {
+            return write!(f, "refused: over this reader's limit of {limit} bytes. Send the tunes one by one");
+        }
         write!(f, "refused ({})", self.number())?;
         if let Some(line) = self.line() {
             write!(f, " at line {line}")?;
@@ -114,6 +187,7 @@ impl fmt::Display for Refusal {
             Self::Passes { .. } => ": an ending whose passes are no list. Write numbers from 1 to 32, rising, as in [1 or [1,3 or [1-4",
             Self::ScratchShort => ": the scratch store is too short. Lend one of scratch_bytes(text length) bytes",
             Self::ReadingShort => ": the reading store is too short. Lend one of reading_bytes(text length) bytes",
+            Self::OverLimit { .. } => unreachable!("said above"),
             Self::Other { .. } => ": this version of the crate has no name for it",
         })
     }

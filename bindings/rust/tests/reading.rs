@@ -1,4 +1,6 @@
 use sindvaelo::*;
+use std::fmt::Debug;
+use std::iter::FusedIterator;
 
 const TUNE: &[u8] = b"X:1\nM:3/4\nL:1/8\nK:Em\n|:E2 [GB]2-[GB]>A & z4|1(3efg ^F/B2:|2x6|]\nw: one two-three_ *\nw: eins\n";
 
@@ -9,23 +11,126 @@ fn tune() -> Reading<Vec<u8>> {
 #[test]
 fn counts() {
     let reading = tune();
-    assert_eq!(reading.parts().len_hint(), 1);
+    assert_eq!(reading.parts().len(), 1);
     let part = reading.parts().next().unwrap();
     assert_eq!(part.notes().count(), part.measures().map(|m| m.notes().count()).sum::<usize>());
     assert_eq!(part.pitches().count(), part.notes().map(|n| n.pitches().count()).sum::<usize>());
     assert_eq!(part.lyrics().collect::<Vec<_>>(), part.notes().flat_map(|n| n.lyrics()).collect::<Vec<_>>());
 }
 
-trait LenHint {
-    fn len_hint(self) -> usize;
+/// Front, back, length and end of an iterator agree.
+fn both_ends<I>(iterator: I)
+where
+    I: DoubleEndedIterator + ExactSizeIterator + FusedIterator + Clone,
+    I::Item: PartialEq + Debug,
+{
+    let forth: Vec<_> = iterator.clone().collect();
+    let mut back: Vec<_> = iterator.clone().rev().collect();
+    back.reverse();
+    assert_eq!(forth, back);
+    assert_eq!(iterator.len(), forth.len());
+    // From both ends in turn.
+    let (mut iterator, mut front, mut end) = (iterator, Vec::new(), Vec::new());
+    loop {
+        let left = iterator.len();
+        let Some(item) = (if left % 3 == 0 { iterator.next_back() } else { iterator.next() }) else { break };
+        if left % 3 == 0 { end.push(item) } else { front.push(item) }
+        assert_eq!(iterator.len(), left - 1);
+    }
+    assert!(iterator.next().is_none() && iterator.next_back().is_none());
+    end.reverse();
+    front.extend(end);
+    assert_eq!(front, forth);
 }
 
-impl<I: Iterator> LenHint for I {
-    fn len_hint(self) -> usize {
-        let (low, high) = self.size_hint();
-        assert_eq!(Some(low), high);
-        assert_eq!(low, self.count());
-        low
+#[test]
+fn iterators() {
+    let reading = read("L:1/8\nV:1\nV:2\nK:D\nV:1\n|:{g}f2 [Adf]2-[Adf]>e & z4 & c|(3Bcd z Z|[1A2:|\nw: a b-c _ d é\nw: x\nV:2\nDEF|\nw: low\n").unwrap();
+    assert_eq!(reading.parts().len(), 2);
+    assert_eq!((&reading).into_iter().count(), 2);
+    for part in &reading {
+        both_ends(part.measures());
+        both_ends(part.notes());
+        both_ends(part.pitches());
+        both_ends(part.lyrics());
+        for measure in part.measures() {
+            both_ends(measure.notes());
+            assert_eq!((0..4).flat_map(|v| measure.voice(v)).collect::<Vec<_>>(), measure.notes().collect::<Vec<_>>());
+            for v in 0..6 {
+                both_ends(measure.voice(v));
+                assert_eq!(measure.voice(v).len(), measure.voice_len(v));
+            }
+            assert_eq!((measure.voice(4).len(), measure.voice(usize::MAX).len()), (0, 0));
+        }
+        for note in part.notes() {
+            both_ends(note.pitches());
+            both_ends(note.lyrics());
+        }
+    }
+}
+
+#[test]
+fn views_compare() {
+    let (owned, other) = (tune(), read("K:C\nA").unwrap());
+    let view: Reading<&[u8]> = owned.view();
+    assert_eq!(owned, view);
+    assert_eq!(view, owned);
+    assert_ne!(other, view);
+    let part = owned.parts().next().unwrap();
+    assert_eq!(part, view.parts().next().unwrap());
+    assert_ne!(part.measures().next(), part.measures().nth(1));
+    assert_eq!(part.notes().next(), part.measures().next().unwrap().notes().next());
+}
+
+#[test]
+fn parts_outlive_a_borrowed_reading() {
+    let owned = tune();
+    let notes = {
+        let reading = Reading::from_bytes(owned.as_bytes()).unwrap();
+        reading.into_parts().next().unwrap().notes()
+    };
+    assert_eq!(notes.len(), owned.parts().next().unwrap().notes().len());
+    assert_eq!(owned.view().into_iter().len(), 1);
+}
+
+#[test]
+fn a_limit_and_memory() {
+    let mut reader = Reader::with_limit(1000);
+    assert_eq!((reader.limit(), reader.memory()), (1000, 0));
+    assert_eq!(reader.read(vec![b'A'; 1001]), Err(Refusal::OverLimit { limit: 1000 }));
+    assert_eq!(reader.read(vec![0xff; 1000]), Err(Refusal::NotUtf8));
+    assert_eq!(reader.read(" \n"), Err(Refusal::NoMusic));
+    // Nothing was allocated for any of them.
+    assert_eq!(reader.memory(), 0);
+    let refusal = Refusal::OverLimit { limit: 1000 };
+    assert_eq!((refusal.number(), refusal.line(), refusal.is_senders()), (0, None, true));
+    assert!(reader.read(TUNE).is_ok());
+    assert_eq!(reader.memory(), scratch_bytes(TUNE.len()) + reading_bytes(TUNE.len()).min(12 * TUNE.len() + 1024));
+    reader.release();
+    assert_eq!(reader.memory(), 0);
+    reader.set_limit(10);
+    assert!(reader.read(TUNE).is_err());
+    // The contract's own limit comes before any store.
+    assert_eq!(Reader::new().read(vec![b'A'; MOST_BYTES + 1]), Err(Refusal::TooLong));
+}
+
+#[test]
+fn a_second_try_where_the_reading_is_long() {
+    // Letters alone have 17 bytes each.
+    let dense = format!("K:C\n{}", "A".repeat(5000));
+    let reading = read(&dense).unwrap();
+    assert!(reading.as_bytes().len() > 12 * dense.len() + 1024);
+    let mut reader = Reader::new();
+    assert_eq!(reader.read(&dense).unwrap(), reading);
+    assert_eq!(reader.memory(), scratch_bytes(dense.len()) + reading_bytes(dense.len()));
+    assert_eq!(reader.read(&dense).unwrap(), reading);
+}
+
+#[test]
+fn versions() {
+    assert!(VERSION.split('.').count() == 3 && !COMMIT.is_empty() && !KIT.is_empty());
+    if let Some(version) = library_version() {
+        assert_eq!(format!("{}.{}.{}", version / 1_000_000, version / 1000 % 1000, version % 1000), VERSION);
     }
 }
 
@@ -86,6 +191,8 @@ fn refusals_say_what_to_do() {
     assert_eq!((refusal.number(), refusal.line()), (7, Some(3)));
     assert_eq!(refusal.to_string(), "refused (7) at line 3: an X: line after the first K: line. Send one tune in a text");
     assert_eq!(read(b"\xff").unwrap_err().line(), None);
+    assert!(refusal.is_senders() && Refusal::NoMusic.is_senders());
+    assert!(!Refusal::ScratchShort.is_senders() && !Refusal::ReadingShort.is_senders());
 }
 
 #[test]
@@ -103,12 +210,19 @@ fn kept_bytes() {
     assert_eq!(Reading::from_bytes(&bytes[..]).unwrap().parts().count(), 1);
     assert!(Reading::from_bytes(&bytes[..bytes.len() - 1]).is_none());
     assert!(Reading::from_bytes(&[][..]).is_none());
-    for at in 0..bytes.len() {
+    let mut passed = 0;
+    for (at, change) in (0..bytes.len()).flat_map(|at| [1, 2, 0x41, 0x80, 0xff].map(|change| (at, change))) {
         let mut other = bytes.clone();
-        other[at] ^= 0x41;
+        other[at] ^= change;
         if let Some(reading) = Reading::from_bytes(&other[..]) {
-            // Whatever passes can be walked.
+            // Whatever passes can be walked, from both ends.
+            passed += 1;
             let _ = format!("{reading:?}");
+            for part in &reading {
+                let _ = format!("{:?}{:?}", part.measures().rev().collect::<Vec<_>>(), part.lyrics().rev().collect::<Vec<_>>());
+                part.measures().rev().for_each(|measure| both_ends(measure.notes()));
+            }
         }
     }
+    assert!(passed > 100);
 }

@@ -8,7 +8,7 @@ ghost use Rattle.laws.specs.Bytes.{between};
 ghost use Rattle.reader.specs.Steps.{itemsOf};
 ghost use Rattle.capacity.specs.Sizes.{isBar, isRest, isSign};
 ghost use Rattle.capacity.specs.Music.{musicOf};
-ghost use Rattle.scan_table.specs.Rows.{itemAt, itemIn, itemsIn};
+ghost use Rattle.scan_table.specs.Rows.{itemAt, itemIn, itemsIn, tableEnd};
 ghost use Rattle.part_sizing.specs.Counting.{madeOf, more, both, asMade, Few, Under, Adds, tablesAt};
 ghost use Rattle.part_sizing.specs.Room.{PartRoom, Sized};
 use part_registers::Tables;

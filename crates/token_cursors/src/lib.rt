@@ -5,10 +5,9 @@ ghost use Prim.Native.Nat.{_<_};
 ghost use lib.ListN.{length, drop};
 ghost use Rattle.reader.specs.Tokens.{tokenOf};
 ghost use Rattle.token_symbols.specs.Classes.{classTable};
-ghost use Rattle.tokens.specs.Tokens.{effectedFor, tokenisedFor};
+ghost use Rattle.tokens.specs.Tokens.{effectedFor};
 ghost use Rattle.token_cursors.specs.Cursors.{movedTo};
 use tokens::Effect;
-use tokens::Token;
 
 // The next byte to read, and the line's end.
 pub struct Cursor {
@@ -24,14 +23,4 @@ pub fn next_effect(line: &[u8], cursor: &mut Cursor, classes: &[u8; 128]) -> Eff
     let e = tokens::effect_at(line, cursor.at, classes);
     cursor.at = e.next;
     e.effect
-}
-
-// The token at the cursor, which moves behind it.
-pub fn next_token(line: &[u8], cursor: &mut Cursor, unit: u32, classes: &[u8; 128]) -> Token
-    requires { ⌜ (now cursor .at < length (now line)) × (now classes ≡ classTable) ⌝ }
-    ensures { λ r. ⌜ (r ≡ tokenisedFor (now (cursor .entry) .at) unit (tokenOf (drop (now (cursor .entry) .at) (now (line .entry)))) .token) × (now (cursor .exit) ≡ movedTo (now (cursor .entry)) (tokenisedFor (now (cursor .entry) .at) unit (tokenOf (drop (now (cursor .entry) .at) (now (line .entry)))) .next)) ⌝ }
-{
-    let t = tokens::token_at(line, cursor.at, unit, classes);
-    cursor.at = t.next;
-    t.token
 }

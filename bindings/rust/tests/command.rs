@@ -1,0 +1,165 @@
+//! The program sindvaelo: what it prints, and how it ends.
+use std::io::Write;
+use std::process::{Command, Output, Stdio};
+
+const TUNE: &str = "X:1\nL:1/8\nK:G\nFA (3GAB|c2 z2|]\nw: one two-three\n";
+
+fn run(words: &[&str], input: &str) -> Output {
+    run_bytes(words, input.as_bytes())
+}
+
+fn run_bytes(words: &[&str], input: &[u8]) -> Output {
+    let mut child = Command::new(env!("CARGO_BIN_EXE_sindvaelo"))
+        .args(words)
+        .stdin(Stdio::piped())
+        .stdout(Stdio::piped())
+        .stderr(Stdio::piped())
+        .spawn()
+        .unwrap();
+    child.stdin.take().unwrap().write_all(input).unwrap();
+    child.wait_with_output().unwrap()
+}
+
+/// Standard output, standard error and the status.
+fn said(output: Output) -> (String, String, i32) {
+    (String::from_utf8(output.stdout).unwrap(), String::from_utf8(output.stderr).unwrap(), output.status.code().unwrap())
+}
+
+fn folder(name: &str) -> std::path::PathBuf {
+    let folder = std::env::temp_dir().join(format!("sindvaelo-{name}-{}", std::process::id()));
+    let _ = std::fs::remove_dir_all(&folder);
+    std::fs::create_dir_all(&folder).unwrap();
+    folder
+}
+
+#[test]
+fn a_tally() {
+    let (out, told, status) = said(run(&["tally", "-"], TUNE));
+    assert_eq!((out.as_str(), told.as_str(), status), ("parts 1\npart 1 measures 2 sounded 6 rests 1 syllables 3\n", "", 0));
+}
+
+#[test]
+fn a_refusal_shows_the_line() {
+    let (out, told, status) = said(run(&["tally", "-"], "X:1\nK:C\nAB|cé d\nc|\n"));
+    assert_eq!((out.as_str(), status), ("refused 6 3\n", 1));
+    assert_eq!(
+        told,
+        "standard input: refused (6) at line 3: a character that is not ASCII in a K, L, M or V line or in music. Replace it, or put it behind a %\n\
+         \x20     2 | K:C\n>     3 | AB|cé d\n        |     ^\n      4 | c|\n"
+    );
+    let (out, told, status) = said(run(&["read", "-"], "K:C\nA\nX:2\n"));
+    assert_eq!((out.as_str(), status), ("refused 7 3\n", 1));
+    assert!(told.ends_with("      2 | A\n>     3 | X:2\n"), "{told}");
+    let (out, told, status) = said(run_bytes(&["tally", "-"], b"K:C\nA\xff\n"));
+    assert_eq!((out.as_str(), status), ("refused 3 0\n", 1));
+    assert!(told.ends_with("Convert the file to UTF-8\nthe first byte that is none stands in line 2, behind 1 bytes\n"), "{told}");
+    // A picture goes into a file: nothing is printed.
+    let (out, told, status) = said(run(&["show", "-"], "K:C\nA\nX:2\n"));
+    assert_eq!((out.as_str(), status), ("", 1));
+    assert!(told.starts_with("standard input: refused (7) at line 3"), "{told}");
+    // A long line is cut around what is wrong.
+    let (_, told, _) = said(run(&["tally", "-"], &format!("K:C\n{}é{}\n", "A".repeat(500), "B".repeat(500))));
+    assert!(told.lines().all(|line| line.chars().count() < 160), "{told}");
+    assert!(told.contains("... AAA") && told.contains("é"));
+}
+
+#[test]
+fn errors() {
+    for (words, says) in [
+        (&["tally", "no-such-file.abc"][..], "sindvaelo: no-such-file.abc: No such file or directory"),
+        (&["tally", "."], "sindvaelo: .: Is a directory"),
+        (&["tally"], "sindvaelo: no FILE (- is standard input)"),
+        (&["read", "a", "b"], "sindvaelo: one FILE at a time"),
+        (&["show", "--json", "-"], "sindvaelo: show draws"),
+        (&["tally", "--jsn", "-"], "sindvaelo: no option --jsn"),
+        (&["sing"], "sindvaelo: no command sing"),
+        (&[], "sindvaelo: no command"),
+    ] {
+        let (out, told, status) = said(run(words, ""));
+        assert_eq!((out.as_str(), status), ("", 2), "{words:?}");
+        assert!(told.starts_with(says), "{words:?}: {told}");
+    }
+}
+
+#[test]
+fn many_files_in_their_order() {
+    let folder = folder("many");
+    let names: Vec<String> = (0..200).map(|i| folder.join(format!("{i:03}.abc")).to_string_lossy().into_owned()).collect();
+    for (i, name) in names.iter().enumerate() {
+        std::fs::write(name, if i == 7 { "K:C\nA\nX:2\n".to_owned() } else { format!("K:C\n{}|\n", "A".repeat(i + 1)) }).unwrap();
+    }
+    let words: Vec<&str> = std::iter::once("tally").chain(names.iter().map(String::as_str)).collect();
+    let (out, told, status) = said(run(&words, ""));
+    let wanted: Vec<String> = names
+        .iter()
+        .enumerate()
+        .map(|(i, name)| if i == 7 { format!("{name}: refused 7 3") } else { format!("{name}: parts 1; part 1 measures 1 sounded {} rests 0 syllables 0", i + 1) })
+        .collect();
+    assert_eq!(out.lines().collect::<Vec<_>>(), wanted);
+    assert!(told.starts_with(&format!("{}: refused (7) at line 3", names[7])), "{told}");
+    assert_eq!(status, 1);
+    // An error counts more than a refusal, and the others are answered.
+    let (out, told, status) = said(run(&["tally", &names[0], "no-such-file.abc", &names[7], &names[1]], ""));
+    assert_eq!((out.lines().count(), status), (3, 2));
+    assert!(told.contains("no-such-file.abc: No such file"));
+    std::fs::remove_dir_all(&folder).unwrap();
+}
+
+#[test]
+fn json() {
+    let (out, _, status) = said(run(&["tally", "--json", "-"], TUNE));
+    let reader = format!("\"version\":\"{}\",\"commit\":\"{}\"", sindvaelo::VERSION, sindvaelo::COMMIT);
+    assert_eq!(out, format!("{{\"file\":\"standard input\",{reader},\"parts\":[{{\"measures\":2,\"sounded\":6,\"rests\":1,\"syllables\":3}}]}}\n"));
+    assert_eq!(status, 0);
+    let (out, _, status) = said(run(&["read", "--json", "-"], "K:C\nX:2\n"));
+    let says = "refused (7) at line 2: an X: line after the first K: line. Send one tune in a text";
+    assert_eq!((out, status), (format!("{{\"file\":\"standard input\",{reader},\"refused\":7,\"line\":2,\"says\":\"{says}\"}}\n"), 1));
+    let (out, _, _) = said(run(&["read", "--json", "-"], "K:C\n[1A\nw: \"\u{1}\\\n"));
+    assert!(out.contains("\"volta\":{\"kind\":\"BeginEnd\",\"number\":1,\"passes\":[1]}"), "{out}");
+    assert!(out.contains("\"text\":\"\\\"\\u0001"), "{out}");
+    assert!(out.contains("\"pitches\":[{\"step\":\"A\",\"octave\":4,\"alter\":0,\"microtone_cents\":0}]"), "{out}");
+    assert_eq!(out.lines().count(), 1);
+}
+
+#[test]
+fn a_reading_in_columns() {
+    let (out, told, status) = said(run(&["read", "-"], TUNE));
+    let wanted = "\
+part 1 of 1: measures 2 sounded 6 rests 1 syllables 3
+  note  value    pitches  marks       verse 1
+measure 1  | .. |  meter 4/4  key G major, 1 sharp
+     1  eighth   F#4      beam[       one
+     2  eighth   A4       ]beam       two-
+     3  eighth   G4       beam[ 3:2[  -three
+     4  eighth   A4       beam 3:2
+     5  eighth   B4       ]beam ]3:2
+measure 2  | .. |]
+     6  quarter  C5
+     7  quarter  rest
+";
+    assert_eq!(out, format!("{wanted}read by sindvaelo {}, commit {}\n", sindvaelo::VERSION, sindvaelo::COMMIT));
+    assert_eq!((told.as_str(), status), ("", 0));
+}
+
+#[test]
+fn a_picture() {
+    let (out, told, status) = said(run(&["show", "-"], "K:C\n|:{g}A>B (3cde|[1 [ceg]-[ceg] z & Z:|\nw: <&> \u{1}two\n"));
+    assert_eq!((told.as_str(), status), ("", 0));
+    assert!(out.starts_with("<?xml") && out.ends_with("</svg>\n"));
+    // Self-contained, and only what XML allows.
+    assert!(!out.contains("href") && !out.contains('\u{1}') && out.contains("&lt;&amp;&gt;"));
+    for shown in ["part 1", "C major", "3:2", ">1.<", ">measures<", ">syllables<", sindvaelo::COMMIT] {
+        assert!(out.contains(shown), "{shown}");
+    }
+    assert!(!out.contains("NaN") && !out.contains("inf"));
+}
+
+#[test]
+fn a_version() {
+    let (out, _, status) = said(run(&["--version"], ""));
+    assert_eq!(status, 0);
+    assert!(out.starts_with(&format!("sindvaelo {}\ncommit {}\n", sindvaelo::VERSION, sindvaelo::COMMIT)));
+    assert!(out.contains(&format!("\nkit {}\n", sindvaelo::KIT)));
+    let (out, _, status) = said(run(&["--help"], ""));
+    assert!(status == 0 && out.contains("sindvaelo show FILE"));
+}
