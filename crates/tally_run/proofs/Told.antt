@@ -18,6 +18,7 @@ use Rattle.tally_text.specs.Printed.{partsText, refusedText, verdictText, mostI
 use Rattle.abc_text.specs.declared.Answer as code
 use Rattle.abc_text.specs.declared.Answer.the-variants as A
 use Rattle.abc_text.specs.Answers.{answerAs}
+use Rattle.abc_text.proofs.Order.{read≢refused}
 
 -- a text from the start of the store
 pub whole : {d bs e : List ℕ} {r : ℕ} (p : List ℕ) → Adds d 0 bs e r → length e ≡ length d → bs ≡ p → io.Counts r e × (take r e ≡ p)
@@ -38,9 +39,6 @@ long input h = rw (lt-leb (length input) mostInput h)
 textOf : Answer → List ℕ
 textOf (read n) = []
 textOf (refused n l) = refusedText n l
-
-read≢refused : (k n l : ℕ) → read k ≡ refused n l → ⊥
-read≢refused k n l e = let z : _≡_ {A = ℕ} 0 1 = cc in omega arith
 
 refusal-of : (v : Verdict) (n l : ℕ) → refused n l ≡ answerOf v → refusedText n l ≡ verdictText v
 unfolding answerOf verdictText textOf
