@@ -5,6 +5,7 @@ ghost use Prim.Native.Nat.{_+_, _-_, _*_, _≤_};
 ghost use lib.Dec.{eqb};
 ghost use lib.ListN.{length};
 ghost use Rattle.laws.specs.Bytes.{u32At};
+ghost use Rattle.reader.specs.Records.{noteWidth};
 ghost use Rattle.tally_counts.specs.Counted.{behind, partEnd, soundedIn, countsIn};
 
 // A part's counts and where its sections end.
@@ -30,7 +31,7 @@ fn section_at(reading: &[u8], width: usize, at: usize) -> Section
     let count = store::get_u32(reading, at) as usize;
     Section {
         count,
-        end: at + 4 + width * count,
+        end: at + reading_records::COUNT + width * count,
     }
 }
 
@@ -43,14 +44,14 @@ fn one_sounded(kind: u8) -> usize
 
 // How many of the n notes from `at` on are no rests.
 fn count_sounded(reading: &[u8], at: usize, n: usize) -> usize
-    requires { ⌜ at + 12 * n ≤ length (now reading) ⌝ }
+    requires { ⌜ at + noteWidth * n ≤ length (now reading) ⌝ }
     ensures { λ r. ⌜ r ≡ soundedIn (now (reading .entry)) at n ⌝ }
     ensures { λ r. ⌜ r ≤ n ⌝ }
 {
     let mut sounded: usize = 0;
     let mut i: usize = 0;
     while i < n {
-        sounded += one_sounded(reading[at + 12 * i]);
+        sounded += one_sounded(reading[at + reading_records::NOTE * i]);
         i += 1;
     }
     sounded
@@ -62,12 +63,12 @@ pub fn count_part(reading: &[u8], at: usize) -> Counts
     ensures { λ r. ⌜ record { measures = r .measures; sounded = r .sounded; rests = r .rests; syllables = r .syllables } ≡ countsIn (now (reading .entry)) at ⌝ }
     ensures { λ r. ⌜ r .end ≡ partEnd (now (reading .entry)) at ⌝ }
 {
-    let measures = section_at(reading, 28, at);
-    let notes = section_at(reading, 12, measures.end);
-    let pitches = section_at(reading, 5, notes.end);
-    let lyrics = section_at(reading, 11, pitches.end);
+    let measures = section_at(reading, reading_records::MEASURE, at);
+    let notes = section_at(reading, reading_records::NOTE, measures.end);
+    let pitches = section_at(reading, reading_records::PITCH, notes.end);
+    let lyrics = section_at(reading, reading_records::LYRIC, pitches.end);
     let text = section_at(reading, 1, lyrics.end);
-    let sounded = count_sounded(reading, measures.end + 4, notes.count);
+    let sounded = count_sounded(reading, measures.end + reading_records::COUNT, notes.count);
     Counts {
         measures: measures.count,
         sounded,

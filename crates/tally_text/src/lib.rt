@@ -59,7 +59,7 @@ fn append_lines(reading: &[u8], n: usize, out: &mut [u8], at: usize) -> usize
     ensures { λ r. ⌜ Adds (now (out .entry)) at (lines 1 (countsFrom (now (reading .entry)) 4 n)) (now (out .exit)) r ⌝ }
 {
     let mut end = at;
-    let mut place: usize = 4;
+    let mut place = reading_records::FIRST_PART;
     let mut i: usize = 0;
     while i < n {
         let c = tally_counts::count_part(reading, place);

@@ -12,6 +12,7 @@ ghost use Rattle.lyric_words.specs.Words.{asSyllabic};
 ghost use Rattle.lyrics.specs.Sheet.{syllablesIn};
 ghost use Rattle.lyric_walk.specs.Walks.{Tables, chain, syllableIs};
 ghost use Rattle.write_syllables.specs.Pieces.{piece, pieces};
+use reading_records::LYRIC;
 use store_sections::Wrote;
 
 // A RECORD
@@ -51,7 +52,7 @@ fn write_record(note: usize, f: lyric_walk::Found, to: &mut [u8]) -> Wrote
     requires { ⌜ f .at ≤ f .end ⌝ }
     ensures { λ r. ⌜ ((text : List ℕ) → f .end ≤ length text → WroteIs (now (to .entry)) (lyricBytes note (syllableIs text f)) (now (to .exit)) r) ⌝ }
 {
-    if to.len() < 11 {
+    if to.len() < LYRIC {
         return Wrote::NoRoom;
     }
     let index = low32(note);
@@ -61,7 +62,7 @@ fn write_record(note: usize, f: lyric_walk::Found, to: &mut [u8]) -> Wrote
     store::put_u32(to, 0, index);
     put_3(to, 4, f.verse, code, extend);
     store::put_u32(to, 7, len);
-    Wrote::To(11)
+    Wrote::To(LYRIC)
 }
 
 // A TEXT

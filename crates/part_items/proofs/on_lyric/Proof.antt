@@ -9,10 +9,10 @@ use Rattle.part_items.proofs.on_lyric.Tie as tie
 
 returns : tie.Need-returns
 returns c =
-    let a = c .before .before .before .before .before .before .args in (
-      (ap (λ (v : ℕ). withVerse (a .r) v) (c .before .next-verse .ensures), omega (arith, c .before .before .before .before .before .before .good .1 .1 .0 .1 .1 .1 .1 .1 .1 .1)),
-      c .before .before .before .set-lyric .ensures,
+    let a = c .before .before .before .before .before .before .before .before .args in (
+      (ap (λ (v : ℕ). withVerse (a .r) v) (c .before .next-verse .ensures), omega (arith, c .before .before .before .before .before .before .before .before .good .1 .1 .0 .1 .1 .1 .1 .1 .1 .1)),
+      c .before .before .before .before .set-lyric .ensures,
     )
 
 pub on-lyric-spec : {M : Type 1} → statement M
-on-lyric-spec = tie.close (tie.spec (λ c κs. search needs) (λ c. search needs) returns)
+on-lyric-spec = tie.close (tie.spec (λ c κs. search needs) (λ c. search needs) (λ c. search needs) returns)
