@@ -1,12 +1,14 @@
--- The text that is put out is the definition's, whatever the answer.
+-- The text that is put out is the definition's, whatever the answer, and so is what the stores hold behind it.
 use Prim.Native.Nat.{ℕ, _≤_, _<_}
 use mathlib.Core.Path.{_≡_, refl, sym, ap, subst, _∙_}
 use mathlib.Core.List.{List, [], _∷_}
 use native.Mathlib.Omega.{arith}
 use borrow.Author.Tests.{le-leb, lt-leb}
 use lib.Seq.{length-take-le}
-use lib.ListN.{length, take}
-use Rattle.laws.specs.Bytes.{u32At}
+use lib.ListN.{length, take, drop}
+use Rattle.laws.specs.Bytes.{splice, u32At}
+use Rattle.laws.proofs.Parts.{part-cut}
+use Rattle.laws.proofs.Splices.{length-spliced, drop-splice-past, part-same}
 use Rattle.standard.specs.Bytes.{ascii}
 use Rattle.reader.specs.Part.{Part}
 use Rattle.reader.specs.Answer.{Verdict, refusal, reading, Answer, read, refused, answerOf, parseAbc}
@@ -14,17 +16,28 @@ use Rattle.reader.specs.Tally.{Counts, tally}
 use Rattle.tally_counts.specs.Counted.{countsFrom, PartsWithin}
 use Rattle.tally_counts.proofs.Encoded.{Read, told-tally}
 use Rattle.io.specs.Counts as io
-use Rattle.tally_text.specs.Printed.{partsText, refusedText, verdictText, mostInput, readingBytes, scratchBytes, printed, Adds}
+use Rattle.tally_text.specs.Printed.{partsText, refusedText, verdictText, mostInput, readingBytes, scratchBytes, printed, readingLeft, scratchLeft, Adds}
 use Rattle.abc_text.specs.declared.Answer as code
 use Rattle.abc_text.specs.declared.Answer.the-variants as A
 use Rattle.abc_text.specs.Answers.{answerAs}
 use Rattle.abc_text.proofs.Order.{read≢refused}
 
+-- the store e, which was d: the text p of r bytes, and behind it what was there
+pub record Holds (d e p : List ℕ) (r : ℕ) : Type 0 where
+  pub counts : io.Counts r e
+  pub text : take r e ≡ p
+  pub rest : drop r e ≡ drop r d
+
 -- a text from the start of the store
-pub whole : {d bs e : List ℕ} {r : ℕ} (p : List ℕ) → Adds d 0 bs e r → length e ≡ length d → bs ≡ p → io.Counts r e × (take r e ≡ p)
-whole {d} {bs} {e} {r} p h l q =
-    let m : r ≤ length e = omega (arith, h .fits, l) in
-    ((m, sym (length-take-le r e m)), h .text ∙ q)
+pub whole : {d bs e : List ℕ} {r : ℕ} (p : List ℕ) → Adds d 0 bs e r → bs ≡ p → Holds d e p r
+whole {d} {bs} {e} {r} p h q =
+    let k : r ≡ length bs = omega (arith, h .ends) in
+    let m : r ≤ length e = omega (arith, h .fits, length-spliced d e 0 bs (h .store)) in
+    record {
+      counts = (m, sym (length-take-le r e m));
+      text = (λ i. take (k i) (h .store i)) ∙ part-cut (splice d 0 bs) 0 (length bs) ∙ part-same d 0 bs (omega (arith, h .fits, k)) ∙ q;
+      rest = ap (drop r) (h .store) ∙ drop-splice-past r d 0 bs (omega (arith, k));
+    }
 
 -- what is printed
 pub short : (input : List ℕ) (rl sl : ℕ) → length input ≤ mostInput → rl ≡ readingBytes → sl ≡ scratchBytes → verdictText (parseAbc input rl sl .verdict) ≡ printed input
@@ -34,6 +47,26 @@ short input rl sl h er es = (λ i. verdictText (parseAbc input (er i) (es i) .ve
 pub long : (input : List ℕ) → mostInput < length input → ascii "too long\n" ≡ printed input
 unfolding printed
 long input h = rw (lt-leb (length input) mostInput h)
+
+-- the other stores: as the answer leaves them
+module _ (input d : List ℕ) (rl sl : ℕ) (h : length input ≤ mostInput) (er : rl ≡ readingBytes) (es : sl ≡ scratchBytes) where
+  pub reading-short : parseAbc input rl sl .reading ≡ readingLeft input d
+  unfolding readingLeft
+  reading-short = (λ i. parseAbc input (er i) (es i) .reading) ∙ sym (rw (le-leb (length input) mostInput h))
+
+  pub scratch-short : parseAbc input rl sl .scratch ≡ scratchLeft input d
+  unfolding scratchLeft
+  scratch-short = (λ i. parseAbc input (er i) (es i) .scratch) ∙ sym (rw (le-leb (length input) mostInput h))
+
+-- or as they were
+module _ (input d : List ℕ) (h : mostInput < length input) where
+  pub reading-long : d ≡ readingLeft input d
+  unfolding readingLeft
+  reading-long = rw (lt-leb (length input) mostInput h)
+
+  pub scratch-long : d ≡ scratchLeft input d
+  unfolding scratchLeft
+  scratch-long = rw (lt-leb (length input) mostInput h)
 
 -- a refusal
 textOf : Answer → List ℕ

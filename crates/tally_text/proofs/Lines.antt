@@ -5,6 +5,7 @@ use mathlib.Core.List.{List, [], _∷_, _++_, append-assoc, append-nil}
 use native.Mathlib.Nat.{zero-add}
 use native.Mathlib.Omega.{arith}
 use lib.ListN.{length}
+use Rattle.laws.proofs.Splices.{splice-nil}
 use Rattle.reader.specs.Tally.{Counts}
 use Rattle.tally_counts.specs.Counted.{partEnd, countsIn, countsFrom, PartsWithin}
 use Rattle.tally_text.specs.Printed.{line, lines, Adds}
@@ -28,7 +29,7 @@ module _ (s : List ℕ) (n : ℕ) (out₀ : List ℕ) (at : ℕ) where
         few = omega arith;
         kept = refl;
         done = [];
-        added = record { ends = omega arith; fits = omega arith; text = sym (append-nil _) };
+        added = record { ends = omega arith; fits = omega arith; store = sym (splice-nil _ _) };
         whole = ap (λ (m : ℕ). lines 1 (countsFrom s 4 m)) z;
         within = subst (PartsWithin s 4) (sym z) w;
         room = omega (arith, r);
@@ -58,7 +59,7 @@ module _ (s : List ℕ) (n : ℕ) (out₀ : List ℕ) (at : ℕ) where
           few = omega arith;
           kept = k ∙ h .kept;
           done = h .done ++ b;
-          added = then (h .done) b (h .added) (h .kept) a′;
+          added = then (h .done) b (h .added) a′;
           whole = append-assoc (h .done) b _ ∙ (λ j. h .done ++ (b ++ lines (suc (si j)) (countsFrom s (ep j) (n - (i + 1)))))
               ∙ ap (λ (m : ℕ). h .done ++ lines (suc i) (countsFrom s place m)) (sym one-more) ∙ h .whole;
           within = subst (λ (p : ℕ). PartsWithin s p (n - (i + 1))) (sym ep) (subst (PartsWithin s place) one-more (h .within) .1);

@@ -1,13 +1,12 @@
 -- A text written piece by piece.
-use Prim.Native.Nat.{ℕ, suc, _+_, _-_, _*_, _≤_}
-use mathlib.Core.Path.{_≡_, refl, sym, ap, subst, _∙_}
-use mathlib.Core.List.{List, [], _∷_, _++_, append-assoc}
+use Prim.Native.Nat.{ℕ, _+_, _≤_}
+use mathlib.Core.Path.{_≡_, refl, ap, subst, _∙_}
+use mathlib.Core.List.{List, _++_}
 use native.Mathlib.Omega.{arith}
-use lib.Seq.{take-at}
-use lib.ListN.{length, take, drop, length-append, length-take}
+use lib.ListN.{length, length-append}
 use Rattle.laws.specs.Bytes.{part, splice}
 use Rattle.laws.proofs.Parts.{part-all}
-use Rattle.laws.proofs.Splices.{splice-eq}
+use Rattle.laws.proofs.Splices.{length-spliced, spliced-next}
 use Rattle.standard.specs.Bytes.{ascii}
 use Rattle.reader.specs.Tally.{Counts}
 use Rattle.tally_text.specs.Printed.{decimal, field, line, Adds}
@@ -15,28 +14,19 @@ use Rattle.tally_text.proofs.Digits.{decimal-most}
 
 -- the bytes of a slice
 pub copied : (d src e : List ℕ) (at : ℕ) → at + length src ≤ length d → e ≡ splice d at (part src 0 (length src)) → Adds d at src e (at + length src)
-copied d src e at h q =
-    let whole : part src 0 (length src) ≡ src = part-all src (length src) (omega arith) in
-    let front : length (take at d ++ src) ≡ at + length src = omega (arith, length-append (take at d) src, length-take at d) in
-    record {
-      ends = refl;
-      fits = h;
-      text = ap (take (at + length src)) (q ∙ ap (splice d at) whole ∙ splice-eq d at src h ∙ sym (append-assoc (take at d) src (drop (at + length src) d)))
-          ∙ take-at (take at d ++ src) (drop (at + length src) d) (at + length src) front;
-    }
+copied d src e at h q = record { ends = refl; fits = h; store = q ∙ ap (splice d at) (part-all src (length src) (omega arith)) }
 
 -- the same bytes, called otherwise
 pub called : {d e : List ℕ} {at r : ℕ} (a b : List ℕ) → Adds d at a e r → a ≡ b → Adds d at b e r
 called {d} {e} {at} {r} a b h q = subst (λ (l : List ℕ). Adds d at l e r) q h
 
 -- one piece behind the other
-pub then : {d e f : List ℕ} {at m n : ℕ} (a b : List ℕ) → Adds d at a e m → length e ≡ length d → Adds e m b f n → Adds d at (a ++ b) f n
-then {d} {e} {f} {at} {m} {n} a b x l y =
-    let s = length-append a b in
+pub then : {d e f : List ℕ} {at m n : ℕ} (a b : List ℕ) → Adds d at a e m → Adds e m b f n → Adds d at (a ++ b) f n
+then {d} {e} {f} {at} {m} {n} a b x y =
     record {
-      ends = omega (arith, x .ends, y .ends, s);
-      fits = omega (arith, y .fits, l);
-      text = y .text ∙ ap (λ (t : List ℕ). t ++ b) (x .text) ∙ append-assoc (take at d) a b;
+      ends = omega (arith, x .ends, y .ends, length-append a b);
+      fits = omega (arith, y .fits, length-spliced d e at a (x .store));
+      store = spliced-next d e f at m a b (x .store) (y .store) (x .ends);
     }
 
 -- a field is as long as its word, and 20 digits at most

@@ -4,7 +4,8 @@ use mathlib.Core.Path.{_≡_}
 use mathlib.Core.Bool.{true, false, cond}
 use mathlib.Core.List.{List, [], _∷_, _++_}
 use lib.Dec.{ltb, leb}
-use lib.ListN.{length, take}
+use lib.ListN.{length}
+use Rattle.laws.specs.Bytes.{splice}
 use Rattle.standard.specs.Bytes.{ascii}
 use Rattle.reader.specs.Answer.{Verdict, refusal, reading, parseAbc}
 use Rattle.reader.specs.Tally.{Counts, tally}
@@ -57,12 +58,23 @@ readingBytes = 41216
 abbrev pub scratchBytes : ℕ
 scratchBytes = 65536
 
+-- what is printed fits: at most 32 parts have a line each, of 143 bytes at most
+abbrev pub outBytes : ℕ
+outBytes = 8192
+
 -- "reads up to 1,792 bytes of ABC from standard input; a longer input prints `too long`"
 unfoldable pub printed : List ℕ → List ℕ
 printed input = cond (leb (length input) mostInput) (verdictText (parseAbc input readingBytes scratchBytes .verdict)) (ascii "too long\n")
 
--- WRITING A TEXT: bs was put into the store d from `at` on, which is left as e; r is where it ends
+-- the stores of reading and scratch behind it: a longer input leaves them as they were
+unfoldable pub readingLeft : List ℕ → List ℕ → List ℕ
+readingLeft input d = cond (leb (length input) mostInput) (parseAbc input readingBytes scratchBytes .reading) d
+
+unfoldable pub scratchLeft : List ℕ → List ℕ → List ℕ
+scratchLeft input d = cond (leb (length input) mostInput) (parseAbc input readingBytes scratchBytes .scratch) d
+
+-- WRITING A TEXT: bs was put into the store d from `at` on, which is left as e, changed nowhere else; r is where bs ends
 pub record Adds (d : List ℕ) (at : ℕ) (bs e : List ℕ) (r : ℕ) : Type 0 where
   pub ends : r ≡ at + length bs
   pub fits : r ≤ length d
-  pub text : take r e ≡ take at d ++ bs
+  pub store : e ≡ splice d at bs

@@ -5,7 +5,7 @@ ghost use lib.ListN.{length};
 ghost use Rattle.laws.specs.Bytes.{u32At};
 ghost use Rattle.reader.specs.Tally as tally;
 ghost use Rattle.tally_counts.specs.Counted.{countsFrom, PartsWithin};
-ghost use Rattle.tally_text.specs.Printed.{decimal, field, line, lines, partsText, refusedText, Adds};
+ghost use Rattle.tally_text.specs.Printed.{decimal, field, line, lines, partsText, refusedText, outBytes, Adds};
 use tally_counts::Counts;
 
 // Puts the bytes of src at `at`; where they end.
@@ -73,7 +73,7 @@ fn append_lines(reading: &[u8], n: usize, out: &mut [u8], at: usize) -> usize
 // Puts the tally of a reading.
 pub fn append_reading(reading: &[u8], out: &mut [u8]) -> usize
     requires { ⌜ (4 ≤ length (now reading)) × (u32At (now reading) 0 ≤ 32) × PartsWithin (now reading) 4 (u32At (now reading) 0) ⌝ }
-    requires { ⌜ 8192 ≤ length (now out) ⌝ }
+    requires { ⌜ outBytes ≤ length (now out) ⌝ }
     ensures { λ r. ⌜ Adds (now (out .entry)) 0 (partsText (u32At (now (reading .entry)) 0) (countsFrom (now (reading .entry)) 4 (u32At (now (reading .entry)) 0))) (now (out .exit)) r ⌝ }
 {
     let n = store::get_u32(reading, 0);
@@ -84,7 +84,7 @@ pub fn append_reading(reading: &[u8], out: &mut [u8]) -> usize
 
 // Puts a refusal.
 pub fn append_refusal(out: &mut [u8], n: u8, l: u32) -> usize
-    requires { ⌜ 8192 ≤ length (now out) ⌝ }
+    requires { ⌜ outBytes ≤ length (now out) ⌝ }
     ensures { λ r. ⌜ Adds (now (out .entry)) 0 (refusedText n l) (now (out .exit)) r ⌝ }
 {
     let a = append_field(out, 0, b"refused ", n as u64);

@@ -10,7 +10,7 @@ returns : tie.Need-returns
 unfolding field
 returns c =
     let a = c .before .before .before .before .before .before .before .before .before .before .args in
-    let t = then _ _ (c .before .before .before .before .before .before .append-bytes .ensures .0) (search needs) (c .before .before .append-decimal .ensures) in
+    let t = then _ _ (c .before .before .before .before .before .before .append-bytes .ensures .0) (c .before .before .append-decimal .ensures) in
     (t, omega (arith, t .ends, field-most (a .word .now) (a .n)))
 
 pub append-field-spec : {M : Type 1} → statement M

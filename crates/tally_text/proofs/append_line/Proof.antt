@@ -12,11 +12,11 @@ returns c =
     (then _ _
     (then _ _
     (then _ _
-    (then _ _ (c .before .before .before .before .before .before .before .before .before .before .before .before .before .before .before .before .before .before .before .before .before .before .before .before .before .before .before .append-field .ensures .0) (search needs) (c .before .before .before .before .before .before .before .before .before .before .before .before .before .before .before .before .before .before .before .before .before .before .append-field2 .ensures .0))
-    (search needs) (c .before .before .before .before .before .before .before .before .before .before .before .before .before .before .before .before .before .append-field3 .ensures .0))
-    (search needs) (c .before .before .before .before .before .before .before .before .before .before .before .before .append-field4 .ensures .0))
-    (search needs) (c .before .before .before .before .before .before .before .append-field5 .ensures .0))
-    (search needs) (c .before .before .append-bytes .ensures .0)
+    (then _ _ (c .before .before .before .before .before .before .before .before .before .before .before .before .before .before .before .before .before .before .before .before .before .before .before .before .before .before .before .append-field .ensures .0) (c .before .before .before .before .before .before .before .before .before .before .before .before .before .before .before .before .before .before .before .before .before .before .append-field2 .ensures .0))
+    (c .before .before .before .before .before .before .before .before .before .before .before .before .before .before .before .before .before .append-field3 .ensures .0))
+    (c .before .before .before .before .before .before .before .before .before .before .before .before .append-field4 .ensures .0))
+    (c .before .before .before .before .before .before .before .append-field5 .ensures .0))
+    (c .before .before .append-bytes .ensures .0)
 
 pub append-line-spec : {M : Type 1} → statement M
 append-line-spec =

@@ -16,7 +16,7 @@ returns : tie.Need-returns
 unfolding partsText
 returns c =
     let n = c .before .before .before .before .before .before .before .before .before .before .before .before .before .before .get-u32 .ensures in
-    rw (← n) (then _ _ (then _ _ (c .before .before .before .before .before .before .before .before .before .before .before .append-field .ensures .0) (search needs) (c .before .before .before .before .before .before .append-bytes .ensures .0)) (search needs) (c .before .before .append-lines .ensures))
+    rw (← n) (then _ _ (then _ _ (c .before .before .before .before .before .before .before .before .before .before .before .append-field .ensures .0) (c .before .before .before .before .before .before .append-bytes .ensures .0)) (c .before .before .append-lines .ensures))
 
 pub append-reading-spec : {M : Type 1} → statement M
 append-reading-spec =

@@ -8,7 +8,7 @@ use Rattle.tally_text.proofs.append_refusal.Tie as tie
 returns : tie.Need-returns
 unfolding refusedText
 returns c =
-    then _ _ (then _ _ (c .before .before .before .before .before .before .before .before .before .before .before .before .append-field .ensures .0) (search needs) (c .before .before .before .before .before .before .before .append-field2 .ensures .0)) (search needs) (c .before .before .append-bytes .ensures .0)
+    then _ _ (then _ _ (c .before .before .before .before .before .before .before .before .before .before .before .before .append-field .ensures .0) (c .before .before .before .before .before .before .before .append-field2 .ensures .0)) (c .before .before .append-bytes .ensures .0)
 
 pub append-refusal-spec : {M : Type 1} → statement M
 append-refusal-spec =
