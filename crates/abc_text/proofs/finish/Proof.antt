@@ -15,8 +15,8 @@ returns c =
 
 write-parts-requires : tie.Need-write-parts-requires
 write-parts-requires c κs =
-    let a = c .before .before .before .before .before .before .before .before .args in
-    let p = c .before .before .before .before .before .before .before .before .pre in
+    let a = c .before .before .before .before .before .before .before .before .before .args in
+    let p = c .before .before .before .before .before .before .before .before .before .pre in
     rooms-left (a .text .now) (a .scratch .now) (a .h) (p .0) (p .1 .0) (p .1 .1)
 
 seal-requires : tie.Need-seal-requires
@@ -24,10 +24,10 @@ seal-requires c κs = reached-in (c .before .before .before .before .before .bef
 
 returns-2 : tie.Need-returns-2
 returns-2 c =
-    let a = c .before .before .before .before .before .before .before .before .before .before .before .before .before .before .before .before .before .before .before .before .before .before .args in
+    let a = c .before .before .before .before .before .before .before .before .before .before .before .before .before .before .before .before .before .before .before .before .before .before .before .args in
     rw (c .wrote-answer .ensures)
-    (written-parsed (a .text .now) (a .scratch .now) (a .h) (c .before .before .before .before .before .before .before .before .before .before .before .before .before .before .before .before .before .before .before .before .before .before .pre .0) _ _ _ _ _ (not-false _ (c .before .before .before .before .before .before .before .before .before .before .before .before .before .before .before .before .before .if1 .left))
-    (filled (rw (c .before .before .before .before .before .before .before .before .before .before .before .before .before .before .before .before .count-parts .ensures) at (c .before .before .before .before .before .before .before .before .before .before .before .before .before .write-parts .ensures)) (search needs) (c .before .before .before .seal .ensures))
+    (written-parsed (a .text .now) (a .scratch .now) (a .h) (c .before .before .before .before .before .before .before .before .before .before .before .before .before .before .before .before .before .before .before .before .before .before .before .pre .0) _ _ _ _ _ (not-false _ (c .before .before .before .before .before .before .before .before .before .before .before .before .before .before .before .before .before .before .if1 .left))
+    (filled (rw (c .before .before .before .before .before .before .before .before .before .before .before .before .before .before .before .before .before .count-parts .ensures) at (c .before .before .before .before .before .before .before .before .before .before .before .before .before .write-parts .ensures)) (search needs) (c .before .before .before .seal .ensures))
     (cleared _ _ _ (c .before .before .before .before .before .before .before .clear .ensures) (search needs)))
 
 pub finish-spec : {M : Type 1} → statement M
