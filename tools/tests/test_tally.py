@@ -181,7 +181,8 @@ class Answers(Case):
 
     def test_the_limit_is_the_program_s(self):
         source = read('crates', 'tally_run', 'src', 'lib.rt')
-        self.assertIn('if %d < input.len()' % tally.LIMIT, source)
+        self.assertIn('const MOST_INPUT: usize = %d;' % tally.LIMIT, source)
+        self.assertIn('if MOST_INPUT < input.len()', source)
         self.assertIn('format(LIMIT', read('tools', 'tally'))
         self.assertIn('{:,} bytes'.format(tally.LIMIT), tally.__doc__)
 
