@@ -25,9 +25,9 @@ use Rattle.part_rows.proofs.Tables.{table-front, table-back}
 use Rattle.part_measures.specs.Heads.{headRow}
 use Rattle.part_ends.specs.Spans.{Small}
 use Rattle.part_ends.proofs.Closing.{fits-small, length-end}
-use Rattle.scan_table.specs.Rows.{itemsIn}
+use Rattle.scan_table.specs.Rows.{itemsIn, tableEnd}
 use Rattle.lyrics.specs.declared.Sheet.{Sheet}
-use Rattle.lyrics.specs.Sheet.{syllablesIn}
+use Rattle.lyrics.specs.Sheet.{syllablesIn, lyricHeadWidth, lyricRowWidth}
 use Rattle.lyrics.specs.Items.{linesIn, AllSung}
 use Rattle.store_sections.specs.declared.Wrote.{Wrote}
 use Rattle.store_sections.specs.Writes.{WroteIs}
@@ -100,7 +100,7 @@ module _ (text s : List ℕ) (n p : ℕ) (header : Key) (t : Tables) (z : Sized 
           fits = build-fits header (itemsOf p (itemsIn text s n));
         }
 
-    before-heads : 256 + 16 * n ≤ t .heads
+    before-heads : tableEnd n ≤ t .heads
     before-heads = omega (arith, z .behind-items)
 
     lines-now : linesIn text s₂ p n ≡ reverse (state .verses .lines)
@@ -135,7 +135,7 @@ module _ (text s : List ℕ) (n p : ℕ) (header : Key) (t : Tables) (z : Sized 
 -- ITS LYRICS ARE SUNG
 module _ (text s : List ℕ) (n p : ℕ) (header : Key) (t : Tables) (s₂ : List ℕ) (d : Ended) (q : PartRead text s n p header t s₂ d) (s₃ : List ℕ) (sheet : Sheet) (at : sheet ≡ sheetAt t (d .sounded) (sheet .count))
     (u : AllSung text s₂ s₃ n p (sheetAt t (d .sounded) 0) (replicate (d .sounded) []) (sheet .count)) where
-  sung-only : Only (t .scopes) (t .scopes + 4 * d .sounded + 16 * sheet .count) s₂ s₃
+  sung-only : Only (t .scopes) (t .scopes + lyricHeadWidth * d .sounded + lyricRowWidth * sheet .count) s₂ s₃
   sung-only = record { same-length = u .outside .same-length; front = u .outside .low; back = u .outside .high }
 
   pub sung-items : itemsIn text s₃ n ≡ itemsIn text s n

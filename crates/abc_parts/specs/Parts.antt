@@ -11,6 +11,7 @@ use Rattle.reader.specs.Records.{measureWidth}
 use Rattle.part_rows.specs.Encoded.{noteRowWidth, pitchRowWidth}
 use Rattle.scan_table.specs.Rows.{itemsIn}
 use Rattle.lyrics.specs.declared.Sheet.{Sheet}
+use Rattle.lyrics.specs.Sheet.{lyricHeadWidth}
 use Rattle.lyrics.specs.Items.{linesIn, Fits}
 use Rattle.write_notes.specs.Tables.{Represents}
 use Rattle.part_registers.specs.declared.Tables.{Tables}
@@ -22,7 +23,7 @@ laidOf header text s n p = build header (itemsOf p (itemsIn text s n))
 
 -- the sheet of its lyrics, with c rows, for n notes that are sung to: it stands where the accidentals in force stood
 abbrev pub sheetAt : Tables → ℕ → ℕ → Sheet
-sheetAt t n c = record { heads = t .scopes; sounded = n; log = t .scopes + 4 * n; count = c }
+sheetAt t n c = record { heads = t .scopes; sounded = n; log = t .scopes + lyricHeadWidth * n; count = c }
 
 -- THE PART IS READ AND ENDED: s′ holds its measures, notes and pitches, and its lyric lines with their verses and first notes; the sheet has room
 pub record PartRead (text s : List ℕ) (n p : ℕ) (header : Key) (t : Tables) (s′ : List ℕ) (d : Ended) : Type 0 where

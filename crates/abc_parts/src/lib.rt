@@ -67,7 +67,7 @@ fn sing_part(
     ensures { λ r. ⌜ (r ≡ sheetAt t sounded (r .count)) × AllSung (now (text .entry)) (now (scratch .entry)) (now (scratch .exit)) n part (sheetAt t sounded 0) (replicate sounded []) (r .count) ⌝ }
 {
     let heads = t.scopes;
-    let log = heads + 4 * sounded;
+    let log = heads + lyrics::HEAD * sounded;
     let sheet = Sheet {
         heads,
         sounded,

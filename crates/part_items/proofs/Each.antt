@@ -20,6 +20,7 @@ use Rattle.reader.specs.Part.{firstKey, countedIn}
 use Rattle.reader.specs.State.{Note, Sung, Verses, newLine}
 use Rattle.reader.specs.Token.{Token, space, overlay, quoted, broken, tuplet, slur, graceOpen, graceClose, decoration, barline, volta, unit, meter, key, field, chord, rest, note, nothing, skipped, refused}
 use Rattle.reader.specs.Tokens.{tokens}
+use Rattle.reader.proofs.PartLaws.{counted-lines}
 use Rattle.part_layout.specs.Log.{Head, LogState, setKey, setHeads, withKeyMark, withMeter, newLog, onLastHead, onOpen, hears, lastPlace, noteAt, onBroken, onNothing, append, onSound, onBarline, onToken, lineBegins, onLine}
 use Rattle.part_layout.specs.Ends.{onLyric, onKey, onItem}
 use Rattle.part_rows.specs.Encoded.{noteRow, noteRowWidth, pitchRowWidth}
@@ -230,10 +231,6 @@ meter-none {t} {s} {r} header top bottom e =
     simulates-item-alone refl (λ l h. subst (λ (x : LogState). Represents t s r [] x) (open-none (withMeter (top, bottom)) l (sym (h .stored .heads-are) ∙ e)) h)
 
 -- LINES: only a lyric line adds one
-counted-lines : (o : ℕ) (n : Note) (v : Verses) → countedIn o n v .lines ≡ v .lines
-unfolding countedIn
-counted-lines o n v = by-test (eqb o 0 && isSounded (n .kind)) (λ e. rw (e, countedIn)) (λ e. rw (e, countedIn))
-
 broken-lines : (up : Bool) (n i : ℕ) (l : LogState) → onBroken up n i l .verses .lines ≡ l .verses .lines
 unfolding onBroken
 broken-lines up n zero l = refl

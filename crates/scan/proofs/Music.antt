@@ -9,7 +9,7 @@ use lib.Dec.{ltb, leb}
 use lib.ListN.{length}
 use borrow.Author.Tests.{lt-ltb}
 use Rattle.laws.specs.Lists.{any, elem}
-use Rattle.laws.proofs.Bools.{by-test}
+use Rattle.laws.proofs.Bools.{by-test, or-assoc}
 use Rattle.laws.proofs.Lists.{any-append}
 use Rattle.reader.specs.Text.{textLines}
 use Rattle.reader.specs.Tokens.{Effect}
@@ -31,10 +31,6 @@ nothing-more false = refl
 with-more : (b : Bool) → true ≡ (b || true)
 with-more true = refl
 with-more false = refl
-
-or-assoc : (a b c : Bool) → ((a || b) || c) ≡ (a || (b || c))
-or-assoc true b c = refl
-or-assoc false b c = refl
 
 play-tells : (s : ScanState) (es : List Effect) (l : List ℕ) (o : Option ℕ) → Tells s (playOn s es l o)
 unfolding playOn isMusic

@@ -8,6 +8,7 @@ use native.Mathlib.Omega.{arith}
 use lib.Dec.{eqb}
 use lib.ListN.{length, getD}
 use Rattle.laws.specs.Bytes.{u32At}
+use Rattle.reader.specs.Records.{noteWidth}
 use Rattle.tally_counts.specs.Counted.{behind, partEnd, soundedIn, notesAt, pitchesAt, lyricsAt, textAt, countsIn}
 
 -- a section ends behind its count
@@ -33,7 +34,7 @@ inside s at h =
     record { notes = omega (arith, a, b, c, d, h); pitches = omega (arith, b, c, d, h); lyrics = omega (arith, c, d, h); text = omega (arith, d, h); end = h }
 
 -- the notes' records within their section
-pub notes-room : (s : List ℕ) (at : ℕ) → pitchesAt s at ≤ length s → notesAt s at + 4 + 12 * u32At s (notesAt s at) ≤ length s
+pub notes-room : (s : List ℕ) (at : ℕ) → pitchesAt s at ≤ length s → notesAt s at + 4 + noteWidth * u32At s (notesAt s at) ≤ length s
 unfolding behind
 notes-room s at h = h
 
@@ -42,14 +43,9 @@ pub sounded-none : (s : List ℕ) (at : ℕ) → soundedIn s at 0 ≡ 0
 unfolding soundedIn
 sounded-none s at = refl
 
-pub sounded-more : (s : List ℕ) (at n : ℕ) → soundedIn s at (n + 1) ≡ soundedIn s at n + cond (eqb (getD s (at + 12 * n) 0) 0) 1 0
+pub sounded-more : (s : List ℕ) (at n : ℕ) → soundedIn s at (n + 1) ≡ soundedIn s at n + cond (eqb (getD s (at + noteWidth * n) 0) 0) 1 0
 unfolding soundedIn
 sounded-more s at n = rw (add-one n)
-
--- one at most
-pub one-most : (b : Bool) → cond b 1 0 ≤ 1
-one-most true = omega arith
-one-most false = omega arith
 
 -- a part from its five sections, each where the last ended
 pub part-counted : (s : List ℕ) (at m a n b c l d e k : ℕ) → m ≡ u32At s at → a ≡ behind s 28 at → n ≡ u32At s a → b ≡ behind s 12 a → c ≡ behind s 5 b → l ≡ u32At s c → d ≡ behind s 11 c

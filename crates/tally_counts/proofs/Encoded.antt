@@ -21,11 +21,12 @@ use Rattle.reader.specs.Codes.{kindCode}
 use Rattle.reader.specs.State.{Note, Measure}
 use Rattle.reader.specs.Lyrics.{Syllable}
 use Rattle.reader.specs.Part.{Part}
-use Rattle.reader.specs.Records.{section, sections, notesOf, pitchesOf, lyrics, lyricText, measureBytes, noteBytes, pitchBytes, lyricBytes}
+use Rattle.reader.specs.Records.{noteWidth, section, sections, notesOf, pitchesOf, lyrics, lyricText, measureBytes, noteBytes, pitchBytes, lyricBytes}
 use Rattle.reader.specs.Steps.{itemsOf}
 use Rattle.reader.specs.Scan.{Item, Env}
 use Rattle.reader.specs.Answer.{Verdict, refusal, reading, Outcome, parts, partBytes, encode, refusedWith, written, parseAbc}
 use Rattle.reader.specs.Tally.{Counts, countsOf, tally}
+use Rattle.reader.proofs.CodeLaws.{kind-sounded}
 use Rattle.reader.proofs.Sizes.{Four, Fours, built-fours, measure-bytes, note-bytes, pitch-bytes, lyric-bytes}
 use Rattle.bounds.specs.Ranges.{CountsFit}
 use Rattle.bounds.proofs.ScanWeights.{voiceCount}
@@ -74,22 +75,13 @@ section-here P f w h {s} {at} xs p small rest x =
     let e : length recs ≡ w * u32At s at = concat-length P f w h xs p ∙ ap (λ (k : ℕ). w * k) (sym n) in
     record { count = n; records = r; after = past recs rest (w * u32At s at) e r }
 
--- THE NOTES that are no rests
-kind-sounded : (k : NoteKind) → eqb (kindCode k) 0 ≡ isSounded k
-unfolding kindCode isSounded
-kind-sounded notes.sounded = refl
-kind-sounded notes.rest = refl
-kind-sounded notes.invisibleRest = refl
-kind-sounded notes.barRest = refl
-kind-sounded notes.invisibleBarRest = refl
-
 -- counted from the front
-sounded-front : (s : List ℕ) (at n : ℕ) → soundedIn s at (suc n) ≡ cond (eqb (getD s at 0) 0) 1 0 + soundedIn s (at + 12) n
+sounded-front : (s : List ℕ) (at n : ℕ) → soundedIn s at (suc n) ≡ cond (eqb (getD s at 0) 0) 1 0 + soundedIn s (at + noteWidth) n
 unfolding soundedIn
-sounded-front s at zero = let z : at + 12 * 0 ≡ at = omega arith in rw z (omega arith)
+sounded-front s at zero = let z : at + noteWidth * 0 ≡ at = omega arith in rw z (omega arith)
 sounded-front s at (suc n) =
-    let z : at + 12 * suc n ≡ at + 12 + 12 * n = omega arith in
-    let h : soundedIn s at n + cond (eqb (getD s (at + 12 * n) 0) 0) 1 0 ≡ cond (eqb (getD s at 0) 0) 1 0 + soundedIn s (at + 12) n = sounded-front s at n in
+    let z : at + noteWidth * suc n ≡ at + noteWidth + noteWidth * n = omega arith in
+    let h : soundedIn s at n + cond (eqb (getD s (at + noteWidth * n) 0) 0) 1 0 ≡ cond (eqb (getD s at 0) 0) 1 0 + soundedIn s (at + noteWidth) n = sounded-front s at n in
     rw z (omega (arith, h))
 
 one-note : (b : Bool) (x : ℕ × Note) (xs : List (ℕ × Note)) → cond b 1 0 + length xs ≡ length (cond b (x ∷ xs) xs)

@@ -19,6 +19,7 @@ use Rattle.standard.specs.Notes.{NoteKind, sounded, rest, invisibleRest, barRes
 use Rattle.reader.specs.State.{Note}
 use Rattle.reader.specs.Codes.{kindCode, bit}
 use Rattle.reader.specs.Records.{isUnbeamed, flagByte, noteBytes, section, measureWidth, noteWidth}
+use Rattle.reader.proofs.CodeLaws.{kind-sounded, bit-le}
 use Rattle.part_layout.specs.Log.{Head}
 use Rattle.part_layout.specs.Sections.{headBytes, notesIn, ofVoice, byVoice, inOrder}
 use Rattle.reading_records.specs.Widths.{countWidth}
@@ -142,22 +143,6 @@ module _ (s : List ℕ) (t : PartTables) (i : InStore s t) where
 pub wrote-as : {d a e : List ℕ} {r : Wrote} → WroteIs d a e r → {b : List ℕ} → a ≡ b → WroteIs d b e r
 wrote-as {d} {a} {e} {r} w p = subst (λ (l : List ℕ). WroteIs d l e r) p w
 
--- A ROW
--- a note sounds where its kind is 0
-pub kind-code : (k : NoteKind) → eqb (kindCode k) 0 ≡ isSounded k
-unfolding kindCode isSounded
-kind-code sounded = refl
-kind-code rest = refl
-kind-code invisibleRest = refl
-kind-code barRest = refl
-kind-code invisibleBarRest = refl
-
--- a flag is at most its bit
-pub bit-le : (b : Bool) (n : ℕ) → bit b n ≤ n
-unfolding bit
-bit-le true n = omega arith
-bit-le false n = omega arith
-
 marks-small : (f : Flags) → flagsByte f % 32 ≡ flagsByte f
 unfolding flagsByte
 marks-small f = omega (arith, bit-le (f .tieStart) 1, bit-le (f .tieEnd) 2, bit-le (f .slurStart) 4, bit-le (f .slurEnd) 8, bit-le (f .grace) 16)
@@ -176,7 +161,7 @@ module _ (s : List ℕ) (p : ℕ) (x : ℕ × Note) (e : part s p noteRowWidth �
 
   lone : isLone (startAt s p) ≡ isUnbeamed (x .1)
   unfolding isLone isUnbeamed beamable rowBytes
-  lone = rw (byte-kind, byte valueAt (omega arith), byte beamAt (omega arith), kind-code)
+  lone = rw (byte-kind, byte valueAt (omega arith), byte beamAt (omega arith), kind-sounded)
 
   flags : flagsFor (startAt s p) ≡ flagByte (x .1)
   unfolding flagsFor flagByte rowBytes flagsByte

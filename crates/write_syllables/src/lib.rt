@@ -9,7 +9,7 @@ ghost use Rattle.reader.specs.Codes.{syllabicCode, bit};
 ghost use Rattle.reader.specs.Records.{lyricBytes};
 ghost use Rattle.store_sections.specs.Writes.{WroteIs};
 ghost use Rattle.lyric_words.specs.Words.{asSyllabic};
-ghost use Rattle.lyrics.specs.Sheet.{syllablesIn};
+ghost use Rattle.lyrics.specs.Sheet.{syllablesIn, lyricRowWidth};
 ghost use Rattle.lyric_walk.specs.Walks.{Tables, chain, syllableIs};
 ghost use Rattle.write_syllables.specs.Pieces.{piece, pieces};
 use reading_records::LYRIC;
@@ -108,7 +108,7 @@ fn write_verses(
     texts: bool,
     to: &mut [u8],
 ) -> Wrote
-    requires { ⌜ log + 16 * k ≤ length (now store) ⌝ }
+    requires { ⌜ log + lyricRowWidth * k ≤ length (now store) ⌝ }
     ensures { λ r. ⌜ WroteIs (now (to .entry)) (pieces texts note (chain (now (text .entry)) (now (store .entry)) log k)) (now (to .exit)) r ⌝ }
 {
     let mut at = 0;
@@ -136,7 +136,7 @@ fn write_chain(
     texts: bool,
     to: &mut [u8],
 ) -> Wrote
-    requires { ⌜ log + 16 * k ≤ length (now store) ⌝ }
+    requires { ⌜ log + lyricRowWidth * k ≤ length (now store) ⌝ }
     ensures { λ r. ⌜ WroteIs (now (to .entry)) (pieces texts note (chain (now (text .entry)) (now (store .entry)) log k)) (now (to .exit)) r ⌝ }
 {
     let sole = lyric_walk::sole_syllable(text, store, log, k);

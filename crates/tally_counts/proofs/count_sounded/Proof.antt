@@ -6,7 +6,9 @@ use mathlib.Core.Path.{_≡_, sym, ap, _∙_}
 use native.Mathlib.Omega.{arith}
 use borrow.Author.Needs.{needs}
 use Rattle.tally_counts.specs.Counted.{soundedIn}
-use Rattle.tally_counts.proofs.Bytes.{sounded-none, sounded-more, one-most}
+use Rattle.laws.proofs.Bools.{cond-le}
+use Rattle.reader.specs.Records.{noteWidth}
+use Rattle.tally_counts.proofs.Bytes.{sounded-none, sounded-more}
 use Rattle.tally_counts.proofs.count_sounded.Statement.{statement}
 use Rattle.tally_counts.proofs.count_sounded.Tie as tie
 
@@ -23,14 +25,14 @@ add-sounded : tie.Need-add-sounded Inv-loop μ-loop
 add-sounded c =
     let l = c .before .before .before .loop in
     let a = c .before .before .before .before .before .args in
-    omega (arith, c .one-sounded .ensures, one-most (eqb (getD (a .reading .now) (a .at + 12 * l .i) 0) 0), c .before .before .before .loop .inv, c .before .before .before .before .before .pre, c .before .before .before .before .before .good)
+    omega (arith, c .one-sounded .ensures, cond-le (eqb (getD (a .reading .now) (a .at + noteWidth * l .i) 0) 0) 1, c .before .before .before .loop .inv, c .before .before .before .before .before .pre, c .before .before .before .before .before .good)
 
 loop-again : tie.Need-loop-again Inv-loop μ-loop
 loop-again c =
     let l = c .before .before .before .loop in
     let a = c .before .before .before .before .before .args in (
       search needs,
-      omega (arith, c .one-sounded .ensures, one-most (eqb (getD (a .reading .now) (a .at + 12 * l .i) 0) 0), l .inv),
+      omega (arith, c .one-sounded .ensures, cond-le (eqb (getD (a .reading .now) (a .at + noteWidth * l .i) 0) 0) 1, l .inv),
       (λ j. l .inv .2 j + c .one-sounded .ensures j) ∙ sym (sounded-more (a .reading .now) (a .at) (l .i)),
     )
 
