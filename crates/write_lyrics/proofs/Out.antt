@@ -36,7 +36,8 @@ use Rattle.part_rows.specs.Read.{soundsAt, ofVoiceAt}
 use Rattle.write_notes.specs.declared.PartTables.{PartTables}
 use Rattle.write_notes.specs.Tables.{Represents}
 use Rattle.write_notes.proofs.Tables.{table-rest, table-take, table-drop, table-first}
-use Rattle.write_notes.proofs.Out.{kind-code, bit-le, byte-kind, byte-voice, count-out}
+use Rattle.reader.proofs.CodeLaws.{kind-sounded, bit-le}
+use Rattle.write_notes.proofs.Out.{byte-kind, byte-voice, count-out}
 use Rattle.write_notes.proofs.Sung.{sungIn, lyrics-none, lyrics-passed, lyrics-taken, lyrics-measure}
 use Rattle.write_syllables.specs.Pieces.{piece, pieces}
 use Rattle.write_syllables.proofs.Pieces.{length-record}
@@ -171,7 +172,7 @@ module _ (s : List ℕ) (p : ℕ) (x : ℕ × Note) (xs : List (ℕ × Note)) (t
 
   sung-is : sungRow s p ≡ isSung x
   unfolding sungRow isSung
-  sung-is = (λ i. lead-is i && eqb (byte-kind s p x row i) 0) ∙ ap (λ (c : Bool). eqb (x .0) 0 && c) (kind-code (x .1 .kind))
+  sung-is = (λ i. lead-is i && eqb (byte-kind s p x row i) 0) ∙ ap (λ (c : Bool). eqb (x .0) 0 && c) (kind-sounded (x .1 .kind))
 
 -- A NOTE of another voice, a rest, and one that is sung
 pub note-case {ℓ} : {P : Type ℓ} (x : ℕ × Note) → (eqb (x .0) 0 ≡ false → isSung x ≡ false → P) → (eqb (x .0) 0 ≡ true → isSung x ≡ false → P) → (eqb (x .0) 0 ≡ true → isSung x ≡ true → P) → P
