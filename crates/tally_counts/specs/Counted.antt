@@ -5,12 +5,13 @@ use mathlib.Core.List.{List, [], _∷_}
 use lib.Dec.{eqb}
 use lib.ListN.{length, getD}
 use Rattle.laws.specs.Bytes.{u32At}
+use Rattle.reading_records.specs.Widths.{countWidth}
 use Rattle.reader.specs.Records.{measureWidth, noteWidth, pitchWidth, lyricWidth}
 use Rattle.reader.specs.Tally.{Counts}
 
 -- where a section of records of w bytes ends that begins at `at`
 unfoldable pub behind : List ℕ → ℕ → ℕ → ℕ
-behind s w at = at + 4 + w * u32At s at
+behind s w at = at + countWidth + w * u32At s at
 
 -- THE SECTIONS OF A PART that begins at `at`
 abbrev pub notesAt : List ℕ → ℕ → ℕ
@@ -39,8 +40,8 @@ unfoldable pub countsIn : List ℕ → ℕ → Counts
 countsIn s at =
     record {
       measures = u32At s at;
-      sounded = soundedIn s (notesAt s at + 4) (u32At s (notesAt s at));
-      rests = u32At s (notesAt s at) - soundedIn s (notesAt s at + 4) (u32At s (notesAt s at));
+      sounded = soundedIn s (notesAt s at + countWidth) (u32At s (notesAt s at));
+      rests = u32At s (notesAt s at) - soundedIn s (notesAt s at + countWidth) (u32At s (notesAt s at));
       syllables = u32At s (lyricsAt s at);
     }
 

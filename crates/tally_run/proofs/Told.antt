@@ -13,6 +13,7 @@ use Rattle.standard.specs.Bytes.{ascii}
 use Rattle.reader.specs.Part.{Part}
 use Rattle.reader.specs.Answer.{Verdict, refusal, reading, Answer, read, refused, answerOf, parseAbc}
 use Rattle.reader.specs.Tally.{Counts, tally}
+use Rattle.reading_records.specs.Widths.{firstPart}
 use Rattle.tally_counts.specs.Counted.{countsFrom, PartsWithin}
 use Rattle.tally_counts.proofs.Encoded.{Read, told-tally}
 use Rattle.io.specs.Counts as io
@@ -88,8 +89,8 @@ read-of (refusal k m) n e = absurd (read≢refused n k m e)
 read-of (reading ps) n e = (ps, refl)
 
 pub record Countable (s : List ℕ) (text : List ℕ) : Type 0 where
-  pub room : (4 ≤ length s) × (u32At s 0 ≤ 32) × PartsWithin s 4 (u32At s 0)
-  pub is : partsText (u32At s 0) (countsFrom s 4 (u32At s 0)) ≡ text
+  pub room : (firstPart ≤ length s) × (u32At s 0 ≤ 32) × PartsWithin s firstPart (u32At s 0)
+  pub is : partsText (u32At s 0) (countsFrom s firstPart (u32At s 0)) ≡ text
 
 pub read-text : (input : List ℕ) (rl sl : ℕ) (s : List ℕ) (r : code.Answer) (n : ℕ) → answerAs r ≡ answerOf (parseAbc input rl sl .verdict) → r ≡ A.Read n → s ≡ parseAbc input rl sl .reading
     → Countable s (verdictText (parseAbc input rl sl .verdict))
@@ -100,5 +101,5 @@ read-text input rl sl s r n e q es =
     let x : Read s (p .0) = subst (λ (l : List ℕ). Read l (p .0)) (sym es) (t .0) in
     record {
       room = rw (x .count) (x .room, t .1, x .within);
-      is = (λ i. partsText (x .count i) (countsFrom s 4 (x .count i))) ∙ ap (partsText (length (p .0))) (x .counts) ∙ sym (ap verdictText (p .1));
+      is = (λ i. partsText (x .count i) (countsFrom s firstPart (x .count i))) ∙ ap (partsText (length (p .0))) (x .counts) ∙ sym (ap verdictText (p .1));
     }

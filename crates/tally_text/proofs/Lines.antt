@@ -7,6 +7,7 @@ use native.Mathlib.Omega.{arith}
 use lib.ListN.{length}
 use Rattle.laws.proofs.Splices.{splice-nil}
 use Rattle.reader.specs.Tally.{Counts}
+use Rattle.reading_records.specs.Widths.{firstPart}
 use Rattle.tally_counts.specs.Counted.{partEnd, countsIn, countsFrom, PartsWithin}
 use Rattle.tally_text.specs.Printed.{line, lines, Adds}
 use Rattle.tally_text.proofs.Texts.{called, then, line-most}
@@ -17,12 +18,12 @@ pub record Doing (s : List ℕ) (n : ℕ) (out₀ : List ℕ) (at : ℕ) (out : 
   pub kept : length out ≡ length out₀
   pub done : List ℕ
   pub added : Adds out₀ at done out end
-  pub whole : done ++ lines (suc i) (countsFrom s place (n - i)) ≡ lines 1 (countsFrom s 4 n)
+  pub whole : done ++ lines (suc i) (countsFrom s place (n - i)) ≡ lines 1 (countsFrom s firstPart n)
   pub within : PartsWithin s place (n - i)
   pub room : end + 143 * (n - i) ≤ length out₀
 
 module _ (s : List ℕ) (n : ℕ) (out₀ : List ℕ) (at : ℕ) where
-  pub nothing : PartsWithin s 4 n → at + 143 * n ≤ length out₀ → Doing s n out₀ at out₀ at 4 0
+  pub nothing : PartsWithin s firstPart n → at + 143 * n ≤ length out₀ → Doing s n out₀ at out₀ at firstPart 0
   nothing w r =
       let z : n - 0 ≡ n = omega arith in
       record {
@@ -30,8 +31,8 @@ module _ (s : List ℕ) (n : ℕ) (out₀ : List ℕ) (at : ℕ) where
         kept = refl;
         done = [];
         added = record { ends = omega arith; fits = omega arith; store = sym (splice-nil _ _) };
-        whole = ap (λ (m : ℕ). lines 1 (countsFrom s 4 m)) z;
-        within = subst (PartsWithin s 4) (sym z) w;
+        whole = ap (λ (m : ℕ). lines 1 (countsFrom s firstPart m)) z;
+        within = subst (PartsWithin s firstPart) (sym z) w;
         room = omega (arith, r);
       }
 
@@ -67,7 +68,7 @@ module _ (s : List ℕ) (n : ℕ) (out₀ : List ℕ) (at : ℕ) where
         }
 
   -- all lines
-  pub finished : (out : List ℕ) (end place i : ℕ) → Doing s n out₀ at out end place i → n ≤ i → Adds out₀ at (lines 1 (countsFrom s 4 n)) out end
+  pub finished : (out : List ℕ) (end place i : ℕ) → Doing s n out₀ at out end place i → n ≤ i → Adds out₀ at (lines 1 (countsFrom s firstPart n)) out end
   unfolding countsFrom lines
   finished out end place i h l =
       let z : n - i ≡ 0 = omega arith in

@@ -4,6 +4,7 @@ ghost use Prim.Native.Nat.{_+_, _*_, _≤_};
 ghost use lib.ListN.{length};
 ghost use Rattle.laws.specs.Bytes.{u32At};
 ghost use Rattle.reader.specs.Tally as tally;
+ghost use Rattle.reading_records.specs.Widths.{firstPart};
 ghost use Rattle.tally_counts.specs.Counted.{countsFrom, PartsWithin};
 ghost use Rattle.tally_text.specs.Printed.{decimal, field, line, lines, partsText, refusedText, outBytes, Adds};
 use tally_counts::Counts;
@@ -52,11 +53,11 @@ fn append_line(out: &mut [u8], at: usize, i: u64, c: Counts) -> usize
     append_bytes(out, f, b"\n")
 }
 
-// Puts the lines of the n parts that begin at byte 4 of the reading.
+// Puts the lines of the n parts of the reading.
 fn append_lines(reading: &[u8], n: usize, out: &mut [u8], at: usize) -> usize
-    requires { ⌜ PartsWithin (now reading) 4 n ⌝ }
+    requires { ⌜ PartsWithin (now reading) firstPart n ⌝ }
     requires { ⌜ at + 143 * n ≤ length (now out) ⌝ }
-    ensures { λ r. ⌜ Adds (now (out .entry)) at (lines 1 (countsFrom (now (reading .entry)) 4 n)) (now (out .exit)) r ⌝ }
+    ensures { λ r. ⌜ Adds (now (out .entry)) at (lines 1 (countsFrom (now (reading .entry)) firstPart n)) (now (out .exit)) r ⌝ }
 {
     let mut end = at;
     let mut place = reading_records::FIRST_PART;
@@ -72,9 +73,9 @@ fn append_lines(reading: &[u8], n: usize, out: &mut [u8], at: usize) -> usize
 
 // Puts the tally of a reading.
 pub fn append_reading(reading: &[u8], out: &mut [u8]) -> usize
-    requires { ⌜ (4 ≤ length (now reading)) × (u32At (now reading) 0 ≤ 32) × PartsWithin (now reading) 4 (u32At (now reading) 0) ⌝ }
+    requires { ⌜ (firstPart ≤ length (now reading)) × (u32At (now reading) 0 ≤ 32) × PartsWithin (now reading) firstPart (u32At (now reading) 0) ⌝ }
     requires { ⌜ outBytes ≤ length (now out) ⌝ }
-    ensures { λ r. ⌜ Adds (now (out .entry)) 0 (partsText (u32At (now (reading .entry)) 0) (countsFrom (now (reading .entry)) 4 (u32At (now (reading .entry)) 0))) (now (out .exit)) r ⌝ }
+    ensures { λ r. ⌜ Adds (now (out .entry)) 0 (partsText (u32At (now (reading .entry)) 0) (countsFrom (now (reading .entry)) firstPart (u32At (now (reading .entry)) 0))) (now (out .exit)) r ⌝ }
 {
     let n = store::get_u32(reading, 0);
     let a = append_field(out, 0, b"parts ", n as u64);
