@@ -26,13 +26,13 @@ use Rattle.reader.specs.Answer.{Verdict, reading, parseAbc}
 use Rattle.reader.specs.All.{all as everything}
 use Rattle.reader.proofs.Digits.{count-while-front}
 use Rattle.reader.proofs.TokenLaws.{tokens-cons}
-use Rattle.bounds.proofs.Reading.{partsAfter}
 use Rattle.blocks.specs.Demand.{Accepted}
 use Rattle.blocks.proofs.Instance.{reader}
 use Rattle.blocks.proofs.Words.{clean-lf}
 use Rattle.blocks.proofs.Runs.{Run, then, run-run, run-of, run-cut, run-join}
 use Rattle.promises.specs.Free.{Silent, empty, other-field}
 use Rattle.promises.proofs.SameTally.{Scanned, accepted-scan, withLines, fewer, went, not-on}
+use Rattle.promises.specs.Refusals.{partsAfter}
 
 -- THE PARTS OF A SCAN: an accepted text's reading is they
 abbrev pub partsOf : Out → List Part

@@ -21,12 +21,11 @@ use Rattle.reader.specs.Lines.{isV, isK, isL, isM, isX, isLyric, isField, begin
 use Rattle.reader.specs.Steps.{TextLine, refuse, on, first, run}
 use Rattle.reader.specs.Scan.{Items, Out, ScanState, begin, mostLines, mostVoices, mostNotes, noteCount, voicesBefore, firstRefusal, playOn, voiceOn, unitOn, act, step, scan}
 use Rattle.reader.specs.Answer.{Verdict, refusal, reading, Outcome, mostBytes, scratchNeeded, refusedWith, early, encode, measureCount, written, ended, finish, scanned, unless, parseAbc}
-use Rattle.bounds.proofs.Reading.{partsAfter}
 use Rattle.blocks.proofs.Keeps.{laws}
 use Rattle.blocks.proofs.Instance.{reader}
 use Rattle.blocks.proofs.Runs.{run-of, run-lines}
 use Rattle.blocks.specs.Demand.{IsReading}
-use Rattle.promises.specs.Refusals.{InMusic, MusicLine, Why, many-lines, long-line, high-field, high-music, second-tune, no-identifier, many-voices, middle-V, middle-K, in-music, First, At, Begins, Reason, long-text, not-utf8, blank-text, short-scratch, at-line, no-measure, short-reading}
+use Rattle.promises.specs.Refusals.{partsAfter, InMusic, MusicLine, Why, many-lines, long-line, high-field, high-music, second-tune, no-identifier, many-voices, middle-V, middle-K, in-music, First, At, Begins, Reason, long-text, not-utf8, blank-text, short-scratch, at-line, no-measure, short-reading}
 use Rattle.promises.proofs.TokenRefusals.{first-why, music-meets, music-range}
 
 -- a refusal is told by its number and line

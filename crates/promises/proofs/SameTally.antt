@@ -30,7 +30,6 @@ use Rattle.reader.specs.Tokens.{Effect}
 use Rattle.reader.specs.Steps.{TextLine, Step, refuse, on, run, itemsOf}
 use Rattle.reader.specs.Scan.{Item, voiceDeclared, reset, keyInHeader, keyChange, meterChange, lyricLine, musicLine, Env, ScanState, begin, mostLines, mostVoices, withUnnamed, voicesBefore, withVoices, at, firstRefusal, playOn, voiceOn, unitOn, act, step, scan, Items, Out}
 use Rattle.reader.specs.Answer.{Verdict, refusal, reading, Outcome, early, isMusic, built, parts, ended, finish, scanned, unless, parseAbc}
-use Rattle.bounds.proofs.Reading.{partsAfter}
 use Rattle.blocks.specs.Demand.{Accepted, identifier}
 use Rattle.blocks.proofs.LineKinds.{Names, voice-begins}
 use Rattle.blocks.proofs.Instance.{reader}
@@ -45,6 +44,7 @@ use Rattle.reader.specs.Voltas.{starts, lastThere, endsAt, close, closed}
 use Rattle.reader.specs.Records.{tagged, byVoice, allNotes, isSung, lyricsOf, notesOf, lyrics}
 use Rattle.reader.specs.Tally.{Counts, countsOf, tally}
 use Rattle.promises.specs.Arrangement.{tallyOf}
+use Rattle.promises.specs.Refusals.{partsAfter}
 
 -- WITHOUT FLAGS: a note, a measure, a part (and nothing pending)
 abbrev plain : Note → Note

@@ -21,13 +21,13 @@ use Rattle.reader.specs.Scan.{Item, musicLine, Items, Out, Env, ScanState, begi
 use Rattle.reader.specs.State.{PartState, newPart}
 use Rattle.reader.specs.Part.{onToken, lineBegins, onLine, onItem, finished, build, emptyPart, Part}
 use Rattle.reader.specs.Answer.{Verdict, reading, isMusic, built, parts, parseAbc}
-use Rattle.bounds.proofs.Reading.{partsAfter}
 use Rattle.blocks.specs.Demand.{Accepted}
 use Rattle.blocks.proofs.Instance.{reader}
 use Rattle.blocks.proofs.Runs.{mine-append, Run, then, run-run, run-of, run-cut, run-one}
 use Rattle.promises.specs.Free.{IsMusicRow, Sign, quote, bang, plus}
 use Rattle.promises.proofs.SameTally.{Scanned, accepted-scan, went, not-on}
 use Rattle.promises.proofs.Free.{quoted-token, bang-token, plus-token}
+use Rattle.promises.specs.Refusals.{partsAfter}
 
 -- A PART from items that differ in a music line with the same tokens
 line-same : (u : ℕ) (m : Meter) (l k : List ℕ) → tokens 0 l ≡ tokens 0 k → (s : PartState) → onLine u m l s ≡ onLine u m k s

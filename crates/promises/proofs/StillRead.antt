@@ -15,10 +15,9 @@ use Rattle.reader.specs.Steps.{refuse, on}
 use Rattle.reader.specs.Scan.{Items, Out, ScanState, scan}
 use Rattle.reader.specs.Part.{Part}
 use Rattle.reader.specs.Answer.{Outcome, refusedWith, early, encode, measureCount, written, ended, finish, scanned, unless, parseAbc}
-use Rattle.bounds.proofs.Reading.{partsAfter}
 use Rattle.blocks.specs.Demand.{Accepted}
 use Rattle.blocks.proofs.End.{Not, early-not, late-no}
-use Rattle.promises.specs.Refusals.{Begins}
+use Rattle.promises.specs.Refusals.{partsAfter, Begins}
 use Rattle.promises.proofs.Refusals.{after-tests}
 use Rattle.promises.proofs.Free.{same-scan, same-lines}
 

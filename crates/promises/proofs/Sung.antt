@@ -23,10 +23,10 @@ use Rattle.reader.specs.Lyrics.{Syllable, lyricWords, put, held, sing, sungBy}
 use Rattle.reader.specs.Part.{Part, emptyPart, finished, build}
 use Rattle.reader.specs.Records.{isSung, lyricsOf, notesOf, lyrics}
 use Rattle.reader.specs.Answer.{Verdict, refusal, reading, isMusic, built, parts, parseAbc}
-use Rattle.bounds.proofs.Reading.{partsAfter}
 use Rattle.blocks.specs.Demand.{IsReading}
 use Rattle.promises.specs.Sung.{OnSungNote, Before, InTurn, WellSung}
 use Rattle.promises.proofs.Free.{partsOf, verdict-is}
+use Rattle.promises.specs.Refusals.{partsAfter}
 
 -- A NOTE'S SYLLABLES: verses rise
 abbrev Rising : List Syllable → Type 0

@@ -1,5 +1,5 @@
 -- EACH REFUSAL UNDER ITS CONDITION (document 01, "Who can be refused"): the sixteen conditions by their numbers, and the order in which they are met.
-use Prim.Native.Nat.{ℕ, suc, _+_, _≤_, _<_}
+use Prim.Native.Nat.{ℕ, suc, _+_, _≤_, _<_, max}
 use mathlib.Core.Path.{_≡_}
 use mathlib.Core.Bool.{true, false, not, _||_}
 use mathlib.Core.Option.{none, some}
@@ -17,10 +17,14 @@ use Rattle.reader.specs.Inline.{isInline}
 use Rattle.reader.specs.Token.{Token}
 use Rattle.reader.specs.Tokens.{Effect, counts, refuses, effectOf, more, less, bracket, pitched, classOf, tokenOf, tokens}
 use Rattle.reader.specs.Lines.{isV, isK, isL, isM, isX, isLyric, isField}
-use Rattle.reader.specs.Steps.{TextLine, on, run}
+use Rattle.reader.specs.Steps.{TextLine, on, run, itemsOf}
 use Rattle.reader.specs.Scan.{Items, ScanState, begin, mostLines, mostVoices, mostNotes, noteCount, voicesBefore, firstRefusal, step, scan}
-use Rattle.reader.specs.Answer.{mostBytes, scratchNeeded, encode, measureCount}
-use Rattle.bounds.proofs.Reading.{partsAfter}
+use Rattle.reader.specs.Part.{Part}
+use Rattle.reader.specs.Answer.{mostBytes, scratchNeeded, parts, encode, measureCount}
+
+-- THE PARTS that a scan leads to: one for each voice, one at least
+abbrev pub partsAfter : ScanState → Items → List Part
+partsAfter t a = parts (t .env) (λ p. itemsOf p a) (max 1 (length (t .env .voices))) 0
 
 -- IN A MUSIC LINE: s is what stands from a token's first byte on
 -- what a bracket holds, up to the next `]`; s stands behind the `[`
