@@ -63,7 +63,7 @@ impl<B: AsRef<[u8]>> Reading<B> {
         Some(Self { bytes })
     }
 
-    /// The bytes of the contract's format. The same text gives the same bytes for ever.
+    /// The bytes of the contract's format. The same text gives the same bytes with the same version.
     pub fn as_bytes(&self) -> &[u8] {
         self.bytes.as_ref()
     }

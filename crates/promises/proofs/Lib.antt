@@ -8,3 +8,4 @@ pub mod SameTokens
 pub mod Sung
 pub mod ArrangementExample
 pub mod StillRead
+pub mod Domain
