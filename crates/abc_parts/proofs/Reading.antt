@@ -26,9 +26,11 @@ use Rattle.part_measures.specs.Heads.{headRow}
 use Rattle.part_ends.specs.Spans.{Small}
 use Rattle.part_ends.proofs.Closing.{fits-small, length-end}
 use Rattle.scan_table.specs.Rows.{itemsIn, tableEnd}
+use Rattle.scan_table.proofs.Rows.{items-front}
 use Rattle.lyrics.specs.declared.Sheet.{Sheet}
 use Rattle.lyrics.specs.Sheet.{syllablesIn, lyricHeadWidth, lyricRowWidth}
 use Rattle.lyrics.specs.Items.{linesIn, AllSung}
+use Rattle.lyrics.proofs.Applying.{lines-front}
 use Rattle.store_sections.specs.declared.Wrote.{Wrote}
 use Rattle.store_sections.specs.Writes.{WroteIs}
 use Rattle.write_notes.specs.declared.PartTables.{PartTables}
@@ -43,7 +45,6 @@ use Rattle.capacity.specs.Sizes.{tones}
 use Rattle.part_sizing.specs.Room.{musicAt, Sized}
 use Rattle.part_sizing.proofs.Fits.{sheet-fits}
 use Rattle.part_items.specs.Items.{after, Built}
-use Rattle.part_items.proofs.Turns.{items-front, lines-front}
 use Rattle.abc_parts.specs.declared.Ended.{Ended}
 use Rattle.abc_parts.specs.Parts.{laidOf, sheetAt, PartRead}
 

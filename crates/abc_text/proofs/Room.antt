@@ -4,15 +4,13 @@ use mathlib.Core.Path.{_≡_, refl, sym, ap, _∙_}
 use mathlib.Core.List.{List, [], _++_}
 use native.Mathlib.Numerals.{add-one}
 use native.Mathlib.Omega.{arith}
-use lib.ListN.{length, take, drop, length-append}
-use Rattle.laws.specs.Lists.{sum}
+use lib.ListN.{length, take, drop, length-append, length-take, length-drop}
 use Rattle.standard.specs.Keys.{Key}
 use Rattle.reader.specs.Steps.{itemsOf}
-use Rattle.reader.specs.Scan.{Items}
+use Rattle.reader.specs.Scan.{Item, Items}
 use Rattle.reader.specs.Part.{build}
-use Rattle.reader.specs.Records.{measureWidth, sections}
+use Rattle.reader.specs.Records.{sections}
 use Rattle.reader.specs.Answer.{scratchNeeded}
-use Rattle.bounds.specs.Weights.{itemBytes}
 use Rattle.bounds.proofs.Tables.{part-room}
 use Rattle.store_sections.specs.declared.Wrote.the-variants.{To, NoRoom}
 use Rattle.store_sections.specs.Writes.{WroteIs}
@@ -23,22 +21,52 @@ use Rattle.scan.specs.declared.Shared.{Shared}
 use Rattle.scan.specs.Scanned.{Done}
 use Rattle.abc_answers.specs.Parts.{partsOf}
 use Rattle.part_sizing.specs.Room.{PartRoom}
+use Rattle.scan_parts.specs.declared.Own.{Own}
+use Rattle.scan_parts.specs.Own.{lent, back, OwnItems}
 use Rattle.abc_text.specs.Answers.{Rooms}
 
 -- what the parts' tables need, the scan has left
 pub rooms-left : (text s : List ℕ) (h : Shared) → Done text s h → length text ≤ 67108864 → scratchNeeded (length text) ≤ length s → Rooms text s (h .items)
 unfolding scratchNeeded
-rooms-left text s h d short fits = record { room = λ q. at-part q (part-room text (d .state) (itemsIn text s (h .items)) q (d .scanned)) }
-  where
-    at-part : (q : ℕ) → tableEnd (length (itemsIn text s (h .items))) + measureWidth + measureWidth * sum itemBytes (itemsOf q (itemsIn text s (h .items))) ≤ scratchNeeded (length text)
-        → PartRoom text s (h .items) q
-    at-part q p =
-        let n = length-items text s (h .items) in
-        record { fits = omega (arith, p, n, fits); small = omega (arith, p, n, short); short = short }
+rooms-left text s h d short fits =
+    let n = length-items text s (h .items) in
+    record {
+      fits = λ q. omega (arith, part-room text (d .state) (itemsIn text s (h .items)) q (d .scanned), n, fits);
+      small = λ q. omega (arith, part-room text (d .state) (itemsIn text s (h .items)) q (d .scanned), n, short);
+      short = short;
+    }
 
--- a part keeps it
-pub room-kept : (text s s′ : List ℕ) (n q : ℕ) → itemsIn text s′ n ≡ itemsIn text s n → length s′ ≡ length s → PartRoom text s n q → PartRoom text s′ n q
-room-kept text s s′ n q e l p = record { fits = rw (e, l) (p .fits); small = rw e (p .small); short = p .short }
+-- A PART'S OWN ITEMS: the items are still those that the scan left
+module _ (text s₀ : List ℕ) (n : ℕ) (h : Rooms text s₀ n) (s : List ℕ) (e : itemsIn text s n ≡ itemsIn text s₀ n) (l : length s ≡ length s₀) where
+  -- a second line table has room
+  pub second-fits : tableEnd n + tableEnd n ≤ length s
+  second-fits = omega (arith, h .fits 0, l)
+
+  module _ (q : ℕ) (s′ : List ℕ) (own : Own) (o : OwnItems text s n q s′ own) where
+    pub own-inside : own .at ≤ length s′
+    own-inside = omega (arith, o .inside, o .same-length)
+
+    -- the part's items
+    pub own-items : itemsOf q (itemsIn text (lent s′ (own .at)) (own .count)) ≡ itemsOf q (itemsIn text s₀ n)
+    own-items = o .own ∙ ap (itemsOf q) e
+
+    -- its tables have room
+    pub own-room : PartRoom text (lent s′ (own .at)) (own .count) q
+    own-room =
+        let z : length (lent s′ (own .at)) ≡ length s₀ - own .at = simp (length-take, length-drop) (omega (arith, o .same-length, l)) in
+        record {
+          fits = rw own-items (omega (arith, h .fits q, o .room, z));
+          small = rw own-items (omega (arith, h .small q, o .room));
+          short = h .short;
+        }
+
+    -- once it is written, the items are as they were
+    module _ (t : List ℕ) (k : length t ≡ length (lent s′ (own .at))) where
+      pub own-kept : itemsIn text t (own .count) ≡ itemsIn text (lent s′ (own .at)) (own .count) → itemsIn text (back s′ (own .at) t) n ≡ itemsIn text s₀ n
+      own-kept i = o .kept t k i ∙ e
+
+      pub own-length : length (back s′ (own .at) t) ≡ length s₀
+      own-length = simp (length-append, length-take, length-drop) (omega (arith, k, o .same-length, o .inside, l))
 
 -- THE PARTS so far
 pub parts-none : (k : Key) (a : Items) → partsOf k a 0 ≡ []
@@ -57,15 +85,15 @@ parts-mono k a m (suc n) =
     rw z (omega (arith, parts-mono k a m n, ap length (parts-more k a (m + n)), length-append (partsOf k a (m + n)) (sections (build k (itemsOf (m + n) a)))))
 
 -- a part more behind those that are written
-pub one-part : {d e f : List ℕ} {at m : ℕ} (k : Key) (a b : Items) (part : ℕ) → WroteIs d (partsOf k a part) e (To at) → b ≡ a
-    → WroteIs (take (length e - at) (drop at e)) (sections (build k (itemsOf part b))) f (To m)
+pub one-part : {d e f : List ℕ} {at m : ℕ} (k : Key) (a : Items) (is : List Item) (part : ℕ) → WroteIs d (partsOf k a part) e (To at) → is ≡ itemsOf part a
+    → WroteIs (take (length e - at) (drop at e)) (sections (build k is)) f (To m)
     → WroteIs d (partsOf k a (part + 1)) (take at e ++ (f ++ drop (length e - at) (drop at e))) (To (at + m))
-one-part k a b part h q g = rw (parts-more k a part) (next-to h (rw q at g))
+one-part k a is part h q g = rw (parts-more k a part) (next-to h (rw q at g))
 
 -- or no room for it: none for all
-pub no-part : {d e f : List ℕ} {at : ℕ} (k : Key) (a b : Items) (part count : ℕ) → part < count → WroteIs d (partsOf k a part) e (To at) → b ≡ a
-    → WroteIs (take (length e - at) (drop at e)) (sections (build k (itemsOf part b))) f NoRoom → {z : List ℕ} → WroteIs d (partsOf k a count) z NoRoom
-no-part k a b part count l h q g =
+pub no-part : {d e f : List ℕ} {at : ℕ} (k : Key) (a : Items) (is : List Item) (part count : ℕ) → part < count → WroteIs d (partsOf k a part) e (To at) → is ≡ itemsOf part a
+    → WroteIs (take (length e - at) (drop at e)) (sections (build k is)) f NoRoom → {z : List ℕ} → WroteIs d (partsOf k a count) z NoRoom
+no-part k a is part count l h q g =
     let n : part + 1 + (count - (part + 1)) ≡ count = omega arith in
     none-more (next-none h (rw q at g) {z = []}) (partsOf k a count)
     (rw (← parts-more k a part) (rw n at (parts-mono k a (part + 1) (count - (part + 1)))))

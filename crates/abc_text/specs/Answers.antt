@@ -1,10 +1,15 @@
 -- What `parse_abc` answers, and how it leaves both stores, as the definition has it.
-use Prim.Native.Nat.{ℕ}
+use Prim.Native.Nat.{ℕ, _+_, _*_, _^_, _≤_, _<_}
 use mathlib.Core.Path.{_≡_}
 use mathlib.Core.Option.{Option, none, some}
 use mathlib.Core.List.{List}
+use lib.ListN.{length}
+use Rattle.laws.specs.Lists.{sum}
+use Rattle.reader.specs.Steps.{itemsOf}
+use Rattle.reader.specs.Records.{measureWidth}
 use Rattle.reader.specs.Answer.{Outcome, early, refusedWith, Answer, read, refused, answerOf}
-use Rattle.part_sizing.specs.Room.{PartRoom}
+use Rattle.bounds.specs.Weights.{itemBytes}
+use Rattle.scan_table.specs.Rows.{itemsIn, tableEnd}
 use Rattle.store_sections.specs.declared.Wrote.{Wrote}
 use Rattle.store_sections.specs.declared.Wrote.the-variants.{To, NoRoom}
 use Rattle.abc_text.specs.declared.Answer as code
@@ -37,6 +42,11 @@ earlyAs (E.Refused n) rl sl = some (refusedWith n 0 rl sl)
 pub record EarlyIs (text : List ℕ) (sl : ℕ) (r : Early) : Type 0 where
   pub is : (rl : ℕ) → early text rl sl ≡ earlyAs r rl sl
 
--- ROOM for the tables of each part of the n items behind the line table
+-- ROOM for the tables of each part of the n items behind the line table and a part's own
+abbrev pub takenBy : List ℕ → List ℕ → ℕ → ℕ → ℕ
+takenBy text s n q = tableEnd n + tableEnd n + measureWidth + measureWidth * sum itemBytes (itemsOf q (itemsIn text s n))
+
 pub record Rooms (text s : List ℕ) (n : ℕ) : Type 0 where
-  pub room : (q : ℕ) → PartRoom text s n q
+  pub fits : (q : ℕ) → takenBy text s n q ≤ length s
+  pub small : (q : ℕ) → takenBy text s n q < 2 ^ 32
+  pub short : length text ≤ 67108864

@@ -66,7 +66,7 @@ fn count_parts(voices: usize) -> u8
     if voices == 0 { 1 } else { voices as u8 }
 }
 
-// The sections of the parts 0 up to count, each part's where the last one's ended.
+// The sections of the parts 0 up to count, each part's where the last one's ended. A part is read from its own items.
 fn append_parts(
     text: &[u8],
     scratch: &mut [u8],
@@ -81,7 +81,16 @@ fn append_parts(
     let mut at: usize = 0;
     let mut part: u8 = 0;
     while part < count {
-        let Wrote::To(m) = abc_parts::write_part(text, scratch, n, part, key, &mut to[at..]) else {
+        let own = scan_parts::own_items(text, scratch, n, part, count);
+        let from = own.at;
+        let Wrote::To(m) = abc_parts::write_part(
+            text,
+            &mut scratch[from..],
+            own.count,
+            part,
+            key,
+            &mut to[at..],
+        ) else {
             return Wrote::NoRoom;
         };
         at += m;

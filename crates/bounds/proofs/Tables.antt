@@ -21,7 +21,7 @@ use Rattle.reader.specs.State.{newPart}
 use Rattle.reader.specs.Part.{onToken, lineBegins, onItem, build}
 use Rattle.reader.specs.Answer.{scratchNeeded}
 use Rattle.reader.specs.Records.{notesOf, pitchesOf, lyrics, lyricText}
-use Rattle.bounds.specs.Weights.{Weights, Covered, tableWeights, itemRowWidth, scratchPerByte, scratchPerLineFeed, noteWeights, pitchWeights, accidentalWeights, measureWeights, syllableWeights, textWeights, stateWeight, scopesWeight, tokenWeight, musicBytes, lyricBytes, itemBytes}
+use Rattle.bounds.specs.Weights.{Weights, Covered, tableWeights, itemRowWidth, itemWeight, scratchPerByte, scratchPerLineFeed, noteWeights, pitchWeights, accidentalWeights, measureWeights, syllableWeights, textWeights, stateWeight, scopesWeight, tokenWeight, musicBytes, lyricBytes, itemBytes}
 use Rattle.bounds.proofs.TokenWeights.{line-covered}
 use Rattle.bounds.proofs.PartWeights.{tokens-step, begins-step, reading-weight, items-covered}
 use Rattle.bounds.proofs.Counts.{music-bound, lyric-bound, bytes-sum}
@@ -86,8 +86,8 @@ mine-bytes : (q : ℕ) (a : Items) → sum itemBytes (itemsOf q a) ≤ sum (λ (
 mine-bytes q [] = zero-le
 mine-bytes q (x ∷ a) = by-test (eqb (x .0) q) (λ e. rw e (omega (arith, mine-bytes q a))) (λ e. rw e (omega (arith, mine-bytes q a)))
 
--- THE LINE TABLE AND THE TABLES OF ANY ONE PART: 32 bytes for each byte of the text, the part's first measure, and one line feed
-table-enough : Enough itemRowWidth (tableWeights .byte) scratchPerByte scratchPerLineFeed 0
+-- THE LINE TABLES AND THE TABLES OF ANY ONE PART: 32 bytes for each byte of the text, the part's first measure, and one line feed
+table-enough : Enough itemWeight (tableWeights .byte) scratchPerByte scratchPerLineFeed 0
 table-enough = record { bytes = lit≤ tt; lines = lit≤ tt; feed = lit≤ tt; voices = lit≤ tt }
 
 -- the tables' weights are covered
@@ -95,28 +95,28 @@ table-covered : Covered tableWeights
 table-covered = record { notes = lit≤ tt; measures = lit≤ tt; accidentals = lit≤ tt; syllables = lit≤ tt }
 
 -- rows, and bytes
-table-total : (a : Items) → total itemRowWidth (tableWeights .byte) scratchPerByte scratchPerLineFeed 0 a ≡ itemRowWidth * length a + tableWeights .byte * sum (λ (x : ℕ × Item). itemBytes (x .1)) a
+table-total : (a : Items) → total itemWeight (tableWeights .byte) scratchPerByte scratchPerLineFeed 0 a ≡ itemWeight * length a + tableWeights .byte * sum (λ (x : ℕ × Item). itemBytes (x .1)) a
 table-total [] = refl
 table-total (x ∷ a) = omega (arith, table-total a)
 
--- the rows of the line table and all lines' bytes at the tables' weight
+-- the rows of both line tables and all lines' bytes at the tables' weight
 pub lines-most : (text : List ℕ) (t : ScanState) (a : Items) → scan (textLines text) ≡ on t a
-    → itemRowWidth * length a + tableWeights .byte * sum (λ (x : ℕ × Item). itemBytes (x .1)) a ≤ scratchPerByte * length text + scratchPerLineFeed
+    → itemWeight * length a + tableWeights .byte * sum (λ (x : ℕ × Item). itemBytes (x .1)) a ≤ scratchPerByte * length text + scratchPerLineFeed
 unfolding scan Holds
 lines-most text t a e =
     let n = sum length (textLines text) in
-    let h : Budget itemRowWidth (tableWeights .byte) scratchPerByte scratchPerLineFeed 0 begin n t a = subst (Holds (Budget itemRowWidth (tableWeights .byte) scratchPerByte scratchPerLineFeed 0 begin n)) e (lines-budget itemRowWidth (tableWeights .byte) scratchPerByte scratchPerLineFeed 0 table-enough (textLines text) (rows-fed text) begin) in
+    let h : Budget itemWeight (tableWeights .byte) scratchPerByte scratchPerLineFeed 0 begin n t a = subst (Holds (Budget itemWeight (tableWeights .byte) scratchPerByte scratchPerLineFeed 0 begin n)) e (lines-budget itemWeight (tableWeights .byte) scratchPerByte scratchPerLineFeed 0 table-enough (textLines text) (rows-fed text) begin) in
     omega (arith, h, table-total a, rows-length text)
 
--- ROOM for the tables of any one part, behind the voices and the line table
+-- ROOM for the tables of any one part, behind the line table and the part's own
 pub part-room : (text : List ℕ) (t : ScanState) (a : Items) (q : ℕ) → scan (textLines text) ≡ on t a
-    → 256 + itemRowWidth * length a + tableWeights .measure + tableWeights .byte * sum itemBytes (itemsOf q a) ≤ scratchNeeded (length text)
+    → (256 + itemRowWidth * length a) + (256 + itemRowWidth * length a) + tableWeights .measure + tableWeights .byte * sum itemBytes (itemsOf q a) ≤ scratchNeeded (length text)
 unfolding scratchNeeded
 part-room text t a q e = omega (arith, lines-most text t a e, mine-bytes q a)
 
 -- with a part's tables when it is finished
 pub tables-most : (text : List ℕ) (t : ScanState) (a : Items) (q : ℕ) (header : Key) → scan (textLines text) ≡ on t a
-    → itemRowWidth * length a + tableWeights .measure * length (build header (itemsOf q a) .measures) + tableWeights .note * length (notesOf (build header (itemsOf q a))) + tableWeights .pitch * length (pitchesOf (build header (itemsOf q a))) + tableWeights .syllable * length (lyrics (build header (itemsOf q a)))
+    → itemWeight * length a + tableWeights .measure * length (build header (itemsOf q a) .measures) + tableWeights .note * length (notesOf (build header (itemsOf q a))) + tableWeights .pitch * length (pitchesOf (build header (itemsOf q a))) + tableWeights .syllable * length (lyrics (build header (itemsOf q a)))
     ≤ scratchPerByte * length text + scratchPerLineFeed + tableWeights .measure
 tables-most text t a q header e =
     let is = itemsOf q a in
@@ -125,7 +125,7 @@ tables-most text t a q header e =
 -- and at any token of any line of it: its measures, notes, pitches and accidentals in force, and a row for each syllable to come
 pub tables-within : (text : List ℕ) (t : ScanState) (a : Items) (q : ℕ) (header : Key) → scan (textLines text) ≡ on t a
     → (is js : List Item) (u : ℕ) (m : Meter) (l : List ℕ) (ts us : List Token) → itemsOf q a ≡ is ++ (musicLine u m l ∷ js) → tokens 0 l ≡ ts ++ us
-    → itemRowWidth * length a + stateWeight tableWeights (foldl onToken (lineBegins u m (foldl (onItem header) newPart is)) ts) + tableWeights .syllable * length (lyrics (build header (itemsOf q a)))
+    → itemWeight * length a + stateWeight tableWeights (foldl onToken (lineBegins u m (foldl (onItem header) newPart is)) ts) + tableWeights .syllable * length (lyrics (build header (itemsOf q a)))
     ≤ scratchPerByte * length text + scratchPerLineFeed + tableWeights .measure
 unfolding musicBytes
 tables-within text t a q header e is js u m l ts us f g =

@@ -56,18 +56,22 @@ lyricRowWidth = 16
 abbrev pub itemRowWidth : ℕ
 itemRowWidth = 16
 
+-- what an item takes: its row in the line table, and one in the line table of its part
+abbrev pub itemWeight : ℕ
+itemWeight = itemRowWidth + itemRowWidth
+
 -- the tables of a part in scratch, by their rows: a measure's bytes for each byte of a line
 abbrev pub tableWeights : Weights
 tableWeights =
     record { measure = measureWidth; note = noteRowWidth + lyricHeadWidth; pitch = pitchWidth; accidental = scopeRowWidth; syllable = lyricRowWidth; text = 0; byte = measureWidth; kept = 3 }
 
--- the budget of each byte of the text for the line table and one part's tables
+-- the budget of each byte of the text for both line tables and one part's tables
 abbrev pub scratchPerByte : ℕ
 scratchPerByte = 32
 
 -- what is left to a line's line feed
 abbrev pub scratchPerLineFeed : ℕ
-scratchPerLineFeed = 20
+scratchPerLineFeed = 28
 
 -- ONE OF EACH, to count it. Notes
 abbrev pub noteWeights : Weights

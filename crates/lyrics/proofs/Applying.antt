@@ -258,9 +258,9 @@ none-sung text s h =
     map-none text s (h .log) (rows headOf lyricHeadWidth s (h .heads) (h .sounded)) ∙ ap (λ (k : ℕ). replicate k []) (length-rows headOf lyricHeadWidth s (h .heads) (h .sounded))
 
 -- the lines are those that stand before the tables
-same-lines : (text s t : List ℕ) (n p lo : ℕ) → take lo t ≡ take lo s → itemsFrom + itemRowWidth * n ≤ lo → linesIn text t p n ≡ linesIn text s p n
+pub lines-front : (text s t : List ℕ) (p n lo : ℕ) → take lo t ≡ take lo s → itemsFrom + itemRowWidth * n ≤ lo → linesIn text t p n ≡ linesIn text s p n
 unfolding linesIn
-same-lines text s t n p lo e h = ap (λ (rs : List items.Row). map (lineIn text) (filter (isLine p) rs)) (rows-front decItem itemRowWidth s t lo itemsFrom n e h)
+lines-front text s t p n lo e h = ap (λ (rs : List items.Row). map (lineIn text) (filter (isLine p) rs)) (rows-front decItem itemRowWidth s t lo itemsFrom n e h)
 
 module _ (text s : List ℕ) (n p : ℕ) (h : Sheet) (fits : Fits text s n p h) (t : List ℕ) (e : t ≡ splice s (h .heads) (zeros (h .heads + lyricHeadWidth * h .sounded - h .heads))) where
   cleared : Outside s t (h .heads) (h .log + lyricRowWidth * 0)
@@ -273,7 +273,7 @@ module _ (text s : List ℕ) (n p : ℕ) (h : Sheet) (fits : Fits text s n p h) 
       }
 
   lines-now : linesIn text t p n ≡ linesIn text s p n
-  lines-now = same-lines text s t n p (h .heads) (cleared .low) (fits .before-heads)
+  lines-now = lines-front text s t p n (h .heads) (cleared .low) (fits .before-heads)
 
   pub cleared-kept : Kept t (withCount h 0)
   unfolding headsIn

@@ -3,12 +3,9 @@ use Prim.Native.Nat.{ℕ, _+_}
 use mathlib.Core.Path.{_≡_, refl, ap, _∙_}
 use mathlib.Core.List.{List, [], _∷_, _++_, map}
 use native.Mathlib.Omega.{arith}
-use lib.Dec.{eqb}
 use Rattle.laws.specs.Lists.{concat}
-use Rattle.laws.proofs.Bools.{by-test}
 use Rattle.laws.proofs.Lists.{map-append, concat-append}
 use Rattle.reader.specs.Scan.{Item}
-use Rattle.reader.specs.Steps.{itemsOf}
 use Rattle.capacity.specs.Music.{musicIn, musicOf}
 use Rattle.capacity.proofs.Tokens.{bars-both, letters-both, rests-both, signs-both}
 use Rattle.part_registers.specs.declared.Tables.{Tables}
@@ -19,11 +16,6 @@ use Rattle.part_invariant.specs.Lines.{RoomForBytes, GrowsBy}
 -- the music of two lists of items
 pub music-append : (xs ys : List Item) → musicOf (xs ++ ys) ≡ musicOf xs ++ musicOf ys
 music-append xs ys = ap concat (map-append musicIn xs ys) ∙ concat-append (map musicIn xs) (map musicIn ys)
-
--- the part's own of two lists
-pub mine-append : (p : ℕ) (xs ys : List (ℕ × Item)) → itemsOf p (xs ++ ys) ≡ itemsOf p xs ++ itemsOf p ys
-mine-append p [] ys = refl
-mine-append p (x ∷ xs) ys = by-test (eqb (x .0) p) (λ e. rw e (ap (λ (l : List Item). x .1 ∷ l) (mine-append p xs ys))) (λ e. rw e (mine-append p xs ys))
 
 -- ROOM
 module _ {t : Tables} {c : Counts} {size : ℕ} (a b : List ℕ) (r : RoomForBytes t c size (a ++ b)) where

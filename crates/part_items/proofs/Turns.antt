@@ -13,7 +13,7 @@ use Rattle.laws.specs.Bytes.{part, between, splice, le32, rows}
 use Rattle.laws.proofs.Bools.{by-test, and-no-left, and-no-right, and-both, cond-true, cond-false}
 use Rattle.laws.proofs.Lists.{foldl-append, map-append, filter-yes, filter-no, drop-next}
 use Rattle.laws.proofs.Parts.{part-front, part-back}
-use Rattle.laws.proofs.Rows.{rows-none, rows-more, rows-front}
+use Rattle.laws.proofs.Rows.{rows-none}
 use Rattle.laws.proofs.Splices.{length-splice}
 use Rattle.laws.proofs.Numbers.{length-little}
 use Rattle.standard.specs.Keys.{Key}
@@ -21,15 +21,16 @@ use Rattle.standard.specs.Lyrics.{nextVerse}
 use Rattle.reader.specs.State.{Sung}
 use Rattle.reader.specs.Scan.{Item, voiceDeclared, reset, keyInHeader, keyChange, meterChange, lyricLine, musicLine}
 use Rattle.reader.specs.Steps.{itemsOf}
+use Rattle.blocks.proofs.Runs.{mine-append}
 use Rattle.part_layout.specs.Log.{LogState, newLog, onLine}
 use Rattle.part_layout.specs.Ends.{onLyric, onItem}
 use Rattle.part_layout.proofs.Lines.{between-items}
 use Rattle.part_layout.proofs.Back.{reverse-back}
 use Rattle.scan_table.specs.declared.Row.{Row}
 use Rattle.scan_table.specs.Rows.{rowFrom, itemAt, voiceDeclaredKind, resetKind, keyInHeaderKind, keyChangeKind, meterChangeKind, lyricLineKind, itemsFrom, itemRowWidth, decItem, itemAs, itemIn, itemsIn, bAt, unitAt, lyricRow, withLyric, RowIs}
-use Rattle.scan_table.proofs.Rows.{music-kind, lyric-back, items-none, items-get, length-items}
+use Rattle.scan_table.proofs.Rows.{music-kind, lyric-back, items-none, items-more, items-get, length-items}
 use Rattle.lyrics.specs.Items.{isLine, lineIn, lineOf, linesIn}
-use Rattle.lyrics.proofs.Applying.{item-words, lines-more}
+use Rattle.lyrics.proofs.Applying.{item-words, lines-more, lines-front}
 use Rattle.part_rows.specs.Table.{Only}
 use Rattle.part_rows.proofs.Tables.{only-none, only-then, only-wider}
 use Rattle.part_registers.specs.declared.Tables.{Tables}
@@ -39,7 +40,7 @@ use Rattle.part_invariant.proofs.Appending.{room-same}
 use Rattle.part_invariant.specs.Lines.{RoomForBytes, RepresentedBetween, GrowsBy, SimulatesItem}
 use Rattle.capacity.specs.Music.{musicIn, musicOf}
 use Rattle.part_items.specs.Items.{begun, versed, ownAt, Ready, Taken, after, Built}
-use Rattle.part_items.proofs.Music.{music-append, mine-append, rest-first, rest-then, rest-as, rest-room, grows-none}
+use Rattle.part_items.proofs.Music.{music-append, rest-first, rest-then, rest-as, rest-room, grows-none}
 use Rattle.part_items.proofs.Each.{begun-represented, addedBy, item-lines}
 use Rattle.part_items.proofs.Rows.{only-lyric, represented-behind}
 
@@ -250,25 +251,12 @@ items-as text s s₀ (suc n) h =
     ∙ (λ i. items-as text s s₀ n (λ j l. h j (omega arith)) i ++ (h n (omega arith) i ∷ []))
     ∙ sym (map-append (itemIn text) (rows decItem itemRowWidth s₀ itemsFrom n) (itemAt s₀ n ∷ []))
 
-items-more : (text s : List ℕ) (i : ℕ) → itemsIn text s (i + 1) ≡ itemsIn text s i ++ (itemIn text (itemAt s i) ∷ [])
-unfolding itemsIn
-items-more text s i = ap (map (itemIn text)) (rows-more decItem itemRowWidth s itemsFrom i) ∙ map-append (itemIn text) (rows decItem itemRowWidth s itemsFrom i) (itemAt s i ∷ [])
-
 -- the part after one item more
 after-more : (header : Key) (text s : List ℕ) (p i : ℕ) → after header text s p (i + 1) ≡ foldl (onItem header) (after header text s p i) (ownAt text p s i)
 after-more header text s p i =
     ap (λ (xs : List (ℕ × Item)). foldl (onItem header) newLog (itemsOf p xs)) (items-more text s i)
     ∙ ap (foldl (onItem header) newLog) (mine-append p (itemsIn text s i) (itemIn text (itemAt s i) ∷ []))
     ∙ foldl-append (onItem header) newLog (itemsOf p (itemsIn text s i)) (ownAt text p s i)
-
--- what stands before a place that is not written
-pub items-front : (text s s′ : List ℕ) (n m : ℕ) → take m s′ ≡ take m s → itemsFrom + itemRowWidth * n ≤ m → itemsIn text s′ n ≡ itemsIn text s n
-unfolding itemsIn
-items-front text s s′ n m e h = ap (map (itemIn text)) (rows-front decItem itemRowWidth s s′ m itemsFrom n e h)
-
-pub lines-front : (text s s′ : List ℕ) (p i m : ℕ) → take m s′ ≡ take m s → itemsFrom + itemRowWidth * i ≤ m → linesIn text s′ p i ≡ linesIn text s p i
-unfolding linesIn
-lines-front text s s′ p i m e h = ap (λ (rs : List Row). map (lineIn text) (filter (isLine p) rs)) (rows-front decItem itemRowWidth s s′ m itemsFrom i e h)
 
 module _ (text : List ℕ) (t : Tables) (header : Key) (p n : ℕ) (s₀ : List ℕ) (before : itemsFrom + itemRowWidth * n ≤ t .heads) where
   pub going-start : RoomForBytes t (begun .counts) (length s₀) (musicOf (itemsOf p (itemsIn text s₀ n))) → (r : Registers) → r ≡ begun → Going text t header p n s₀ s₀ r 0

@@ -14,11 +14,11 @@ use Rattle.laws.proofs.Lists.{drop-next, map-append, index-zero, index-suc}
 use Rattle.laws.proofs.Numbers.{littleAt-little, littleAt-part, littleAt-same, littleAt-below, littleAt-above}
 use Rattle.laws.proofs.Parts.{length-part, part-cut, getD-part, part-past, part-rest, between-none}
 use Rattle.laws.proofs.Splices.{length-splice, byte-below, byte-same, part-around}
-use Rattle.laws.proofs.Rows.{length-rows, rows-none, rows-push, rows-get, rows-below, rows-above}
+use Rattle.laws.proofs.Rows.{length-rows, rows-none, rows-more, rows-push, rows-get, rows-below, rows-above, rows-front}
 use Rattle.reader.specs.Scan.{Item, voiceDeclared, reset, keyInHeader, keyChange, meterChange, lyricLine, musicLine}
 use Rattle.scan_table.specs.declared.Place.{Place}
 use Rattle.scan_table.specs.declared.Row.{Row}
-use Rattle.scan_table.specs.Rows.{voiceRowWidth, itemsFrom, itemRowWidth, rowFrom, voiceStartAt, voiceEndAt, kindAt, partAt, aAt, bAt, startAt, endAt, unitAt, voiceDeclaredKind, resetKind, keyInHeaderKind, keyChangeKind, meterChangeKind, lyricLineKind, decVoice, voiceIn, voicesIn, decItem, encItem, itemAt, itemAs, itemIn, itemsIn, lyricRow, withLyric, Cut, PlaceIs, RowIs}
+use Rattle.scan_table.specs.Rows.{voiceRowWidth, itemsFrom, itemRowWidth, rowFrom, tableEnd, voiceStartAt, voiceEndAt, kindAt, partAt, aAt, bAt, startAt, endAt, unitAt, voiceDeclaredKind, resetKind, keyInHeaderKind, keyChangeKind, meterChangeKind, lyricLineKind, decVoice, voiceIn, voicesIn, decItem, encItem, itemAt, itemAs, itemIn, itemsIn, lyricRow, withLyric, Cut, PlaceIs, RowIs}
 
 -- READ BACK
 pub length-voice : (a b : ℕ) → length (le32 a ++ le32 b) ≡ voiceRowWidth
@@ -138,6 +138,11 @@ voice-read text s from r h =
     let y : u32At s (from + voiceEndAt) ≡ q .end = sym (littleAt-part 4 s from voiceRowWidth voiceEndAt (omega arith)) in
     record { order = h .order; high = h .high; same = h .same text refl ∙ (λ i. between text (x i) (y i)) }
 
+-- the part of an item's row
+pub part-read : (s : List ℕ) (i b : ℕ) → b ≡ getD s (rowFrom i + partAt) 0 → b ≡ itemAt s i .part
+unfolding decItem
+part-read s i b e = e ∙ sym (getD-part s (rowFrom i) itemRowWidth partAt (omega arith))
+
 -- VOICES
 pub length-voices : (text s : List ℕ) (n : ℕ) → length (voicesIn text s n) ≡ n
 unfolding voicesIn
@@ -211,6 +216,16 @@ items-push text s n r h k l room =
     ap (map (itemIn text)) (rows-push decItem itemRowWidth s itemsFrom n (encItem r) (length-item r) room)
     ∙ map-append (itemIn text) (rows decItem itemRowWidth s itemsFrom n) (decItem (encItem r) ∷ [])
     ∙ ap (λ (q : Row). map (itemIn text) (rows decItem itemRowWidth s itemsFrom n) ++ (itemIn text q ∷ [])) (item-back r h k l)
+
+-- one item more, which stands there
+pub items-more : (text s : List ℕ) (i : ℕ) → itemsIn text s (i + 1) ≡ itemsIn text s i ++ (itemIn text (itemAt s i) ∷ [])
+unfolding itemsIn
+items-more text s i = ap (map (itemIn text)) (rows-more decItem itemRowWidth s itemsFrom i) ∙ map-append (itemIn text) (rows decItem itemRowWidth s itemsFrom i) (itemAt s i ∷ [])
+
+-- the items stay as they were where the front of scratch does
+pub items-front : (text s s′ : List ℕ) (n m : ℕ) → take m s′ ≡ take m s → tableEnd n ≤ m → itemsIn text s′ n ≡ itemsIn text s n
+unfolding itemsIn
+items-front text s s′ n m e h = ap (map (itemIn text)) (rows-front decItem itemRowWidth s s′ m itemsFrom n e h)
 
 -- a write past them leaves the items alone
 pub items-below : (text s : List ℕ) (n at : ℕ) (bs : List ℕ) → rowFrom n ≤ at → itemsIn text (splice s at bs) n ≡ itemsIn text s n

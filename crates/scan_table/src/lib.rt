@@ -141,6 +141,14 @@ pub fn get_item(text: &[u8], scratch: &[u8], i: usize) -> Row
     }
 }
 
+// The number of item i's part.
+pub fn part_of(scratch: &[u8], i: usize) -> u8
+    requires { ⌜ rowFrom i + itemRowWidth ≤ length (now scratch) ⌝ }
+    ensures { λ r. ⌜ r ≡ itemAt (now (scratch .entry)) i .part ⌝ }
+{
+    scratch[ITEMS + ITEM * i + PART]
+}
+
 // Writes item i, which may be one more.
 pub fn put_item(scratch: &mut [u8], i: usize, r: Row)
     requires { ⌜ (rowFrom i + itemRowWidth ≤ length (now scratch)) × (r .at < 2 ^ 32) × (r .end < 2 ^ 32) ⌝ }
