@@ -1,7 +1,7 @@
 -- Syllables between hyphens, by position.
 use Prim.Native.Nat.{ℕ, suc, _+_, _≤_, _<_}
 use mathlib.Core.Path.{_≡_, refl, sym, ap, _∙_}
-use mathlib.Core.Bool.{Bool, true, false, not}
+use mathlib.Core.Bool.{Bool, true, false}
 use mathlib.Core.List.{List, [], _∷_}
 use native.Mathlib.Omega.{arith}
 use lib.ListN.{length, getD, take, drop}
@@ -16,10 +16,8 @@ use Rattle.reader.specs.Pieces.{pieces, words, separator}
 use Rattle.reader.specs.Lyrics.{orSkip}
 use Rattle.reader.specs.Codes.{syllabicCode}
 use Rattle.reader.proofs.WordLaws.{stretch, words-separator, words-word}
-use Rattle.lyric_words.specs.Words.{isHyphen, asSyllabic}
-
-abbrev pub noHyphen : ℕ → Bool
-noHyphen c = not (isHyphen c)
+use Rattle.lyric_spans.specs.Spans.{isHyphen, noHyphen}
+use Rattle.lyric_words.specs.Words.{asSyllabic}
 
 -- a syllabic is that of its number
 pub syllabic-back : (c : Syllabic) → asSyllabic (syllabicCode c) ≡ c

@@ -1,3 +1,3 @@
-pub mod Whites
 pub mod Hyphens
 pub mod Tokens
+pub mod Plain

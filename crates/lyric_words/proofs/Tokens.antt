@@ -18,12 +18,13 @@ use Rattle.standard.specs.Lyrics.{Syllabic, single, begins, ends, middle, sylla
 use Rattle.reader.specs.Pieces.{words, separator, whiteAt}
 use Rattle.reader.specs.Lyrics.{orSkip, wordOf, wordsOf, lyricWords}
 use Rattle.reader.specs.Codes.{syllabicCode}
+use Rattle.lyric_spans.specs.Spans.{isHyphen, noHyphen, WordStart, Closed, WordEnd}
 use Rattle.lyric_words.specs.declared.Token.{Token}
 use Rattle.lyric_words.specs.declared.Token.the-variants as T
 use Rattle.lyric_words.specs.declared.Cursor.{Cursor}
 use Rattle.lyric_words.specs.declared.Read.{Read}
-use Rattle.lyric_words.specs.Words.{isHyphen, asSyllabic, Small, said, inWord, plainOf, ahead, WordStart, Closed, WordEnd, InWord, GoneOn, SyllableRead, PlainRead, WordRead, Ready, Settled, TokenRead, First}
-use Rattle.lyric_words.proofs.Hyphens.{noHyphen, syllabic-back, words-none, hyphens-past, piece-first, last-syllable, next-syllable, or-skip-some}
+use Rattle.lyric_words.specs.Words.{asSyllabic, Small, said, inWord, plainOf, ahead, InWord, GoneOn, SyllableRead, PlainRead, WordRead, Ready, Settled, TokenRead, First}
+use Rattle.lyric_words.proofs.Hyphens.{syllabic-back, words-none, hyphens-past, piece-first, last-syllable, next-syllable, or-skip-some}
 
 abbrev pub cursor : ℕ → ℕ → Bool → Bool → Cursor
 cursor at word led trailed = record { at = at; word = word; led = led; trailed = trailed }

@@ -1,22 +1,21 @@
 -- A lyric line as the code reads it: the words still to come at a cursor, and what a token says.
-use Prim.Native.Nat.{ℕ, _+_, _<_, _≤_, min}
+use Prim.Native.Nat.{ℕ, _+_, _-_, _<_, _≤_, min}
 use mathlib.Core.Path.{_≡_}
-use mathlib.Core.Bool.{Bool, false, cond}
+use mathlib.Core.Bool.{Bool, true, false, cond, not, _&&_, _||_}
 use mathlib.Core.List.{List, [], _∷_, _++_}
-use lib.Dec.{eqb}
+use lib.Dec.{eqb, leb}
 use lib.ListN.{length, getD}
 use Rattle.laws.specs.Bytes.{between}
 use Rattle.standard.specs.Bytes.{is, first, last}
 use Rattle.standard.specs.Lyrics.{Syllabic, single, begins, ends, middle, Word, skip, hold, syllable, syllables, syllableText}
+use Rattle.reader.specs.Text.{isSpace}
 use Rattle.reader.specs.Pieces.{words, separator, whiteAt}
 use Rattle.reader.specs.Lyrics.{orSkip, wordOf, lyricWords}
+use Rattle.lyric_spans.specs.Spans.{isHyphen}
 use Rattle.lyric_words.specs.declared.Token.{Token}
 use Rattle.lyric_words.specs.declared.Token.the-variants as T
 use Rattle.lyric_words.specs.declared.Cursor.{Cursor}
 use Rattle.lyric_words.specs.declared.Read.{Read}
-
-abbrev pub isHyphen : ℕ → Bool
-isHyphen c = is "-" c
 
 -- a syllabic by its number
 unfoldable pub asSyllabic : ℕ → Syllabic
@@ -48,23 +47,18 @@ plainOf w = orSkip (syllables (isHyphen (first w)) (isHyphen (last w)) (words (s
 unfoldable pub ahead : List ℕ → ℕ → Cursor → List Word
 ahead text end c = inWord text c ++ lyricWords (between text (c .word) end)
 
--- r is where the next word begins: white space before it is passed over
-pub record WordStart (text : List ℕ) (at end r : ℕ) : Type 0 where
-  pub low : at ≤ r
-  pub high : r ≤ end
-  pub same : words whiteAt (between text at end) ≡ words whiteAt (between text r end)
-  pub starts : r < end → whiteAt (between text r end) ≡ 0
+-- A PLAIN WORD
+-- `|`, `*` and `_` are words of their own
+abbrev pub isSign : ℕ → Bool
+isSign c = is "|" c || (is "*" c || is "_" c)
 
--- a word ends at `word`: behind it is white space, or nothing
-pub record Closed (text : List ℕ) (word end : ℕ) : Type 0 where
-  pub high : word ≤ end
-  pub ends : word < end → 0 < whiteAt (between text word end)
+-- at `at` a space stands, or the line is over
+abbrev pub closedAt : List ℕ → ℕ → ℕ → Bool
+closedAt text at end = cond (leb end at) true (isSpace (getD text at 0))
 
--- r is the end of the word at `at`
-pub record WordEnd (text : List ℕ) (at end r : ℕ) : Type 0 where
-  pub past : at < r
-  pub word : words whiteAt (between text at end) ≡ between text at r ∷ words whiteAt (between text r end)
-  pub closed : Closed text r end
+-- plain bytes from at up to plain, one at least: a word, and none of those signs
+abbrev pub oneSyllable : List ℕ → ℕ → ℕ → ℕ → Bool
+oneSyllable text at plain end = not (eqb plain at) && (closedAt text plain end && not (eqb (plain - at) 1 && isSign (getD text at 0)))
 
 -- a cursor that stands at a syllable or at a word's end
 pub record InWord (text : List ℕ) (c : Cursor) : Type 0 where

@@ -1,14 +1,12 @@
 // The words of a lyric line, from left to right: white space, bars, notes skipped and held, syllables between hyphens.
 ghost use Prim.Native.Nat.{_≤_, _<_};
 ghost use mathlib.Core.Path.{_≡_};
-ghost use mathlib.Core.Bool.{false, not};
+ghost use mathlib.Core.Bool.{false};
 ghost use lib.ListN.{length, getD};
-ghost use Rattle.laws.specs.Bytes.{between};
-ghost use Rattle.laws.specs.Spans.{endIn};
 ghost use Rattle.standard.specs.Lyrics.{syllabicOf};
-ghost use Rattle.reader.specs.Pieces.{whiteAt};
 ghost use Rattle.reader.specs.Codes.{syllabicCode};
-ghost use Rattle.lyric_words.specs.Words.{isHyphen, WordStart, WordEnd, Closed, InWord, SyllableRead, PlainRead, WordRead, Ready, Settled, TokenRead, First};
+ghost use Rattle.lyric_spans.specs.Spans.{isHyphen, Closed};
+ghost use Rattle.lyric_words.specs.Words.{InWord, SyllableRead, PlainRead, WordRead, isSign, closedAt, oneSyllable, Ready, Settled, TokenRead, First};
 
 // One word, or one syllable of a word: where it stands, and its syllabic's number.
 pub enum Token {
@@ -32,87 +30,6 @@ pub struct Read {
     pub cursor: Cursor,
 }
 
-// The first byte at or behind `at` that is no white space, or `end`.
-fn past_white(text: &[u8], at: usize, end: usize) -> usize
-    requires { ⌜ (at ≤ end) × (end ≤ length (now text)) ⌝ }
-    ensures { λ r. ⌜ WordStart (now (text .entry)) at end r ⌝ }
-{
-    let mut i = at;
-    while i < end {
-        let w = text_white::white_at(text, i, end);
-        if w == 0 {
-            return i;
-        }
-        i += w;
-    }
-    i
-}
-
-// The same, byte by byte as long as they are ASCII.
-fn word_start(text: &[u8], at: usize, end: usize) -> usize
-    requires { ⌜ (at ≤ end) × (end ≤ length (now text)) ⌝ }
-    ensures { λ r. ⌜ WordStart (now (text .entry)) at end r ⌝ }
-{
-    let mut i = at;
-    while i < end {
-        let b = text[i];
-        if 127 < b {
-            return past_white(text, i, end);
-        }
-        if !text_bytes::is_space(b) {
-            return i;
-        }
-        i += 1;
-    }
-    i
-}
-
-// The end of the word that begins at `at`.
-fn word_end(text: &[u8], at: usize, end: usize) -> usize
-    requires { ⌜ (at < end) × (end ≤ length (now text)) × (whiteAt (between (now text) at end) ≡ 0) ⌝ }
-    ensures { λ r. ⌜ WordEnd (now (text .entry)) at end r ⌝ }
-{
-    let mut i = at;
-    while i < end {
-        let w = text_white::white_at(text, i, end);
-        if 0 < w {
-            return i;
-        }
-        i += 1;
-    }
-    i
-}
-
-// The first byte at or behind `at` that is no hyphen, or `end`.
-fn hyphens_end(text: &[u8], at: usize, end: usize) -> usize
-    requires { ⌜ (at ≤ end) × (end ≤ length (now text)) ⌝ }
-    ensures { λ r. ⌜ r ≡ endIn isHyphen (now (text .entry)) at end ⌝ }
-{
-    let mut i = at;
-    while i < end {
-        if text[i] != b'-' {
-            return i;
-        }
-        i += 1;
-    }
-    i
-}
-
-// The first hyphen at or behind `at`, or `end`.
-fn piece_end(text: &[u8], at: usize, end: usize) -> usize
-    requires { ⌜ (at ≤ end) × (end ≤ length (now text)) ⌝ }
-    ensures { λ r. ⌜ r ≡ endIn (λ c. not (isHyphen c)) (now (text .entry)) at end ⌝ }
-{
-    let mut i = at;
-    while i < end {
-        if text[i] == b'-' {
-            return i;
-        }
-        i += 1;
-    }
-    i
-}
-
 // The number of a syllabic, by the hyphens before and behind the syllable.
 fn syllabic(before: bool, behind: bool) -> u8
     ensures { λ r. ⌜ r ≡ syllabicCode (syllabicOf before behind) ⌝ }
@@ -131,8 +48,8 @@ fn syllable(text: &[u8], from: Cursor) -> Read
     requires { ⌜ (from .at < from .word) × (from .word ≤ length (now text)) × (isHyphen (getD (now text) (from .at) 0) ≡ false) ⌝ }
     ensures { λ r. ⌜ SyllableRead (now (text .entry)) from r ⌝ }
 {
-    let end = piece_end(text, from.at, from.word);
-    let next = hyphens_end(text, end, from.word);
+    let end = lyric_spans::piece_end(text, from.at, from.word);
+    let next = lyric_spans::hyphens_end(text, end, from.word);
     let cursor = Cursor {
         at: next,
         word: from.word,
@@ -158,7 +75,7 @@ fn plain_word(text: &[u8], at: usize, word: usize) -> Read
     requires { ⌜ (at < word) × (word ≤ length (now text)) ⌝ }
     ensures { λ r. ⌜ PlainRead (now (text .entry)) at word r ⌝ }
 {
-    let next = hyphens_end(text, at, word);
+    let next = lyric_spans::hyphens_end(text, at, word);
     if next == word {
         return Read {
             token: Token::Skip,
@@ -217,6 +134,49 @@ fn word_token(text: &[u8], at: usize, word: usize) -> Read
     plain_word(text, at, word)
 }
 
+// A PLAIN WORD: one syllable, without a hyphen
+
+// A byte that is a word of its own.
+fn is_sign(b: u8) -> bool
+    ensures { λ r. ⌜ r ≡ isSign b ⌝ }
+{
+    if b == b'|' {
+        return true;
+    }
+    if b == b'*' {
+        return true;
+    }
+    b == b'_'
+}
+
+// A word ends at `at`: a space stands there, or the line is over.
+fn is_closed(text: &[u8], at: usize, end: usize) -> bool
+    requires { ⌜ end ≤ length (now text) ⌝ }
+    ensures { λ r. ⌜ r ≡ closedAt (now (text .entry)) at end ⌝ }
+{
+    if end <= at {
+        return true;
+    }
+    text_bytes::is_space(text[at])
+}
+
+// The plain bytes from `at` up to `plain` are a word, and one that is a syllable.
+fn is_one_syllable(text: &[u8], at: usize, plain: usize, end: usize) -> bool
+    requires { ⌜ (at < end) × (at ≤ plain) × (end ≤ length (now text)) ⌝ }
+    ensures { λ r. ⌜ r ≡ oneSyllable (now (text .entry)) at plain end ⌝ }
+{
+    if plain == at {
+        return false;
+    }
+    if !is_closed(text, plain, end) {
+        return false;
+    }
+    if plain - at != 1 {
+        return true;
+    }
+    !is_sign(text[at])
+}
+
 // The cursor past white space, where it stands behind a word.
 fn settle(text: &[u8], from: Cursor, end: usize) -> Cursor
     requires { ⌜ (InWord (now text) from) × (Closed (now text) (from .word) end) × (end ≤ length (now text)) ⌝ }
@@ -225,7 +185,7 @@ fn settle(text: &[u8], from: Cursor, end: usize) -> Cursor
     if from.at < from.word {
         return from;
     }
-    let at = word_start(text, from.word, end);
+    let at = lyric_spans::word_start(text, from.word, end);
     Cursor {
         at,
         word: at,
@@ -239,7 +199,7 @@ pub fn first_cursor(text: &[u8], at: usize, end: usize) -> Cursor
     requires { ⌜ (at ≤ end) × (end ≤ length (now text)) ⌝ }
     ensures { λ r. ⌜ First (now (text .entry)) at end r ⌝ }
 {
-    let start = word_start(text, at, end);
+    let start = lyric_spans::word_start(text, at, end);
     Cursor {
         at: start,
         word: start,
@@ -259,7 +219,21 @@ pub fn abc_lyric_token(text: &[u8], from: Cursor, end: usize) -> Read
         let cursor = settle(text, r.cursor, end);
         return Read { token, cursor };
     }
-    let word = word_end(text, from.at, end);
+    let plain = lyric_spans::plain_end(text, from.at, end);
+    if is_one_syllable(text, from.at, plain, end) {
+        let at = lyric_spans::word_start(text, plain, end);
+        let cursor = Cursor {
+            at,
+            word: at,
+            led: false,
+            trailed: false,
+        };
+        return Read {
+            token: Token::Syllable(from.at, plain, 0),
+            cursor,
+        };
+    }
+    let word = lyric_spans::word_end(text, from.at, end);
     let r = word_token(text, from.at, word);
     let token = r.token;
     let cursor = settle(text, r.cursor, end);

@@ -5,7 +5,7 @@ use Prim.Native.Nat.{ℕ, _<_}
 use native.Mathlib.Omega.{arith}
 use lib.ListN.{getD}
 use Rattle.laws.proofs.Parts.{endIn-le, endIn-stops}
-use Rattle.lyric_words.specs.Words.{isHyphen}
+use Rattle.lyric_spans.specs.Spans.{isHyphen}
 use Rattle.lyric_words.proofs.Tokens.{plain-skip, plain-first}
 use Rattle.lyric_words.proofs.plain_word.Statement.{statement}
 use Rattle.lyric_words.proofs.plain_word.Tie as tie

@@ -2,7 +2,7 @@
 use borrow.Author.Needs.{needs}
 use native.Mathlib.Omega.{arith}
 use Rattle.laws.proofs.Parts.{endIn-le}
-use Rattle.lyric_words.proofs.Hyphens.{noHyphen}
+use Rattle.lyric_spans.specs.Spans.{noHyphen}
 use Rattle.lyric_words.proofs.Tokens.{syllable-next, syllable-last}
 use Rattle.lyric_words.proofs.syllable.Statement.{statement}
 use Rattle.lyric_words.proofs.syllable.Tie as tie

@@ -11,7 +11,7 @@ use Rattle.reader.specs.Text.{isSpace, isBlank}
 use Rattle.reader.specs.Pieces.{words, whiteAt}
 use Rattle.reader.proofs.WordLaws.{stretch, words-separator, words-word}
 use Rattle.text_white.proofs.Whites.{widthBy, width-space, width-plain}
-use Rattle.lyric_words.specs.Words.{WordStart, WordEnd}
+use Rattle.lyric_spans.specs.Spans.{WordStart, WordEnd}
 
 -- a white character is within the text
 pub white-le : (s : List ℕ) → 0 < length s → whiteAt s ≤ length s
@@ -56,8 +56,11 @@ module _ (text : List ℕ) (i end : ℕ) (h : i < end) (l : end ≤ length text)
       ∙ ap (words whiteAt) (drop-between text (i + 1) end n ∙ ap (λ (j : ℕ). between text j end) k)
 
   -- ASCII by one byte: a space is passed over, another byte begins no white space
+  pub space-here : isSpace (getD text i 0) ≡ true → 1 ≡ whiteAt (between text i end)
+  space-here e = width-space (getD text i 0) (between text (i + 1) end) e ∙ ap whiteAt (sym here)
+
   pub space-past : isSpace (getD text i 0) ≡ true → words whiteAt (between text i end) ≡ words whiteAt (between text (i + 1) end)
-  space-past e = white-past 1 (width-space (getD text i 0) (between text (i + 1) end) e ∙ ap whiteAt (sym here)) (omega arith)
+  space-past e = white-past 1 (space-here e) (omega arith)
 
   pub plain-here : getD text i 0 ≤ 127 → isSpace (getD text i 0) ≡ false → whiteAt (between text i end) ≡ 0
   plain-here k e = sym (width-plain (getD text i 0) (between text (i + 1) end) k e ∙ ap whiteAt (sym here))

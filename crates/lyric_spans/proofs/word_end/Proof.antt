@@ -1,4 +1,4 @@
--- `lyric_words::word_end` meets its contract.
+-- `lyric_spans::word_end` meets its contract.
 use borrow.Author.Needs.{needs}
 use mathlib.Core.Path.{_≡_, refl, sym, ap, _∙_}
 use Prim.Native.Nat.{ℕ, _+_, _-_, _≤_, _<_}
@@ -6,9 +6,9 @@ use native.Mathlib.Omega.{arith}
 use Rattle.laws.specs.Bytes.{between}
 use Rattle.reader.specs.Pieces.{whiteAt}
 use Rattle.reader.proofs.WordLaws.{stretch}
-use Rattle.lyric_words.proofs.Whites.{stretch-on, stretch-off, stretch-over, end-here}
-use Rattle.lyric_words.proofs.word_end.Statement.{statement}
-use Rattle.lyric_words.proofs.word_end.Tie as tie
+use Rattle.lyric_spans.proofs.Whites.{stretch-on, stretch-off, stretch-over, end-here}
+use Rattle.lyric_spans.proofs.word_end.Statement.{statement}
+use Rattle.lyric_spans.proofs.word_end.Tie as tie
 
 abbrev Inv-loop : tie.InvT-loop
 Inv-loop text at end i₀ i = (i ≤ end) × (i + stretch whiteAt (between text i end) ≡ at + stretch whiteAt (between text at end))

@@ -1,4 +1,4 @@
--- `lyric_words::word_start` meets its contract.
+-- `lyric_spans::word_start` meets its contract.
 use borrow.Author.Needs.{needs}
 use mathlib.Core.Path.{_≡_, refl, sym, _∙_}
 use Prim.Native.Nat.{_-_, _≤_}
@@ -6,9 +6,9 @@ use native.Mathlib.Omega.{arith}
 use Rattle.laws.specs.Bytes.{between}
 use Rattle.laws.proofs.Bools.{not-true, not-false}
 use Rattle.reader.specs.Pieces.{words, whiteAt}
-use Rattle.lyric_words.proofs.Whites.{space-past, plain-here, start-here, start-before}
-use Rattle.lyric_words.proofs.word_start.Statement.{statement}
-use Rattle.lyric_words.proofs.word_start.Tie as tie
+use Rattle.lyric_spans.proofs.Whites.{space-past, plain-here, start-here, start-before}
+use Rattle.lyric_spans.proofs.word_start.Statement.{statement}
+use Rattle.lyric_spans.proofs.word_start.Tie as tie
 
 abbrev Inv-loop : tie.InvT-loop
 Inv-loop text at end i₀ i = (at ≤ i) × (i ≤ end) × (words whiteAt (between text at end) ≡ words whiteAt (between text i end))

@@ -1,13 +1,13 @@
--- `lyric_words::past_white` meets its contract.
+-- `lyric_spans::past_white` meets its contract.
 use borrow.Author.Needs.{needs}
 use mathlib.Core.Path.{_≡_, refl, sym, _∙_}
 use Prim.Native.Nat.{_-_, _≤_}
 use native.Mathlib.Omega.{arith}
 use Rattle.laws.specs.Bytes.{between}
 use Rattle.reader.specs.Pieces.{words, whiteAt}
-use Rattle.lyric_words.proofs.Whites.{white-in, white-past, start-here}
-use Rattle.lyric_words.proofs.past_white.Statement.{statement}
-use Rattle.lyric_words.proofs.past_white.Tie as tie
+use Rattle.lyric_spans.proofs.Whites.{white-in, white-past, start-here}
+use Rattle.lyric_spans.proofs.past_white.Statement.{statement}
+use Rattle.lyric_spans.proofs.past_white.Tie as tie
 
 abbrev Inv-loop : tie.InvT-loop
 Inv-loop text at end i₀ i = (at ≤ i) × (i ≤ end) × (words whiteAt (between text at end) ≡ words whiteAt (between text i end))

@@ -1,0 +1,2 @@
+pub mod Whites
+pub mod Plain
