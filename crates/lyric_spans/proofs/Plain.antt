@@ -67,7 +67,7 @@ module _ (text : List ℕ) (end : ℕ) (l : end ≤ length text) where
     plain-word m c =
         let n : at + (r - at) ≡ r = omega arith in
         let all : at + stretch whiteAt (between text at end) ≡ r + stretch whiteAt (between text r end) =
-            stretch-plain (r - at) at (omega (arith, plain-le)) (λ k a b. plain-inside k a (omega arith)) ∙ ap (λ (k : ℕ). k + stretch whiteAt (between text k end)) n in
+        stretch-plain (r - at) at (omega (arith, plain-le)) (λ k a b. plain-inside k a (omega arith)) ∙ ap (λ (k : ℕ). k + stretch whiteAt (between text k end)) n in
         end-here text at end r h l (no-white at h (plain-inside at (omega arith) m)) (ap (λ (k : ℕ). r + k) (sym (over (decLt r end))) ∙ sym all) plain-le (c .ends)
       where
         over : Dec (r < end) → stretch whiteAt (between text r end) ≡ 0
