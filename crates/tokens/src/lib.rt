@@ -237,7 +237,8 @@ fn tokenise(cut: Cut, unit: u32) -> Tokenised
     }
 }
 
-// The token at `at`, under the unit 1 / `unit`. `classes` is what `letter_classes` makes, once for a call. A note is read without the switch of `lexeme_at`.
+// The token at `at`, under the unit 1 / `unit`. `classes` is what `letter_classes` makes, once for a call. A note and white space are read without the
+// switch of `lexeme_at`.
 pub fn token_at(line: &[u8], at: usize, unit: u32, classes: &[u8; 128]) -> Tokenised
     requires { ⌜ (at < length (now line)) × (now classes ≡ classTable) ⌝ }
     ensures { λ r. ⌜ r ≡ tokenisedFor at unit (tokenOf (drop at (now (line .entry)))) ⌝ }
@@ -245,6 +246,12 @@ pub fn token_at(line: &[u8], at: usize, unit: u32, classes: &[u8; 128]) -> Token
     let class = token_symbols::class_of(classes, line[at]);
     if class == token_symbols::PITCHED {
         return tokenise(token_lexemes::note(line, at), unit);
+    }
+    if class == token_symbols::WHITE {
+        return Tokenised {
+            token: Token::Space,
+            next: at + 1,
+        };
     }
     tokenise(lexeme_at(line, at, class), unit)
 }
