@@ -1,18 +1,19 @@
--- A letter alone: where a plain byte or the line's end stands behind it, no octave mark, no length, no tie and no slur end does.
-use Prim.Native.Nat.{ℕ, _+_}
+-- A letter alone, and one with a length of one byte: where a plain byte or the line's end stands behind it, no octave mark, no length, no tie and no slur end does.
+use Prim.Native.Nat.{ℕ, suc, _+_, _≤_, _<_}
 use mathlib.Core.Path.{_≡_, refl, ap, _∙_}
 use mathlib.Core.Bool.{true, false}
 use mathlib.Core.Logic.{_⊎_, inl, inr}
 use mathlib.Core.List.{List, [], _∷_}
 use native.Mathlib.Omega.{arith}
 use lib.Dec.{ltb, leb, eqb}
-use borrow.Author.Tests.{ltb-true, lt-leb, eqb-true}
+use borrow.Author.Tests.{ltb-true, leb-true, le-leb, lt-leb, eqb-true, eqb-false, ne-eqb}
 use Rattle.laws.specs.Lists.{countWhile}
-use Rattle.laws.proofs.Bools.{by-test, both-true, and-no-left, and-no-right, or-either}
-use Rattle.laws.proofs.Spans.{count-while-off}
+use Rattle.laws.proofs.Bools.{by-test, both-true, and-left, and-right, and-both, and-no-left, and-no-right, or-either}
+use Rattle.laws.proofs.Spans.{count-while-yes, count-while-no, count-while-off}
 use Rattle.standard.specs.Bytes.{isDigit, first}
 use Rattle.standard.specs.Pitches.{stepOf, letterOctave}
-use Rattle.reader.specs.Lengths.{number, lengthOf}
+use Rattle.reader.specs.Text.{within}
+use Rattle.reader.specs.Lengths.{number, denominator, lengthOf}
 use Rattle.reader.specs.Pitches.{Octave, octaveFrom, octaveOf, Before}
 use Rattle.reader.specs.Sounds.{behind, noteAs}
 use Rattle.reader.specs.Token.{note, taken}
@@ -30,14 +31,18 @@ module _ (c : ℕ) (h : isPlain c ≡ true) where
       go (inl e) = and-no-left (leb 48 c) (leb c 57) (lt-leb 48 c (omega (arith, ltb-true c 39 e)))
       go (inr e) = and-no-right (leb 48 c) (leb c 57) (lt-leb c 57 (ltb-true 57 c e))
 
+-- neither a comma nor an apostrophe at the front
+marks-none : (s : List ℕ) → countWhile (λ c. eqb c 44) s ≡ 0 → countWhile (λ c. eqb c 39) s ≡ 0 → (c : ℕ) → octaveOf c s ≡ record { octave = letterOctave c; used = 0; fine = true }
+unfolding octaveOf octaveFrom letterOctave
+marks-none s m n c = by-test (ltb c 97) (λ e. rw (e, m, n)) (λ e. rw (e, m, n))
+
 -- what stands from the plain byte on
 module _ (s : List ℕ) (h : isPlain (first s) ≡ true) where
   no-run : (x : ℕ) → eqb 0 x ≡ false → isPlain x ≡ false → countWhile (λ c. eqb c x) s ≡ 0
   no-run x z k = count-while-off (λ c. eqb c x) z s 0 (no-sign (first s) h x k)
 
   no-marks : (c : ℕ) → octaveOf c s ≡ record { octave = letterOctave c; used = 0; fine = true }
-  unfolding octaveOf octaveFrom letterOctave
-  no-marks c = by-test (ltb c 97) (λ e. rw (e, no-run 44 refl refl, no-run 39 refl refl)) (λ e. rw (e, no-run 44 refl refl, no-run 39 refl refl))
+  no-marks c = marks-none s (no-run 44 refl refl) (no-run 39 refl refl) c
 
   no-length : lengthOf s ≡ record { num = 1; den = 1; used = 0 }
   unfolding lengthOf number
@@ -55,3 +60,34 @@ plain-note a c s h =
     let f : octaveOf c s .fine ≡ true = ap (λ (o : Octave). o .fine) (no-marks s h c) in
     let n : a .used + 1 + 0 + 0 + 0 ≡ a .used + 1 = omega arith in
     rw (f, noteAs) (rw (no-marks s h c, no-length s h, no-behind s h, n))
+
+-- A LENGTH OF ONE BYTE, a slash or a digit, with a plain byte behind it
+module _ (d : ℕ) (t : List ℕ) (h : within 47 57 d ≡ true) (p : isPlain (first t) ≡ true) where
+  low : 47 ≤ d
+  low = leb-true 47 d (and-left (leb 47 d) (leb d 57) h)
+
+  not-mark : (x : ℕ) → x < 47 → countWhile (λ c. eqb c x) (d ∷ t) ≡ 0
+  not-mark x l = count-while-no (λ c. eqb c x) d t (ne-eqb d x (λ e. omega (arith, e, low)))
+
+  rest-none : countWhile isDigit t ≡ 0
+  rest-none = count-while-off isDigit refl t 0 (no-digit (first t) p)
+
+  one-used : lengthOf (d ∷ t) .used ≡ 1
+  unfolding lengthOf denominator
+  one-used =
+      by-test (eqb d 47)
+      (λ e. let n : countWhile isDigit (d ∷ t) ≡ 0 = count-while-no isDigit d t (and-no-left (leb 48 d) (leb d 57) (lt-leb 48 d (omega (arith, eqb-true d 47 e)))) in
+      let z : 0 + 1 + countWhile isDigit t ≡ 1 = omega (arith, rest-none) in
+      rw (n, lengthOf) (rw e (rw n z)))
+      (λ e. let k : 48 ≤ d = omega (arith, low, eqb-false d 47 e) in
+      let n : countWhile isDigit (d ∷ t) ≡ 1 = count-while-yes isDigit d t (and-both (leb 48 d) (leb d 57) (le-leb 48 d k) (and-right (leb 47 d) (leb d 57) h)) ∙ ap suc rest-none in
+      rw (n, lengthOf) (rw (no-sign (first t) p 47 refl) n))
+
+  pub short-note : (a : Before) (c : ℕ)
+      → noteAs a c (d ∷ t) ≡ taken (note (record { step = stepOf c; octave = letterOctave c; sign = a .sign }) (lengthOf (d ∷ t)) (record { tie = false; slur = false; used = 0 })) (a .used + 2)
+  unfolding noteAs
+  short-note a c =
+      let m = marks-none (d ∷ t) (not-mark 44 (omega arith)) (not-mark 39 (omega arith)) c in
+      let f : octaveOf c (d ∷ t) .fine ≡ true = ap (λ (o : Octave). o .fine) m in
+      let n : a .used + 1 + 0 + 1 + 0 ≡ a .used + 2 = omega arith in
+      rw (f, noteAs) (rw m (rw one-used (rw (no-behind t p, n))))

@@ -3,12 +3,17 @@ use Prim.Native.Nat.{ℕ, suc, _+_, _-_, _≤_, _<_}
 use mathlib.Core.Path.{_≡_, sym, ap, _∙_}
 use mathlib.Core.Bool.{true, false}
 use mathlib.Core.List.{List, [], _∷_}
+use native.Mathlib.Decide.{decLt}
 use native.Mathlib.Omega.{arith}
-use lib.ListN.{length, getD, drop, length-drop, drop-of-length-le}
+use lib.Dec.{leb}
+use lib.ListN.{length, getD, drop, length-drop, drop-of-length-le, List·getD-eq-default}
 use lib.Seq.{drop-drop}
-use Rattle.laws.proofs.Bools.{by-test}
+use Rattle.laws.proofs.Bools.{by-test, and-left, and-right}
 use Rattle.laws.proofs.Lists.{drop-next, first-at}
-use Rattle.standard.specs.Pitches.{isLetter, stepOf}
+use borrow.Author.Tests.{leb-true}
+use Rattle.standard.specs.Pitches.{isLetter, stepOf, letterOctave}
+use Rattle.reader.specs.Text.{within}
+use Rattle.reader.specs.Token.{note, taken}
 use Rattle.standard.specs.Bytes.{first}
 use Rattle.standard.specs.Notes as standard
 use Rattle.reader.specs.Lengths.{Length, lengthOf}
@@ -27,9 +32,17 @@ use Rattle.token_pitches.specs.declared.Before as code
 use Rattle.token_pitches.proofs.Octaves.{fine, refused}
 use Rattle.token_pitches.proofs.Walk.{mark-back}
 use Rattle.token_pitches.proofs.InChord.{mark-forth}
-use Rattle.token_lexemes.specs.Lexemes.{isPlain, lexemeFor, cutFor}
+use Rattle.token_lexemes.specs.Lexemes.{isPlain, isShort, lexemeFor, cutFor}
 use Rattle.token_lexemes.specs.declared.Lexeme.the-variants.{Note, Nothing, Refused}
-use Rattle.token_lexemes.proofs.Plain.{plain-note}
+use Rattle.token_lexemes.proofs.Plain.{plain-note, short-note}
+
+-- a byte that is not 0 stands in the line
+inside-line : (line : List ℕ) (i : ℕ) → 47 ≤ getD line i 0 → i < length line
+inside-line line i h = go (decLt i (length line))
+  where
+    go : Dec (i < length line) → i < length line
+    go (yes l) = l
+    go (no l) = let z : getD line i 0 ≡ 0 = List·getD-eq-default line 0 (omega arith) in absurd (omega (arith, h, z))
 
 -- FROM THE LETTER ON
 note-out : (a : Before) (c : ℕ) (s : List ℕ) → octaveOf c s .fine ≡ false → (at : ℕ) → record { lexeme = Refused 12; next = at + (a .used + 1 + length s) } ≡ cutFor at (noteAs a c s)
@@ -71,6 +84,19 @@ module _ (line : List ℕ) (at : ℕ) (h : at < length line) (sign : Sign) (l : 
       let m : sign ≡ signFor (signOf sign) = sym (mark-forth sign) in
       (λ j. record { lexeme = Note (record { step = e j .step; octave = e j .octave; sign = m j }) 1 1 false false; next = at + 1 })
       ∙ ap (cutFor at) (sym (plain-note (record { sign = signOf sign; used = 0 }) (getD line at 0) (drop (at + 1) line) q))
+
+  -- a letter with a length of one byte
+  pub letter-short : isShort (getD line (at + 1) 0) (getD line (at + 2) 0) ≡ true → (a : Before)
+      → noteAs a (getD line at 0) (drop (at + 1) line)
+      ≡ taken (note (record { step = stepOf (getD line at 0); octave = letterOctave (getD line at 0); sign = a .sign }) (lengthOf (drop (at + 1) line)) (record { tie = false; slur = false; used = 0 })) (a .used + 2)
+  letter-short p a =
+      let b = getD line (at + 1) 0 in
+      let k : at + 1 + 1 ≡ at + 2 = omega arith in
+      let w : within 47 57 b ≡ true = and-left (within 47 57 b) (isPlain (getD line (at + 2) 0)) p in
+      let there : at + 1 < length line = inside-line line (at + 1) (leb-true 47 b (and-left (leb 47 b) (leb b 57) w)) in
+      let s : drop (at + 1) line ≡ b ∷ drop (at + 1 + 1) line = drop-next line (at + 1) 0 there in
+      let q : isPlain (first (drop (at + 1 + 1) line)) ≡ true = ap isPlain (first-at line (at + 1 + 1) ∙ ap (λ (i : ℕ). getD line i 0) k) ∙ and-right (within 47 57 b) (isPlain (getD line (at + 2) 0)) p in
+      rw s (short-note b (drop (at + 1 + 1) line) w q a (getD line at 0))
 
   pub letter-in : (octave next : ℕ) (r : octaveFor (at + 1) (octaveFrom (l .octave) (drop (at + 1) line)) ≡ At octave next)
       (len : Suffix) → len ≡ suffixAt line next → (b : runs.Behind) → b ≡ behindFor (len .next) (behind (drop (len .next) line))

@@ -1,8 +1,9 @@
 -- The definitions' tokens as the code has them.
 use Prim.Native.Nat.{ℕ, suc, _+_}
-use mathlib.Core.Bool.{Bool, _||_}
+use mathlib.Core.Bool.{Bool, _&&_, _||_}
 use lib.Dec.{ltb}
 use lib.ListN.{length, getD}
+use Rattle.reader.specs.Text.{within}
 use Rattle.reader.specs.Lengths.{Length}
 use Rattle.reader.specs.Token.{Token, space, overlay, quoted, broken, tuplet, slur, graceOpen, graceClose, decoration, barline, volta, unit, meter, key, field, chord, rest, note, nothing, skipped, refused, Taken}
 use Rattle.reader.specs.Barlines.{leftOf}
@@ -17,6 +18,10 @@ use Rattle.token_lexemes.specs.declared.Cut.{Cut}
 -- right behind a note's letter: neither an octave mark nor a length nor a tie nor a slur end begins with this byte
 abbrev pub isPlain : ℕ → Bool
 isPlain c = ltb c 39 || ltb 57 c
+
+-- right behind a note's letter: a length of one byte, a slash or a digit, with a plain byte behind it
+abbrev pub isShort : ℕ → ℕ → Bool
+isShort b c = within 47 57 b && isPlain c
 
 -- the token whose first byte stands at a position
 unfoldable pub lexemeFor : ℕ → Token → Lexeme

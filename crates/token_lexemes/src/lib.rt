@@ -10,7 +10,7 @@ ghost use Rattle.reader.specs.PassLists.{voltaOf};
 ghost use Rattle.reader.specs.Sounds.{noteAs};
 ghost use Rattle.reader.specs.Tokens.{closedBy, brokenOf, quote, paren, bars, pitched, tokenAs};
 ghost use Rattle.token_pitches.specs.Pitches.{signOf};
-ghost use Rattle.token_lexemes.specs.Lexemes.{isPlain, cutFor, restFor};
+ghost use Rattle.token_lexemes.specs.Lexemes.{isPlain, isShort, cutFor, restFor};
 use token_pitches::Pitch;
 use token_pitches::Sign;
 use token_symbols::Barline;
@@ -229,6 +229,16 @@ pub fn is_plain(b: u8) -> bool
     ensures { λ r. ⌜ r ≡ isPlain b ⌝ }
 {
     b < 39 || 57 < b
+}
+
+// Behind a note's letter `b` is its length, a slash or a digit, and `next` ends the note.
+pub fn is_short(b: u8, next: u8) -> bool
+    ensures { λ r. ⌜ r ≡ isShort b next ⌝ }
+{
+    if text_bytes::is_within(b'/', b'9', b) {
+        return is_plain(next);
+    }
+    false
 }
 
 // A note from its letter on, which stands at `at`, with the accidental before it; or refusal 12. Most are a letter alone.

@@ -315,15 +315,22 @@ fn effect_of(lexeme: Lexeme) -> Effect
     }
 }
 
-// What the scan wants of a note from its letter on, which stands at `at`: its end alone is sought.
+// What the scan wants of a note from its letter on, which stands at `at`: its end alone is sought, and most lengths have one byte.
 fn letter_effect(line: &[u8], at: usize) -> Effected
     requires { ⌜ at < length (now line) ⌝ }
     ensures { λ r. ⌜ r ≡ effectedFor at (noteAs (record { sign = none; used = 0 }) (getD (now (line .entry)) at 0) (drop (at + 1) (now (line .entry)))) ⌝ }
 {
-    if token_lexemes::is_plain(text_bytes::byte_at(line, at + 1)) {
+    let behind = text_bytes::byte_at(line, at + 1);
+    if token_lexemes::is_plain(behind) {
         return Effected {
             effect: Effect::Counts,
             next: at + 1,
+        };
+    }
+    if token_lexemes::is_short(behind, text_bytes::byte_at(line, at + 2)) {
+        return Effected {
+            effect: Effect::Counts,
+            next: at + 2,
         };
     }
     let letter = token_pitches::abc_note_char(line[at]);
@@ -339,10 +346,10 @@ fn letter_effect(line: &[u8], at: usize) -> Effected
     };
     let length = token_lengths::parse_duration_suffix(line, after_octave);
     let after_length = length.next;
-    let behind = text_runs::apply_abc_note_annotations(line, after_length);
+    let annotations = text_runs::apply_abc_note_annotations(line, after_length);
     Effected {
         effect: Effect::Counts,
-        next: behind.next,
+        next: annotations.next,
     }
 }
 

@@ -5,11 +5,12 @@ use mathlib.Core.Bool.{true}
 use mathlib.Core.Option.{none}
 use lib.ListN.{getD, drop}
 use Rattle.reader.specs.Sounds.{noteAs}
+use Rattle.reader.specs.Tokens.{effectOf}
 use Rattle.token_pitches.specs.Pitches.{noteChar}
 use Rattle.token_pitches.specs.declared.Sign.the-variants as sign
-use Rattle.token_lexemes.specs.Lexemes.{isPlain}
-use Rattle.token_lexemes.proofs.Sounding.{letter-out, letter-plain, letter-in}
-use Rattle.tokens.specs.Tokens.{effectIn, effectedIn}
+use Rattle.token_lexemes.specs.Lexemes.{isPlain, isShort}
+use Rattle.token_lexemes.proofs.Sounding.{letter-out, letter-plain, letter-short, letter-in}
+use Rattle.tokens.specs.Tokens.{effectFor, effectIn, effectedFor, effectedIn}
 use Rattle.tokens.proofs.Dispatch.{effected}
 use borrow.Author.Needs.{needs}
 use Rattle.tokens.proofs.letter_effect.Statement.{statement}
@@ -26,22 +27,32 @@ returns c =
     ap effectedIn (letter-plain line at (s .pre) sign.Nothing (noteChar (getD line at 0)) refl e) ∙ effected at (noteAs (record { sign = none; used = 0 }) (getD line at 0) (drop (at + 1) line))
 
 returns-2 : tie.Need-returns-2
-unfolding effectIn
+unfolding effectOf effectFor
 returns-2 c =
+    let p = c .before .before in
+    let s = p .before .before .before .before .before in
+    let line = s .args .line .now in
+    let at = s .args .at in
+    let e : isShort (getD line (at + 1) 0) (getD line (at + 2) 0) ≡ true = (λ i. isShort (sym (p .before .before .before .byte-at .ensures) i) (sym (p .byte-at2 .ensures) i)) ∙ sym (c .before .is-short .ensures) ∙ c .if2 .taken in
+    ap (effectedFor at) (sym (letter-short line at (s .pre) sign.Nothing (noteChar (getD line at 0)) refl e (record { sign = none; used = 0 })))
+
+returns-3 : tie.Need-returns-3
+unfolding effectIn
+returns-3 c =
     let o = c .before .before in
     let n = o .before in
-    let s = n .before .before .before .before .before .before in
+    let s = n .before .before .before .before .before .before .before .before .before in
     let line = s .args .line .now in
     let at = s .args .at in
     ap effectedIn (letter-out line at (s .pre) sign.Nothing (n .abc-note-char .result) (n .abc-note-char .ensures) (sym (o .octave-marks .ensures) ∙ c .enum-told .given .1))
     ∙ effected at (noteAs (record { sign = none; used = 0 }) (getD line at 0) (drop (at + 1) line))
 
-returns-3 : tie.Need-returns-3
+returns-4 : tie.Need-returns-4
 unfolding effectIn
-returns-3 c =
+returns-4 c =
     let o = c .before .before .before .before .before in
     let n = o .before in
-    let s = n .before .before .before .before .before .before in
+    let s = n .before .before .before .before .before .before .before .before .before in
     let line = s .args .line .now in
     let at = s .args .at in
     let g = c .before .before .before .after-octave .given in
@@ -60,11 +71,16 @@ letter-effect-spec =
     returns
     (λ c. search needs)
     (λ c κs. search needs)
-    (λ c. search needs)
     (λ c κs. search needs)
-    (λ c. search needs)
     (λ c. search needs)
     returns-2
+    (λ c. search needs)
+    (λ c κs. search needs)
+    (λ c. search needs)
+    (λ c κs. search needs)
+    (λ c. search needs)
+    (λ c. search needs)
+    returns-3
     (λ c κs. search needs)
     (λ c κs. search needs)
-    returns-3)
+    returns-4)
