@@ -1,11 +1,11 @@
 -- ONE WALK along a chain.
-use Prim.Native.Nat.{ℕ, _+_, _-_, _≤_, _<_, min, max}
+use Prim.Native.Nat.{ℕ, zero, suc, _+_, _-_, _≤_, _<_, min, max}
 use mathlib.Core.Path.{_≡_, refl, sym, ap, subst, _∙_}
 use mathlib.Core.Bool.{Bool, true, false, cond}
 use mathlib.Core.List.{List, [], _∷_}
 use native.Mathlib.Omega.{arith}
 use lib.Dec.{eqb}
-use lib.ListN.{length, getD, set, length-set}
+use lib.ListN.{length, getD, set, replicate, length-set, length-replicate}
 use lib.Seq.{getD-set-same, getD-set-other}
 use borrow.Author.Tests.{eq-eqb, ne-eqb, eqb-true, eqb-false}
 use Rattle.laws.specs.Lists.{All}
@@ -45,7 +45,7 @@ module _ (s : List ℕ) (log k v p : ℕ) (x : Bool) (place : ℕ) (w : Noting s
         ahead = λ text.
             w .ahead text
             ∙ ap (λ (ys : List Syllable). cond (eqb p 0) (heldBy v x ys) (syllableIs text (foundAt s log p x) ∷ []))
-              (ap (ofVerse v) (i .sung text) ∙ of-other text (rowOfLink r) v (chain text s log (r .next)) d);
+            (ap (ofVerse v) (i .sung text) ∙ of-other text (rowOfLink r) v (chain text s log (r .next)) d);
       }
 
   -- one of this verse
@@ -150,3 +150,13 @@ takes-one from verse code place j p x w h e a b f g =
           let d : i ≡ j → ⊥ = λ s. t (omega (arith, s)) in
           (getD-set-other p j i a 0 d, getD-set-other x j i b false d);
     }
+
+-- as it begins
+same-at : {A : Type 0} (n : ℕ) (a : A) (i : ℕ) → getD (replicate n a) i a ≡ a
+same-at zero a i = refl
+same-at (suc n) a zero = refl
+same-at (suc n) a (suc i) = same-at n a i
+
+pub clear : Clear (replicate window 0) (replicate window false)
+clear =
+    record { wide = record { places-long = length-replicate {A = ℕ} window 0; held-long = length-replicate window false }; none = λ i h. same-at {A = ℕ} window 0 i; loose = λ i h. same-at window false i }

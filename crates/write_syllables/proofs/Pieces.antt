@@ -122,9 +122,9 @@ module _ (b : Bool) (i : ℕ) where
   unfolding pieces
   pieces-none e = ap (pieces b i) e ∙ encAll-none (piece b i)
 
-  pieces-append : {ys xs zs : List Syllable} → ys ≡ xs ++ zs → pieces b i ys ≡ pieces b i xs ++ pieces b i zs
+  pieces-append : {ys : List Syllable} (xs zs : List Syllable) → ys ≡ xs ++ zs → pieces b i ys ≡ pieces b i xs ++ pieces b i zs
   unfolding pieces
-  pieces-append {ys} {xs} {zs} e = ap (pieces b i) e ∙ encAll-append (piece b i) xs zs
+  pieces-append {ys} xs zs e = ap (pieces b i) e ∙ encAll-append (piece b i) xs zs
 
   -- a row of the log as a syllable; none for 0
   module _ (text s : List ℕ) (log p : ℕ) (x : Bool) where
@@ -144,12 +144,12 @@ module _ (b : Bool) (i : ℕ) where
 
       pub window-next : (v : ℕ) → from ≤ v → v < from + window
           → pieces b i (within v (from + window) (chain text s log k))
-            ≡ pieces b i (sungAt text s log (getD places (v - from) 0) (getD held (v - from) false)) ++ pieces b i (within (v + 1) (from + window) (chain text s log k))
+          ≡ pieces b i (sungAt text s log (getD places (v - from) 0) (getD held (v - from) false)) ++ pieces b i (within (v + 1) (from + window) (chain text s log k))
       window-next v h l =
           let at : from + (v - from) ≡ v = omega arith in
-          pieces-append (within-next v (from + window) (chain text s log k) l (rising-chain text s log k k))
+          pieces-append (ofVerse v (chain text s log k)) (within (v + 1) (from + window) (chain text s log k)) (within-next v (from + window) (chain text s log k) l (rising-chain text s log k k))
           ∙ ap (λ (zs : List Syllable). pieces b i zs ++ pieces b i (within (v + 1) (from + window) (chain text s log k)))
-            (ap (λ (u : ℕ). ofVerse u (chain text s log k)) (sym at) ∙ g .each (v - from) (omega arith) text)
+          (ap (λ (u : ℕ). ofVerse u (chain text s log k)) (sym at) ∙ g .each (v - from) (omega arith) text)
 
       pub window-end : (v : ℕ) → min (r .most + 1) (from + window) ≤ v → pieces b i (within v (from + window) (chain text s log k)) ≡ []
       window-end v h = pieces-none (go (decLt v (from + window)))
@@ -168,7 +168,7 @@ module _ (b : Bool) (i : ℕ) where
         ap (pieces b i) (sym (within-all c (chain text s log k) (All-map (λ (y : Syllable). y .verse < 256) (λ (y : Syllable). y .verse < c) (λ y l. omega arith) (chain text s log k) (verses-small text s log k k bytes))))
 
     pub chain-next : (a m c : ℕ) → a ≤ m → m ≤ c → pieces b i (within a c (chain text s log k)) ≡ pieces b i (within a m (chain text s log k)) ++ pieces b i (within m c (chain text s log k))
-    chain-next a m c h l = pieces-append (within-split a m c 0 (chain text s log k) h l (rising-chain text s log k k))
+    chain-next a m c h l = pieces-append (within a m (chain text s log k)) (within m c (chain text s log k)) (within-split a m c 0 (chain text s log k) h l (rising-chain text s log k k))
 
     pub chain-end : (a c : ℕ) → c ≤ a → pieces b i (within a c (chain text s log k)) ≡ []
     chain-end a c h = pieces-none (within-none a c (chain text s log k) h)

@@ -143,7 +143,8 @@ fn write_window(
         let i = verse - from;
         let place = places[i];
         let extend = held[i];
-        let Wrote::To(m) = write_place(text, store, log, place, extend, note, texts, &mut to[at..]) else {
+        let Wrote::To(m) = write_place(text, store, log, place, extend, note, texts, &mut to[at..])
+        else {
             return Wrote::NoRoom;
         };
         at += m;
@@ -171,7 +172,19 @@ fn write_verses(
         let mut places = [0; 33];
         let mut held = [false; 33];
         let span = lyric_walk::gather(store, log, k, from, &mut places, &mut held);
-        let Wrote::To(m) = write_window(text, store, log, k, from, &places, &held, span, note, texts, &mut to[at..]) else {
+        let Wrote::To(m) = write_window(
+            text,
+            store,
+            log,
+            k,
+            from,
+            &places,
+            &held,
+            span,
+            note,
+            texts,
+            &mut to[at..],
+        ) else {
             return Wrote::NoRoom;
         };
         at += m;
