@@ -1,6 +1,6 @@
 -- A chain, row by row.
 use Prim.Native.Nat.{ℕ, zero, suc, _+_, _-_, _*_, _≤_, _<_}
-use mathlib.Core.Path.{_≡_, refl, sym, ap, _∙_}
+use mathlib.Core.Path.{_≡_, refl, sym, ap, subst, _∙_}
 use mathlib.Core.Bool.{cond}
 use mathlib.Core.List.{List, [], _∷_, map}
 use native.Mathlib.Nat.{not-suc-le-zero, le-of-suc-le-suc}
@@ -109,6 +109,7 @@ link-is s log k low at end place next a e p n =
     let c : next ≡ cond (ltb (nextOf (rowAt s log (k - 1))) (k - 1 + 1)) (nextOf (rowAt s log (k - 1))) 0 = n ∙ (λ i. cond (ltb (q i) (one i)) (q i) 0) in
     record {
       low = capped k place next n (omega arith);
+      row = sym (row-is s (log + lyricRowWidth * (k - 1)) at end a e);
       sung = λ text. chain-row text s log (k - 1) k next one c ∙ ap (λ (r : Row). applyRow text r (chain text s log next)) (row-is s (log + lyricRowWidth * (k - 1)) at end a e);
     }
 
@@ -132,7 +133,7 @@ head-is s h note place k l e c =
           ∙ chain-any text s (h .log) (h .count) place k c;
     }
 
--- VERSES ARE BYTES
+-- WHAT HOLDS OF EVERY VERSE
 module _ (P : Syllable → Type 0) where
   put-all : (x : Syllable) (ys : List Syllable) → P x → All P ys → All P (put x ys)
   unfolding put
@@ -141,20 +142,22 @@ module _ (P : Syllable → Type 0) where
       by-test (ltb (y .verse) (x .verse)) (λ e. rw (e, put) (a .0, put-all x ys p (a .1)))
       (λ e. by-test (eqb (y .verse) (x .verse)) (λ f. rw (e, f, put) (p, a .1)) (λ f. rw (e, f, put) (p, a)))
 
-held-all : (v : ℕ) (ys : List Syllable) → All (λ (y : Syllable). y .verse < 256) ys → All (λ (y : Syllable). y .verse < 256) (map (held v) ys)
-held-all v [] a = tt
-held-all v (y ∷ ys) a = (rw (held-verse v y) (a .0), held-all v ys (a .1))
+module _ (Q : ℕ → Type 0) where
+  held-all : (v : ℕ) (ys : List Syllable) → All (λ (y : Syllable). Q (y .verse)) ys → All (λ (y : Syllable). Q (y .verse)) (map (held v) ys)
+  held-all v [] a = tt
+  held-all v (y ∷ ys) a = (subst Q (sym (held-verse v y)) (a .0), held-all v ys (a .1))
 
-row-all : (text : List ℕ) (r : Row) (ys : List Syllable) → r .verse < 256 → All (λ (y : Syllable). y .verse < 256) ys → All (λ (y : Syllable). y .verse < 256) (applyRow text r ys)
-unfolding applyRow syllableOf
-row-all text r ys h a =
-    by-test (eqb (r .code) holdCode) (λ e. rw (e, applyRow) (held-all (r .verse) ys a)) (λ e. rw (e, applyRow) (put-all (λ (y : Syllable). y .verse < 256) (syllableOf text r) ys h a))
+  pub row-all : (text : List ℕ) (r : Row) (ys : List Syllable) → Q (r .verse) → All (λ (y : Syllable). Q (y .verse)) ys → All (λ (y : Syllable). Q (y .verse)) (applyRow text r ys)
+  unfolding applyRow syllableOf
+  row-all text r ys h a =
+      by-test (eqb (r .code) holdCode) (λ e. rw (e, applyRow) (held-all (r .verse) ys a)) (λ e. rw (e, applyRow) (put-all (λ (y : Syllable). Q (y .verse)) (syllableOf text r) ys h a))
 
+-- verses are bytes
 pub verses-small : (text s : List ℕ) (log n k : ℕ) → ((i : ℕ) → getD s i 0 < 256) → All (λ (y : Syllable). y .verse < 256) (sungFrom text s log n k)
 unfolding sungFrom rowOf
 verses-small text s log zero k b = tt
 verses-small text s log (suc n) k b =
     by-test (eqb k (suc n))
     (λ e. rw (e, sungFrom)
-    (row-all text (rowOf (rowAt s log n)) (sungFrom text s log n (nextOf (rowAt s log n))) (rw (getD-part s (log + lyricRowWidth * n) lyricRowWidth verseAt (omega arith)) (b (log + lyricRowWidth * n + verseAt))) (verses-small text s log n (nextOf (rowAt s log n)) b)))
+    (row-all (λ (v : ℕ). v < 256) text (rowOf (rowAt s log n)) (sungFrom text s log n (nextOf (rowAt s log n))) (rw (getD-part s (log + lyricRowWidth * n) lyricRowWidth verseAt (omega arith)) (b (log + lyricRowWidth * n + verseAt))) (verses-small text s log n (nextOf (rowAt s log n)) b)))
     (λ e. rw (e, sungFrom) (verses-small text s log n k b))

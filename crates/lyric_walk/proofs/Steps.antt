@@ -1,126 +1,162 @@
--- The loops along a chain.
-use Prim.Native.Nat.{ℕ, _+_, _≤_, _<_, min}
-use mathlib.Core.Path.{_≡_, refl, sym, ap, _∙_}
-use mathlib.Core.Bool.{Bool, true, false, cond, not, _&&_, _||_}
+-- ONE WALK along a chain.
+use Prim.Native.Nat.{ℕ, zero, suc, _+_, _-_, _≤_, _<_, min, max}
+use mathlib.Core.Path.{_≡_, refl, sym, ap, subst, _∙_}
+use mathlib.Core.Bool.{Bool, true, false, cond}
 use mathlib.Core.List.{List, [], _∷_}
 use native.Mathlib.Omega.{arith}
-use lib.Dec.{eqb, leb}
-use lib.ListN.{getD}
-use borrow.Author.Tests.{eq-eqb, eqb-true}
-use Rattle.laws.proofs.Bools.{and-right}
+use lib.Dec.{eqb}
+use lib.ListN.{length, getD, set, replicate, length-set, length-replicate}
+use lib.Seq.{getD-set-same, getD-set-other}
+use borrow.Author.Tests.{eq-eqb, ne-eqb, eqb-true, eqb-false}
+use Rattle.laws.specs.Lists.{All}
+use Rattle.laws.proofs.Bools.{by-test}
 use Rattle.reader.specs.Lyrics.{Syllable, held}
-use Rattle.lyrics.specs.Sheet.{holdCode, syllableOf}
+use Rattle.lyrics.specs.declared.Row.{Row}
+use Rattle.lyrics.specs.Sheet.{holdCode, syllableOf, applyRow}
 use Rattle.lyric_walk.specs.declared.Link.{Link}
-use Rattle.lyric_walk.specs.declared.Found.{Found}
-use Rattle.lyric_walk.specs.declared.Next.{Next}
-use Rattle.lyric_walk.specs.declared.Next.the-variants as N
-use Rattle.lyric_walk.specs.Walks.{noVerse, chain, rowOfLink, LinkIs, least, LeastIs, better, ofVerse, fromVerse, syllableIs, FoundIs, NextIs}
-use Rattle.lyric_walk.proofs.Chains.{chain-none, verses-small}
-use Rattle.lyric_walk.proofs.Verses.{rising-chain, least-row, least-none, least-low, heldBy, of-row, of-found, next-none, next-some, next-must}
+use Rattle.lyric_walk.specs.declared.Span.{Span}
+use Rattle.lyric_walk.specs.Walks.{chain, rowOfLink, LinkIs, ofVerse, syllableIs, foundOf, foundAt, firstPlace, heldSince, window, Wide, Clear, TakesRow, Between, Gathered}
+use Rattle.lyric_walk.proofs.Chains.{chain-none, row-all}
+use Rattle.lyric_walk.proofs.Verses.{Rising, rising-chain, heldBy, of-other, of-hold, of-found}
 
--- THE LEAST VERSE: the invariant
-pub record Looking (s : List ℕ) (log k from best place : ℕ) : Type 0 where
-  pub low : place ≤ k
-  pub high : best ≤ noVerse
-  pub ahead : (text : List ℕ) → min best (least from (chain text s log place)) ≡ least from (chain text s log k)
+-- A VERSE: what the rows down to `place` say of it, the rest being ahead
+abbrev pub SoFar : List ℕ → List ℕ → ℕ → ℕ → ℕ → Bool → ℕ → List Syllable
+SoFar text s log v p x place = cond (eqb p 0) (heldBy v x (ofVerse v (chain text s log place))) (syllableIs text (foundAt s log p x) ∷ [])
 
-pub looking-start : (s : List ℕ) (log k from : ℕ) → Looking s log k from noVerse k
-looking-start s log k from = record { low = omega arith; high = omega arith; ahead = λ text. omega (arith, least-low from (chain text s log k)) }
+pub record Noting (s : List ℕ) (log k v p : ℕ) (x : Bool) (place : ℕ) : Type 0 where
+  pub low : p ≤ k
+  pub ahead : (text : List ℕ) → ofVerse v (chain text s log k) ≡ SoFar text s log v p x place
 
-better-low : (from best verse code : ℕ) → best ≤ noVerse → better from best verse code ≤ noVerse
-better-low from best verse code h = go (eqb code holdCode) (leb from verse)
-  where
-    go : (a b : Bool) → cond a best (cond b (min verse best) best) ≤ noVerse
-    go true b = h
-    go false true = omega arith
-    go false false = h
+noting-start : (s : List ℕ) (log k v p : ℕ) (x : Bool) → p ≡ 0 → x ≡ false → Noting s log k v p x k
+noting-start s log k v p x e f = record { low = omega (arith, e); ahead = λ text. rw (e, f) }
 
-pub looking-next : (s : List ℕ) (log k from best place : ℕ) → Looking s log k from best place → (r : Link) → LinkIs s log place r → (b : ℕ) → b ≡ better from best (r .verse) (r .code)
-    → Looking s log k from b (r .next)
-looking-next s log k from best place v r i b e =
-    record {
-      low = omega (arith, v .low, i .low);
-      high = rw e (better-low from best (r .verse) (r .code) (v .high));
-      ahead = λ text.
-          ap (λ (x : ℕ). min x (least from (chain text s log (r .next)))) e
-          ∙ sym (least-row text (rowOfLink r) from best (chain text s log (r .next)))
-          ∙ ap (λ (ys : List Syllable). min best (least from ys)) (sym (i .sung text))
-          ∙ v .ahead text;
-    }
-
-pub looking-end : (s : List ℕ) (log k from best place : ℕ) → Looking s log k from best place → place ≤ 0 → LeastIs s log k from best
-looking-end s log k from best place v h =
-    let z : place ≡ 0 = omega arith in
-    record { least-is = λ text. sym (least-none from best (v .high)) ∙ ap (λ (ys : List Syllable). min best (least from ys)) (sym (chain-none text s log)) ∙ ap (λ (x : ℕ). min best (least from (chain text s log x))) (sym z) ∙ v .ahead text }
-
--- A VERSE: the invariant
-pub record Seeking (s : List ℕ) (log k v : ℕ) (x : Bool) (place : ℕ) : Type 0 where
-  pub low : place ≤ k
-  pub ahead : (text : List ℕ) → ofVerse v (chain text s log k) ≡ heldBy v x (ofVerse v (chain text s log place))
-
-pub seeking-start : (s : List ℕ) (log k v : ℕ) → Seeking s log k v false k
-seeking-start s log k v = record { low = omega arith; ahead = λ text. refl }
-
-pub seeking-next : (s : List ℕ) (log k v : ℕ) (x : Bool) (place : ℕ) → Seeking s log k v x place → (r : Link) → LinkIs s log place r → (not (eqb (r .code) holdCode) && eqb (r .verse) v) ≡ false
-    → (b : Bool) → b ≡ (x || (eqb (r .code) holdCode && eqb (r .verse) v)) → Seeking s log k v b (r .next)
-seeking-next s log k v x place w r i n b e =
-    record {
-      low = omega (arith, w .low, i .low);
-      ahead = λ text.
-          w .ahead text
-          ∙ ap (λ (ys : List Syllable). heldBy v x (ofVerse v ys)) (i .sung text)
-          ∙ of-row text (rowOfLink r) v x (chain text s log (r .next)) n
-          ∙ ap (λ (c : Bool). heldBy v c (ofVerse v (chain text s log (r .next)))) (sym e);
-    }
-
-abbrev pub found : Link → Bool → Found
-found r x = record { verse = r .verse; syllabic = r .code; extend = x; at = r .at; end = r .end }
-
-found-is : (text : List ℕ) (r : Link) (v : ℕ) (x : Bool) → r .verse ≡ v → heldBy v x (syllableOf text (rowOfLink r) ∷ []) ≡ syllableIs text (found r x) ∷ []
+-- the syllable of a row
+found-is : (text : List ℕ) (r : Row) (v : ℕ) (x : Bool) → r .verse ≡ v → heldBy v x (syllableOf text r ∷ []) ≡ syllableIs text (foundOf r x) ∷ []
 unfolding syllableOf syllableIs held
 found-is text r v true e = rw (eq-eqb (r .verse) v e)
 found-is text r v false e = refl
 
-pub seeking-found : (s : List ℕ) (log k v : ℕ) (x : Bool) (place : ℕ) → Seeking s log k v x place → (r : Link) → LinkIs s log place r → (not (eqb (r .code) holdCode) && eqb (r .verse) v) ≡ true
-    → FoundIs s log k v (N.Sung (found r x))
-seeking-found s log k v x place w r i y =
-    let e : r .verse ≡ v = eqb-true (r .verse) v (and-right (not (eqb (r .code) holdCode)) (eqb (r .verse) v) y) in
+module _ (s : List ℕ) (log k v p : ℕ) (x : Bool) (place : ℕ) (w : Noting s log k v p x place) (r : Link) (i : LinkIs s log place r) where
+  -- a row of another verse
+  noting-other : (r .verse ≡ v → ⊥) → Noting s log k v p x (r .next)
+  noting-other d =
+      record {
+        low = w .low;
+        ahead = λ text.
+            w .ahead text
+            ∙ ap (λ (ys : List Syllable). cond (eqb p 0) (heldBy v x ys) (syllableIs text (foundAt s log p x) ∷ []))
+            (ap (ofVerse v) (i .sung text) ∙ of-other text (rowOfLink r) v (chain text s log (r .next)) d);
+      }
+
+  -- one of this verse
+  noting-here : r .verse ≡ v → 0 < place → place ≤ k → Noting s log k v (firstPlace p (r .code) place) (heldSince p x (r .code)) (r .next)
+  noting-here d h l =
+      by-test (eqb p 0)
+      (λ e. by-test (eqb (r .code) holdCode)
+      (λ f. rw (e, f) (record { low = omega arith; ahead = λ text. here text e ∙ of-hold text (rowOfLink r) v (chain text s log (r .next)) x d f }))
+      (λ f. rw (e, f) (record { low = l; ahead = λ text. here text e ∙ sung text f })))
+      (λ e. rw e (record { low = w .low; ahead = λ text. w .ahead text ∙ rw e }))
+    where
+      here : (text : List ℕ) → eqb p 0 ≡ true → ofVerse v (chain text s log k) ≡ heldBy v x (ofVerse v (applyRow text (rowOfLink r) (chain text s log (r .next))))
+      here text e = w .ahead text ∙ rw e (ap (λ (ys : List Syllable). heldBy v x (ofVerse v ys)) (i .sung text))
+
+      sung : (text : List ℕ) → eqb (r .code) holdCode ≡ false → heldBy v x (ofVerse v (applyRow text (rowOfLink r) (chain text s log (r .next)))) ≡ SoFar text s log v place x (r .next)
+      sung text f =
+          ap (heldBy v x) (of-found text (rowOfLink r) v (chain text s log (r .next)) d f (rising-chain text s log (r .next) (r .next)))
+          ∙ found-is text (rowOfLink r) v x d
+          ∙ ap (λ (q : Row). syllableIs text (foundOf q x) ∷ []) (i .row)
+          ∙ sym (rw (ne-eqb place 0 (λ z. absurd (omega (arith, z)))))
+
+-- THE LEAST AND THE GREATEST VERSE
+pub record Spanning (s : List ℕ) (log k least most place : ℕ) : Type 0 where
+  pub low : place ≤ k
+  pub small : most < 256
+  pub ahead : (text : List ℕ) (a b : ℕ) → a ≤ least → most ≤ b → All (Between a b) (chain text s log place) → All (Between a b) (chain text s log k)
+
+spanning-start : (s : List ℕ) (log k least : ℕ) → Spanning s log k least 0 k
+spanning-start s log k least = record { low = omega arith; small = omega arith; ahead = λ text a b h l p. p }
+
+spanning-next : (s : List ℕ) (log k least most place : ℕ) → Spanning s log k least most place → (r : Link) → LinkIs s log place r → r .verse < 256
+    → Spanning s log k (min least (r .verse)) (max most (r .verse)) (r .next)
+spanning-next s log k least most place w r i byte =
     record {
-      found = λ text. (
-        e,
-        w .ahead text
-            ∙ ap (λ (ys : List Syllable). heldBy v x (ofVerse v ys)) (i .sung text)
-            ∙ of-found text (rowOfLink r) v x (chain text s log (r .next)) y (rising-chain text s log (r .next) (r .next))
-            ∙ found-is text r v x e,
-      );
+      low = omega (arith, w .low, i .low);
+      small = omega (arith, w .small);
+      ahead = λ text a b h l p.
+          w .ahead text a b (omega arith) (omega arith)
+          (subst (All (Between a b)) (sym (i .sung text)) (row-all (λ (v : ℕ). (a ≤ v) × (v ≤ b)) text (rowOfLink r) (chain text s log (r .next)) (omega arith, omega arith) p));
     }
 
-pub seeking-end : (s : List ℕ) (log k v : ℕ) (x : Bool) (place : ℕ) → Seeking s log k v x place → place ≤ 0 → FoundIs s log k v N.NoMore
-seeking-end s log k v x place w h =
-    let z : place ≡ 0 = omega arith in
-    record { found = λ text. w .ahead text ∙ ap (λ (p : ℕ). heldBy v x (ofVerse v (chain text s log p))) z ∙ ap (λ (ys : List Syllable). heldBy v x (ofVerse v ys)) (chain-none text s log) ∙ none v x }
+-- THE WINDOW
+pub record Gathering (s : List ℕ) (log k from : ℕ) (places : List ℕ) (held : List Bool) (least most place : ℕ) : Type 0 where
+  pub wide : Wide places held
+  pub span : Spanning s log k least most place
+  pub each : (i : ℕ) → i < window → Noting s log k (from + i) (getD places i 0) (getD held i false) place
+
+pub gathering-start : (s : List ℕ) (log k from : ℕ) (places : List ℕ) (held : List Bool) (least : ℕ) → Clear places held → Gathering s log k from places held least 0 k
+gathering-start s log k from places held least c =
+    record { wide = c .wide; span = spanning-start s log k least; each = λ i h. noting-start s log k (from + i) (getD places i 0) (getD held i false) (c .none i h) (c .loose i h) }
+
+pub gathering-next : (s : List ℕ) (log k from : ℕ) (places : List ℕ) (held : List Bool) (least most place : ℕ) → Gathering s log k from places held least most place → 0 < place
+    → (r : Link) → LinkIs s log place r → r .verse < 256 → (q : List ℕ) (y : List Bool) → TakesRow from (r .verse) (r .code) place places held q y
+    → Gathering s log k from q y (min least (r .verse)) (max most (r .verse)) (r .next)
+gathering-next s log k from places held least most place g h r i byte q y t =
+    record { wide = t .wide; span = spanning-next s log k least most place (g .span) r i byte; each = λ j l. by-test (eqb (from + j) (r .verse)) (λ e. go-yes j l (eqb-true (from + j) (r .verse) e)) (λ e. go-no j l (eqb-false (from + j) (r .verse) e)) }
   where
-    none : (u : ℕ) (b : Bool) → heldBy u b [] ≡ []
-    none u true = refl
-    none u false = refl
+    go-yes : (j : ℕ) → j < window → from + j ≡ r .verse → Noting s log k (from + j) (getD q j 0) (getD y j false) (r .next)
+    go-yes j l e =
+        let (a, b) = t .here j l e in
+        rw (a, b) (noting-here s log k (from + j) (getD places j 0) (getD held j false) place (g .each j l) r i (sym e) h (g .span .low))
 
--- THE NEXT SYLLABLE
-module _ (s : List ℕ) (log k from m : ℕ) (bytes : (i : ℕ) → getD s i 0 < 256) (is : LeastIs s log k from m) where
-  l : (text : List ℕ) → m ≡ least from (chain text s log k)
-  l = is .least-is
+    go-no : (j : ℕ) → j < window → (from + j ≡ r .verse → ⊥) → Noting s log k (from + j) (getD q j 0) (getD y j false) (r .next)
+    go-no j l d =
+        let (a, b) = t .other j l d in
+        rw (a, b) (noting-other s log k (from + j) (getD places j 0) (getD held j false) place (g .each j l) r i (λ e. d (sym e)))
 
-  pub no-more : m ≡ noVerse → NextIs s log k from N.NoMore
-  no-more e = record { goes = λ text. next-none from 0 (chain text s log k) (rising-chain text s log k k) (verses-small text s log k k bytes) (sym (l text) ∙ e) }
+pub gathering-end : (s : List ℕ) (log k from : ℕ) (places : List ℕ) (held : List Bool) (least most place : ℕ) → Gathering s log k from places held least most place → place ≤ 0
+    → Gathered s log k from places held (record { least = least; most = most })
+gathering-end s log k from places held least most place g h =
+    record {
+      low = λ i l. g .each i l .low;
+      each = λ i l text. g .each i l .ahead text ∙ ap (λ (ys : List Syllable). cond (eqb (getD places i 0) 0) ys (syllableIs text (foundAt s log (getD places i 0) (getD held i false)) ∷ [])) (none text (from + i) (getD held i false));
+      span = λ text. g .span .ahead text least most (omega arith) (omega arith) (subst (All (Between least most)) (sym (nil text)) tt);
+      small = g .span .small;
+    }
+  where
+    nil : (text : List ℕ) → chain text s log place ≡ []
+    nil text = ap (chain text s log) (let z : place ≡ 0 = omega arith in z) ∙ chain-none text s log
 
-  below : (m ≡ noVerse → ⊥) → m < noVerse
-  below d = omega (arith, l [], least-low from (chain [] s log k))
+    no-one : (v : ℕ) (b : Bool) → heldBy v b [] ≡ []
+    no-one v true = refl
+    no-one v false = refl
 
-  pub one-more : (m ≡ noVerse → ⊥) → (r : Next) → FoundIs s log k m r → NextIs s log k from r
-  one-more d (N.Sung f) i =
-      record {
-        goes = λ text.
-            next-some from 0 m (chain text s log k) (rising-chain text s log k k) (verses-small text s log k k bytes) (sym (l text)) (below d) (syllableIs text f) (i .found text .1)
-            ∙ ap (λ (v : ℕ). syllableIs text f ∷ fromVerse (v + 1) (chain text s log k)) (sym (i .found text .0));
-      }
-  one-more d N.NoMore i =
-      record { goes = λ text. absurd (next-must from 0 m (chain text s log k) (rising-chain text s log k k) (verses-small text s log k k bytes) (sym (l text)) (below d) (i .found text)) }
+    none : (text : List ℕ) (v : ℕ) (b : Bool) → heldBy v b (ofVerse v (chain text s log place)) ≡ []
+    none text v b = ap (λ (ys : List Syllable). heldBy v b (ofVerse v ys)) (nil text) ∙ no-one v b
+
+-- a row outside of the window; one in it
+pub takes-none : (from verse code place : ℕ) (p : List ℕ) (x : List Bool) → Wide p x → ((i : ℕ) → i < window → from + i ≡ verse → ⊥) → TakesRow from verse code place p x p x
+takes-none from verse code place p x w d = record { wide = w; here = λ i h e. absurd (d i h e); other = λ i h e. (refl, refl) }
+
+pub takes-one : (from verse code place j : ℕ) (p : List ℕ) (x : List Bool) → Wide p x → j < window → from + j ≡ verse → (a : ℕ) (b : Bool)
+    → a ≡ firstPlace (getD p j 0) code place → b ≡ heldSince (getD p j 0) (getD x j false) code → TakesRow from verse code place p x (set p j a) (set x j b)
+takes-one from verse code place j p x w h e a b f g =
+    record {
+      wide = record { places-long = length-set p j a ∙ w .places-long; held-long = length-set x j b ∙ w .held-long };
+      here = λ i l t.
+          let s : i ≡ j = omega (arith, t, e) in
+          subst (λ (i : ℕ). (getD (set p j a) i 0 ≡ firstPlace (getD p i 0) code place) × (getD (set x j b) i false ≡ heldSince (getD p i 0) (getD x i false) code)) (sym s)
+          (getD-set-same p j a 0 (omega (arith, w .places-long)) ∙ f, getD-set-same x j b false (omega (arith, w .held-long)) ∙ g);
+      other = λ i l t.
+          let d : i ≡ j → ⊥ = λ s. t (omega (arith, s)) in
+          (getD-set-other p j i a 0 d, getD-set-other x j i b false d);
+    }
+
+-- as it begins
+same-at : {A : Type 0} (n : ℕ) (a : A) (i : ℕ) → getD (replicate n a) i a ≡ a
+same-at zero a i = refl
+same-at (suc n) a zero = refl
+same-at (suc n) a (suc i) = same-at n a i
+
+pub clear : Clear (replicate window 0) (replicate window false)
+clear =
+    record { wide = record { places-long = length-replicate {A = ℕ} window 0; held-long = length-replicate window false }; none = λ i h. same-at {A = ℕ} window 0 i; loose = λ i h. same-at window false i }

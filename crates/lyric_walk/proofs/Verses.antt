@@ -1,18 +1,18 @@
 -- Syllables by verse.
-use Prim.Native.Nat.{ℕ, zero, suc, _+_, _≤_, _<_, min}
+use Prim.Native.Nat.{ℕ, zero, suc, _+_, _≤_, _<_, max}
 use mathlib.Core.Path.{_≡_, refl, sym, ap, _∙_}
-use mathlib.Core.Bool.{Bool, true, false, cond, not, _&&_, _||_, false≢true}
-use mathlib.Core.List.{List, [], _∷_, map, head-eq-of-cons-eq, nil≢cons}
+use mathlib.Core.Bool.{Bool, true, false, cond, _&&_}
+use mathlib.Core.List.{List, [], _∷_, _++_, map}
 use native.Mathlib.Decide.{decLt}
 use native.Mathlib.Omega.{arith}
 use lib.Dec.{eqb, leb, ltb}
-use borrow.Author.Tests.{eq-eqb, ne-eqb, eqb-true, eqb-false, le-leb, lt-leb, leb-true, leb-false, ltb-true, ltb-false}
+use borrow.Author.Tests.{eq-eqb, ne-eqb, eqb-true, eqb-false, le-leb, lt-leb, lt-ltb, le-ltb, ltb-true, ltb-false}
 use Rattle.laws.specs.Lists.{All}
 use Rattle.laws.proofs.Bools.{by-test}
 use Rattle.reader.specs.Lyrics.{Syllable, put, held}
 use Rattle.lyrics.specs.declared.Row.{Row}
 use Rattle.lyrics.specs.Sheet.{holdCode, syllableOf, applyRow, sungFrom, rowOf, rowAt, nextOf}
-use Rattle.lyric_walk.specs.Walks.{noVerse, least, better, ofVerse, fromVerse}
+use Rattle.lyric_walk.specs.Walks.{ofVerse, within, Between}
 
 -- RISING VERSES
 abbrev pub Rising : ℕ → List Syllable → Type 0
@@ -49,72 +49,6 @@ rising-chain text s log zero k = tt
 rising-chain text s log (suc n) k =
     by-test (eqb k (suc n)) (λ e. rw (e, sungFrom) (rising-row text (rowOf (rowAt s log n)) (sungFrom text s log n (nextOf (rowAt s log n))) (rising-chain text s log n (nextOf (rowAt s log n)))))
     (λ e. rw (e, sungFrom) (rising-chain text s log n k))
-
--- THE LEAST VERSE
-least-yes : (from : ℕ) (y : Syllable) (ys : List Syllable) → leb from (y .verse) ≡ true → least from (y ∷ ys) ≡ min (y .verse) (least from ys)
-unfolding least
-least-yes from y ys e = rw e
-
-least-no : (from : ℕ) (y : Syllable) (ys : List Syllable) → leb from (y .verse) ≡ false → least from (y ∷ ys) ≡ least from ys
-unfolding least
-least-no from y ys e = rw e
-
--- after a syllable: by its verse alone
-least-cons : (from : ℕ) (y z : Syllable) (ys zs : List Syllable) → y .verse ≡ z .verse → least from ys ≡ least from zs → least from (y ∷ ys) ≡ least from (z ∷ zs)
-unfolding least
-least-cons from y z ys zs e f = λ i. cond (leb from (e i)) (min (e i) (f i)) (f i)
-
-least-held : (from v : ℕ) (ys : List Syllable) → least from (map (held v) ys) ≡ least from ys
-least-held from v [] = refl
-least-held from v (y ∷ ys) = least-cons from (held v y) y (map (held v) ys) ys (held-verse v y) (least-held from v ys)
-
--- m is the least of y's verse and n, y's counting from `from` on
-abbrev least2 : ℕ → ℕ → ℕ → ℕ
-least2 from v n = cond (leb from v) (min v n) n
-
-swap : (from a b n : ℕ) → least2 from a (least2 from b n) ≡ least2 from b (least2 from a n)
-swap from a b n =
-    by-test (leb from a)
-    (λ e. by-test (leb from b) (λ f. rw (e, f) (omega arith)) (λ f. rw (e, f) refl))
-    (λ e. by-test (leb from b) (λ f. rw (e, f) refl) (λ f. rw (e, f) refl))
-
-twice : (from a n : ℕ) → least2 from a (least2 from a n) ≡ least2 from a n
-twice from a n = by-test (leb from a) (λ e. rw e (omega arith)) (λ e. rw e refl)
-
-least-is : (from : ℕ) (y : Syllable) (ys : List Syllable) → least from (y ∷ ys) ≡ least2 from (y .verse) (least from ys)
-unfolding least
-least-is from y ys = refl
-
-least-put : (from : ℕ) (x : Syllable) (ys : List Syllable) → least from (put x ys) ≡ least2 from (x .verse) (least from ys)
-unfolding put
-least-put from x [] = least-is from x []
-least-put from x (y ∷ ys) =
-    by-test (ltb (y .verse) (x .verse))
-    (λ e. rw (e, put) (least-is from y (put x ys) ∙ ap (least2 from (y .verse)) (least-put from x ys) ∙ swap from (y .verse) (x .verse) (least from ys) ∙ ap (least2 from (x .verse)) (sym (least-is from y ys))))
-    (λ e. by-test (eqb (y .verse) (x .verse))
-    (λ f. let same = eqb-true (y .verse) (x .verse) f in
-    rw (e, f, put) (least-is from x ys ∙ sym (twice from (x .verse) (least from ys)) ∙ ap (λ (k : ℕ). least2 from (x .verse) (least2 from k (least from ys))) (sym same) ∙ ap (least2 from (x .verse)) (sym (least-is from y ys))))
-    (λ f. rw (e, f, put) (least-is from x (y ∷ ys))))
-
--- a row: what was the least so far
-pub least-row : (text : List ℕ) (r : Row) (from best : ℕ) (ys : List Syllable) → min best (least from (applyRow text r ys)) ≡ min (better from best (r .verse) (r .code)) (least from ys)
-unfolding applyRow syllableOf
-least-row text r from best ys =
-    by-test (eqb (r .code) holdCode) (λ e. rw (e, applyRow) (ap (min best) (least-held from (r .verse) ys)))
-    (λ e. rw (e, applyRow) (ap (min best) (least-put from (syllableOf text r) ys) ∙ by-test (leb from (r .verse)) (λ f. rw f (omega arith)) (λ f. rw f refl)))
-
--- nothing is left of an empty chain
-pub least-none : (from best : ℕ) → best ≤ noVerse → min best (least from []) ≡ best
-unfolding least
-least-none from best h = omega arith
-
-least-nil : (from : ℕ) → least from [] ≡ noVerse
-unfolding least
-least-nil from = refl
-
-pub least-low : (from : ℕ) (ys : List Syllable) → least from ys ≤ noVerse
-least-low from [] = omega (arith, least-nil from)
-least-low from (y ∷ ys) = by-test (leb from (y .verse)) (λ e. omega (arith, least-yes from y ys e, least-low from ys)) (λ e. omega (arith, least-no from y ys e, least-low from ys))
 
 -- ONE VERSE
 of-yes : (v : ℕ) (y : Syllable) (ys : List Syllable) → y .verse ≡ v → ofVerse v (y ∷ ys) ≡ y ∷ ofVerse v ys
@@ -194,104 +128,100 @@ held-by : (v : ℕ) (x : Bool) (ys : List Syllable) → heldBy v x (map (held v)
 held-by v true ys = held-again v ys
 held-by v false ys = refl
 
--- A ROW that is not the syllable sought: holds go on
-pub of-row : (text : List ℕ) (r : Row) (v : ℕ) (x : Bool) (ys : List Syllable) → (not (eqb (r .code) holdCode) && eqb (r .verse) v) ≡ false
-    → heldBy v x (ofVerse v (applyRow text r ys)) ≡ heldBy v (x || (eqb (r .code) holdCode && eqb (r .verse) v)) (ofVerse v ys)
-unfolding applyRow syllableOf
-of-row text r v x ys n =
-    by-test (eqb (r .code) holdCode)
-    (λ e. rw (e, applyRow) (ap (heldBy v x) (of-held v (r .verse) ys)
-    ∙ by-test (eqb (r .verse) v)
-    (λ f. rw f (ap (λ (u : ℕ). heldBy v x (map (held u) (ofVerse v ys))) (eqb-true (r .verse) v f) ∙ held-by v x (ofVerse v ys) ∙ or-true v x (ofVerse v ys)))
-    (λ f. rw f (ap (heldBy v x) (held-other v (r .verse) ys (eqb-false (r .verse) v f)) ∙ or-false v x (ofVerse v ys)))))
-    (λ e. rw (e, applyRow) (ap (heldBy v x) (of-put-other v (syllableOf text r) ys (eqb-false (r .verse) v (rw e at n))) ∙ or-false v x (ofVerse v ys)))
+-- A ROW of another verse; a hold of this verse; its syllable
+module _ (text : List ℕ) (r : Row) (v : ℕ) (ys : List Syllable) where
+  pub of-other : (r .verse ≡ v → ⊥) → ofVerse v (applyRow text r ys) ≡ ofVerse v ys
+  unfolding applyRow syllableOf
+  of-other d =
+      by-test (eqb (r .code) holdCode) (λ e. rw (e, applyRow) (of-held v (r .verse) ys ∙ held-other v (r .verse) ys d))
+      (λ e. rw (e, applyRow) (of-put-other v (syllableOf text r) ys d))
+
+  pub of-hold : (x : Bool) → r .verse ≡ v → eqb (r .code) holdCode ≡ true → heldBy v x (ofVerse v (applyRow text r ys)) ≡ heldBy v true (ofVerse v ys)
+  unfolding applyRow
+  of-hold x d e =
+      rw (e, applyRow) (ap (heldBy v x) (of-held v (r .verse) ys) ∙ ap (λ (u : ℕ). heldBy v x (map (held u) (ofVerse v ys))) d ∙ held-by v x (ofVerse v ys))
+
+  pub of-found : r .verse ≡ v → eqb (r .code) holdCode ≡ false → Rising 0 ys → ofVerse v (applyRow text r ys) ≡ syllableOf text r ∷ []
+  unfolding applyRow syllableOf
+  of-found d e rising = rw (e, applyRow) (of-put-same v 0 (syllableOf text r) ys d rising)
+
+-- VERSES FROM ONE ON, BELOW ANOTHER
+module _ (a b : ℕ) (y : Syllable) (ys : List Syllable) where
+  in-yes : a ≤ y .verse → y .verse < b → within a b (y ∷ ys) ≡ y ∷ within a b ys
+  in-yes h l = rw (le-leb a (y .verse) h, lt-ltb (y .verse) b l)
+
+  in-below : y .verse < a → within a b (y ∷ ys) ≡ within a b ys
+  in-below h = rw (lt-leb a (y .verse) h)
+
+  in-above : b ≤ y .verse → within a b (y ∷ ys) ≡ within a b ys
+  in-above h = by-test (leb a (y .verse)) (λ e. rw (e, le-ltb (y .verse) b h)) (λ e. rw e)
+
+-- none among greater ones
+within-above : (a b low : ℕ) (ys : List Syllable) → b ≤ low → Rising low ys → within a b ys ≡ []
+within-above a b low [] h r = refl
+within-above a b low (y ∷ ys) h r = in-above a b y ys (omega (arith, r .0)) ∙ within-above a b (suc (y .verse)) ys (omega (arith, r .0)) (r .1)
+
+-- in two parts
+pub within-split : (a b c low : ℕ) (ys : List Syllable) → a ≤ b → b ≤ c → Rising low ys → within a c ys ≡ within a b ys ++ within b c ys
+within-split a b c low [] h l r = refl
+within-split a b c low (y ∷ ys) h l r = go (within-split a b c (suc (y .verse)) ys h l (r .1)) (decLt (y .verse) a) (decLt (y .verse) b) (decLt (y .verse) c)
   where
-    or-true : (w : ℕ) (b : Bool) (zs : List Syllable) → heldBy w true zs ≡ heldBy w (b || true) zs
-    or-true w true zs = refl
-    or-true w false zs = refl
+    go : within a c ys ≡ within a b ys ++ within b c ys → Dec (y .verse < a) → Dec (y .verse < b) → Dec (y .verse < c) → within a c (y ∷ ys) ≡ within a b (y ∷ ys) ++ within b c (y ∷ ys)
+    go ih (yes p) q t = in-below a c y ys p ∙ ih ∙ sym (λ i. in-below a b y ys p i ++ in-below b c y ys (omega arith) i)
+    go ih (no p) (yes q) t =
+        in-yes a c y ys (omega arith) (omega arith) ∙ ap (λ (l : List Syllable). y ∷ l) ih
+        ∙ sym (λ i. in-yes a b y ys (omega arith) q i ++ in-below b c y ys q i)
+    go ih (no p) (no q) (yes t) =
+        let none : within a b ys ≡ [] = within-above a b (suc (y .verse)) ys (omega arith) (r .1) in
+        in-yes a c y ys (omega arith) t ∙ ap (λ (l : List Syllable). y ∷ l) (ih ∙ ap (λ (l : List Syllable). l ++ within b c ys) none)
+        ∙ sym (λ i. (in-above a b y ys (omega arith) ∙ none) i ++ in-yes b c y ys (omega arith) t i)
+    go ih (no p) (no q) (no t) =
+        in-above a c y ys (omega arith) ∙ ih ∙ sym (λ i. in-above a b y ys (omega arith) i ++ in-above b c y ys (omega arith) i)
 
-    or-false : (w : ℕ) (b : Bool) (zs : List Syllable) → heldBy w b zs ≡ heldBy w (b || false) zs
-    or-false w true zs = refl
-    or-false w false zs = refl
-
--- the syllable sought
-pub of-found : (text : List ℕ) (r : Row) (v : ℕ) (x : Bool) (ys : List Syllable) → (not (eqb (r .code) holdCode) && eqb (r .verse) v) ≡ true → Rising 0 ys
-    → heldBy v x (ofVerse v (applyRow text r ys)) ≡ heldBy v x (syllableOf text r ∷ [])
-unfolding applyRow syllableOf
-of-found text r v x ys y rising =
-    by-test (eqb (r .code) holdCode) (λ e. absurd (false≢true (rw e at y)))
-    (λ e. rw (e, applyRow) (ap (heldBy v x) (of-put-same v 0 (syllableOf text r) ys (eqb-true (r .verse) v (rw e at y)) rising)))
-
--- THE SYLLABLES FROM A VERSE ON
-from-yes : (v : ℕ) (y : Syllable) (ys : List Syllable) → v ≤ y .verse → fromVerse v (y ∷ ys) ≡ y ∷ fromVerse v ys
-from-yes v y ys h = rw (le-leb v (y .verse) h)
-
-from-no : (v : ℕ) (y : Syllable) (ys : List Syllable) → y .verse < v → fromVerse v (y ∷ ys) ≡ fromVerse v ys
-from-no v y ys h = rw (lt-leb v (y .verse) h)
-
-from-all : (v low : ℕ) (ys : List Syllable) → v ≤ low → Rising low ys → fromVerse v ys ≡ ys
-from-all v low [] h r = refl
-from-all v low (y ∷ ys) h r = from-yes v y ys (omega (arith, r .0)) ∙ ap (λ (l : List Syllable). y ∷ l) (from-all v (suc (y .verse)) ys (omega (arith, r .0)) (r .1))
-
--- all, from 0 on
-pub walk-start : (text s : List ℕ) (log n k : ℕ) → fromVerse 0 (sungFrom text s log n k) ≡ sungFrom text s log n k
-walk-start text s log n k = from-all 0 0 (sungFrom text s log n k) (omega arith) (rising-chain text s log n k)
-
-abbrev pub Small : List Syllable → Type 0
-Small ys = All (λ (y : Syllable). y .verse < 256) ys
-
-least-above : (from low : ℕ) (ys : List Syllable) → low ≤ noVerse → Rising low ys → Small ys → low ≤ least from ys
-least-above from low [] h r a = omega (arith, least-nil from)
-least-above from low (y ∷ ys) h r a =
-    let rest = least-above from (suc (y .verse)) ys (omega (arith, a .0)) (r .1) (a .1) in
-    by-test (leb from (y .verse)) (λ e. omega (arith, least-yes from y ys e, r .0, rest)) (λ e. omega (arith, least-no from y ys e, r .0, rest))
-
--- where the first counts it is the least
-least-first : (from low : ℕ) (y : Syllable) (ys : List Syllable) → Rising low (y ∷ ys) → Small (y ∷ ys) → leb from (y .verse) ≡ true → least from (y ∷ ys) ≡ y .verse
-least-first from low y ys r a e = omega (arith, least-yes from y ys e, least-above from (suc (y .verse)) ys (omega (arith, a .0)) (r .1) (a .1))
-
-least-from : (from : ℕ) (ys : List Syllable) → least from ys < noVerse → from ≤ least from ys
-least-from from [] h = absurd (omega (arith, least-nil from))
-least-from from (y ∷ ys) h =
-    by-test (leb from (y .verse)) (λ e. go e (decLt (least from ys) noVerse) (λ l. least-from from ys l))
-    (λ e. omega (arith, least-no from y ys e, least-from from ys (omega (arith, least-no from y ys e))))
+-- one verse
+one-verse : (x v : ℕ) → (leb v x && ltb x (v + 1)) ≡ eqb x v
+one-verse x v = go (decLt x v) (decLt v x)
   where
-    go : leb from (y .verse) ≡ true → Dec (least from ys < noVerse) → (least from ys < noVerse → from ≤ least from ys) → from ≤ least from (y ∷ ys)
-    go e (yes l) ih = omega (arith, least-yes from y ys e, leb-true from (y .verse) e, ih l)
-    go e (no l) ih = omega (arith, h, least-yes from y ys e, leb-true from (y .verse) e)
+    go : Dec (x < v) → Dec (v < x) → (leb v x && ltb x (v + 1)) ≡ eqb x v
+    go (yes p) q = rw (lt-leb v x p, ne-eqb x v (λ e. absurd (omega (arith, e))))
+    go (no p) (yes q) = rw (le-leb v x (omega arith), le-ltb x (v + 1) (omega arith), ne-eqb x v (λ e. absurd (omega (arith, e))))
+    go (no p) (no q) = rw (le-leb v x (omega arith), lt-ltb x (v + 1) (omega arith), eq-eqb x v (omega arith))
 
--- THE NEXT SYLLABLE
-pub next-none : (from low : ℕ) (ys : List Syllable) → Rising low ys → Small ys → least from ys ≡ noVerse → fromVerse from ys ≡ []
-next-none from low [] r a e = refl
-next-none from low (y ∷ ys) r a e =
-    by-test (leb from (y .verse)) (λ f. absurd (omega (arith, e, a .0, least-first from low y ys r a f)))
-    (λ f. from-no from y ys (leb-false from (y .verse) f) ∙ next-none from (suc (y .verse)) ys (r .1) (a .1) (sym (least-no from y ys f) ∙ e))
+within-one : (v : ℕ) (ys : List Syllable) → within v (v + 1) ys ≡ ofVerse v ys
+within-one v [] = refl
+within-one v (y ∷ ys) = λ i. cond (one-verse (y .verse) v i) (y ∷ within-one v ys i) (within-one v ys i)
 
-pub next-some : (from low m : ℕ) (ys : List Syllable) → Rising low ys → Small ys → least from ys ≡ m → m < noVerse → (z : Syllable) → ofVerse m ys ≡ z ∷ []
-    → fromVerse from ys ≡ z ∷ fromVerse (m + 1) ys
-next-some from low m [] r a e h z o = absurd (omega (arith, e, least-nil from))
-next-some from low m (y ∷ ys) r a e h z o =
-    by-test (leb from (y .verse))
-    (λ f.
-    let same : y .verse ≡ m = sym (least-first from low y ys r a f) ∙ e in
-    let head : y ≡ z = head-eq-of-cons-eq (sym (of-yes m y ys same) ∙ o) in
-    from-yes from y ys (leb-true from (y .verse) f)
-    ∙ (λ i. head i ∷ from-all from (suc (y .verse)) ys (omega (arith, leb-true from (y .verse) f)) (r .1) i)
-    ∙ ap (λ (l : List Syllable). z ∷ l) (sym (from-no (m + 1) y ys (omega (arith, same)) ∙ from-all (m + 1) (suc (y .verse)) ys (omega (arith, same)) (r .1))))
-    (λ f.
-    let on : least from ys ≡ m = sym (least-no from y ys f) ∙ e in
-    let low : from ≤ m = omega (arith, on, least-from from ys (omega (arith, on))) in
-    let less : y .verse < from = leb-false from (y .verse) f in
-    from-no from y ys less
-    ∙ next-some from (suc (y .verse)) m ys (r .1) (a .1) on h z (sym (of-no m y ys (λ g. absurd (omega (arith, g)))) ∙ o)
-    ∙ ap (λ (l : List Syllable). z ∷ l) (sym (from-no (m + 1) y ys (omega arith))))
+-- verse by verse
+pub within-next : (v b : ℕ) (ys : List Syllable) → v < b → Rising 0 ys → within v b ys ≡ ofVerse v ys ++ within (v + 1) b ys
+within-next v b ys h r = within-split v (v + 1) b 0 ys (omega arith) (omega arith) r ∙ ap (λ (l : List Syllable). l ++ within (v + 1) b ys) (within-one v ys)
 
-pub next-must : (from low m : ℕ) (ys : List Syllable) → Rising low ys → Small ys → least from ys ≡ m → m < noVerse → ofVerse m ys ≡ [] → ⊥
-next-must from low m [] r a e h o = absurd (omega (arith, e, least-nil from))
-next-must from low m (y ∷ ys) r a e h o =
-    by-test (leb from (y .verse)) (λ f. nil≢cons (sym o ∙ of-yes m y ys (sym (least-first from low y ys r a f) ∙ e)))
-    (λ f.
-    let on : least from ys ≡ m = sym (least-no from y ys f) ∙ e in
-    let low : from ≤ m = omega (arith, on, least-from from ys (omega (arith, on))) in
-    let less : y .verse < from = leb-false from (y .verse) f in
-    next-must from (suc (y .verse)) m ys (r .1) (a .1) on h (sym (of-no m y ys (λ g. absurd (omega (arith, g)))) ∙ o))
+-- all of them
+pub within-all : (b : ℕ) (ys : List Syllable) → All (λ (y : Syllable). y .verse < b) ys → within 0 b ys ≡ ys
+within-all b [] a = refl
+within-all b (y ∷ ys) a = in-yes 0 b y ys (omega arith) (a .0) ∙ ap (λ (l : List Syllable). y ∷ l) (within-all b ys (a .1))
+
+-- from the least verse on
+pub within-start : (a b least most : ℕ) (ys : List Syllable) → All (Between least most) ys → within a b ys ≡ within (max least a) b ys
+within-start a b least most [] h = refl
+within-start a b least most (y ∷ ys) h =
+    λ i. cond (same i && ltb (y .verse) b) (y ∷ within-start a b least most ys (h .1) i) (within-start a b least most ys (h .1) i)
+  where
+    same : leb a (y .verse) ≡ leb (max least a) (y .verse)
+    same = go (decLt (y .verse) a)
+      where
+        go : Dec (y .verse < a) → leb a (y .verse) ≡ leb (max least a) (y .verse)
+        go (yes p) = rw (lt-leb a (y .verse) p, lt-leb (max least a) (y .verse) (omega arith))
+        go (no p) = rw (le-leb a (y .verse) (omega arith), le-leb (max least a) (y .verse) (omega (arith, h .0 .0)))
+
+-- none past the greatest
+pub within-past : (a b least most : ℕ) (ys : List Syllable) → All (Between least most) ys → most < a → within a b ys ≡ []
+within-past a b least most [] h l = refl
+within-past a b least most (y ∷ ys) h l = in-below a b y ys (omega (arith, h .0 .1)) ∙ within-past a b least most ys (h .1) l
+
+pub within-none : (a b : ℕ) (ys : List Syllable) → b ≤ a → within a b ys ≡ []
+within-none a b [] h = refl
+within-none a b (y ∷ ys) h = go (decLt (y .verse) a) ∙ within-none a b ys h
+  where
+    go : Dec (y .verse < a) → within a b (y ∷ ys) ≡ within a b ys
+    go (yes p) = in-below a b y ys p
+    go (no p) = in-above a b y ys (omega arith)

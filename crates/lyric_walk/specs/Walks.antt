@@ -1,11 +1,11 @@
--- A note's syllables in the order of their verses.
-use Prim.Native.Nat.{ℕ, _+_, _*_, _≤_, _<_, min}
+-- A note's syllables by their verses.
+use Prim.Native.Nat.{ℕ, _+_, _-_, _*_, _≤_, _<_}
 use mathlib.Core.Path.{_≡_}
-use mathlib.Core.Bool.{cond}
+use mathlib.Core.Bool.{Bool, true, false, cond, _&&_}
 use mathlib.Core.List.{List, [], _∷_}
-use lib.Dec.{eqb, leb}
+use lib.Dec.{eqb, leb, ltb}
 use lib.ListN.{length, getD}
-use Rattle.laws.specs.Lists.{filter}
+use Rattle.laws.specs.Lists.{All, filter}
 use Rattle.laws.specs.Bytes.{between}
 use Rattle.standard.specs.Bytes.{is}
 use Rattle.standard.specs.Lyrics.{syllableText}
@@ -14,10 +14,9 @@ use Rattle.reader.specs.Lyrics.{Syllable}
 use Rattle.lyric_words.specs.Words.{asSyllabic}
 use Rattle.lyrics.specs.declared.Sheet.{Sheet}
 use Rattle.lyrics.specs.declared.Row.{Row}
-use Rattle.lyrics.specs.Sheet.{lyricHeadWidth, lyricRowWidth, holdCode, applyRow, sungFrom, syllablesIn}
+use Rattle.lyrics.specs.Sheet.{lyricHeadWidth, lyricRowWidth, holdCode, rowOf, rowAt, applyRow, sungFrom, syllablesIn}
 use Rattle.lyric_walk.specs.declared.Found.{Found}
-use Rattle.lyric_walk.specs.declared.Next.{Next}
-use Rattle.lyric_walk.specs.declared.Next.the-variants as N
+use Rattle.lyric_walk.specs.declared.Span.{Span}
 use Rattle.lyric_walk.specs.declared.Sole.{Sole}
 use Rattle.lyric_walk.specs.declared.Sole.the-variants as S
 use Rattle.lyric_walk.specs.declared.Link.{Link}
@@ -42,51 +41,71 @@ rowOfLink r = record { verse = r .verse; code = r .code; at = r .at; end = r .en
 -- r is row k, and the chain goes on below it
 pub record LinkIs (s : List ℕ) (log k : ℕ) (r : Link) : Type 0 where
   pub low : r .next < k
+  pub row : rowOfLink r ≡ rowOf (rowAt s log (k - 1))
   pub sung : (text : List ℕ) → chain text s log k ≡ applyRow text (rowOfLink r) (chain text s log (r .next))
-
--- a number past every verse
-abbrev pub noVerse : ℕ
-noVerse = 256
-
--- the least verse from `from` on; noVerse for none
-unfoldable pub least : ℕ → List Syllable → ℕ
-least from [] = noVerse
-least from (y ∷ ys) = cond (leb from (y .verse)) (min (y .verse) (least from ys)) (least from ys)
-
--- m is the least verse from `from` on in the chain from row k on
-pub record LeastIs (s : List ℕ) (log k from m : ℕ) : Type 0 where
-  pub least-is : (text : List ℕ) → m ≡ least from (chain text s log k)
-
--- the least so far, after a row
-abbrev pub better : ℕ → ℕ → ℕ → ℕ → ℕ
-better from best verse code = cond (eqb code holdCode) best (cond (leb from verse) (min verse best) best)
-
--- the syllables of one verse; those from a verse on
-abbrev pub ofVerse : ℕ → List Syllable → List Syllable
-ofVerse v ys = filter (λ (y : Syllable). eqb (y .verse) v) ys
-
-abbrev pub fromVerse : ℕ → List Syllable → List Syllable
-fromVerse v ys = filter (λ (y : Syllable). leb v (y .verse)) ys
 
 -- the syllable that was found: `~` is a space
 unfoldable pub syllableIs : List ℕ → Found → Syllable
 syllableIs text f = record { verse = f .verse; syllabic = asSyllabic (f .syllabic); extend = f .extend; text = syllableText (between text (f .at) (f .end)) }
 
--- what was found of verse v
-abbrev pub Finds : List ℕ → List Syllable → ℕ → Next → Type 0
-Finds text ys v (N.Sung f) = (f .verse ≡ v) × (ofVerse v ys ≡ syllableIs text f ∷ [])
-Finds text ys v N.NoMore = ofVerse v ys ≡ []
+-- BY VERSE
+-- the syllables of one verse; those of the verses from a on, below b
+abbrev pub ofVerse : ℕ → List Syllable → List Syllable
+ofVerse v ys = filter (λ (y : Syllable). eqb (y .verse) v) ys
 
-pub record FoundIs (s : List ℕ) (log k v : ℕ) (r : Next) : Type 0 where
-  pub found : (text : List ℕ) → Finds text (chain text s log k) v r
+abbrev pub within : ℕ → ℕ → List Syllable → List Syllable
+within a b ys = filter (λ (y : Syllable). leb a (y .verse) && ltb (y .verse) b) ys
 
--- the first syllable from verse `from` on, and those behind it; or there is none
-abbrev pub Goes : List ℕ → List Syllable → ℕ → Next → Type 0
-Goes text ys from (N.Sung f) = fromVerse from ys ≡ syllableIs text f ∷ fromVerse (f .verse + 1) ys
-Goes text ys from N.NoMore = fromVerse from ys ≡ []
+-- row p of the log, from 1, as a syllable; held, or not
+abbrev pub foundOf : Row → Bool → Found
+foundOf r x = record { verse = r .verse; syllabic = r .code; extend = x; at = r .at; end = r .end }
 
-pub record NextIs (s : List ℕ) (log k from : ℕ) (r : Next) : Type 0 where
-  pub goes : (text : List ℕ) → Goes text (chain text s log k) from r
+abbrev pub foundAt : List ℕ → ℕ → ℕ → Bool → Found
+foundAt s log p x = foundOf (rowOf (rowAt s log (p - 1))) x
+
+-- what it sings; nothing for 0
+abbrev pub sungAt : List ℕ → List ℕ → ℕ → ℕ → Bool → List Syllable
+sungAt text s log p x = cond (eqb p 0) [] (syllableIs text (foundAt s log p x) ∷ [])
+
+-- ONE WALK
+-- the first row that sings a verse, and whether a hold of the verse stands before it, after a row of that verse
+abbrev pub firstPlace : ℕ → ℕ → ℕ → ℕ
+firstPlace p code place = cond (eqb p 0) (cond (eqb code holdCode) 0 place) p
+
+abbrev pub heldSince : ℕ → Bool → ℕ → Bool
+heldSince p x code = cond (eqb p 0) (cond (eqb code holdCode) true x) x
+
+-- how many verses a window has
+abbrev pub window : ℕ
+window = 33
+
+-- a place and a hold for each
+pub record Wide (places : List ℕ) (held : List Bool) : Type 0 where
+  pub places-long : length places ≡ window
+  pub held-long : length held ≡ window
+
+-- nothing is found yet
+pub record Clear (places : List ℕ) (held : List Bool) : Type 0 where
+  pub wide : Wide places held
+  pub none : (i : ℕ) → i < window → getD places i 0 ≡ 0
+  pub loose : (i : ℕ) → i < window → getD held i false ≡ false
+
+-- the row at `place`, of a verse, is taken into the window from `from` on: q and y were p and x; other verses are as they were
+pub record TakesRow (from verse code place : ℕ) (p : List ℕ) (x : List Bool) (q : List ℕ) (y : List Bool) : Type 0 where
+  pub wide : Wide q y
+  pub here : (i : ℕ) → i < window → from + i ≡ verse → (getD q i 0 ≡ firstPlace (getD p i 0) code place) × (getD y i false ≡ heldSince (getD p i 0) (getD x i false) code)
+  pub other : (i : ℕ) → i < window → (from + i ≡ verse → ⊥) → (getD q i 0 ≡ getD p i 0) × (getD y i false ≡ getD x i false)
+
+-- the verse of a syllable is one from least to most
+abbrev pub Between : ℕ → ℕ → Syllable → Type 0
+Between least most y = (least ≤ y .verse) × (y .verse ≤ most)
+
+-- what the chain from row k on sings of each verse of the window from `from` on; and its least and greatest verse
+pub record Gathered (s : List ℕ) (log k from : ℕ) (places : List ℕ) (held : List Bool) (r : Span) : Type 0 where
+  pub low : (i : ℕ) → i < window → getD places i 0 ≤ k
+  pub each : (i : ℕ) → i < window → (text : List ℕ) → ofVerse (from + i) (chain text s log k) ≡ sungAt text s log (getD places i 0) (getD held i false)
+  pub span : (text : List ℕ) → All (Between (r .least) (r .most)) (chain text s log k)
+  pub small : r .most < 256
 
 -- A SYLLABLE IN THE TEXT
 abbrev pub withPlace : Found → ℕ → ℕ → Found
@@ -96,14 +115,6 @@ withPlace f at end = record { verse = f .verse; syllabic = f .syllabic; extend =
 pub record InText (n : ℕ) (f r : Found) : Type 0 where
   pub cut : Cut n (f .at) (f .end) (record { at = r .at; end = r .end })
   pub same : r ≡ withPlace f (r .at) (r .end)
-
--- the first syllable from verse `from` on, which stands in the text, and those behind it; or there is none
-abbrev pub Comes : List ℕ → List Syllable → ℕ → Next → Type 0
-Comes text ys from (N.Sung f) = (fromVerse from ys ≡ syllableIs text f ∷ fromVerse (f .verse + 1) ys) × (from ≤ f .verse) × (f .at ≤ f .end) × (f .end ≤ length text)
-Comes text ys from N.NoMore = fromVerse from ys ≡ []
-
-pub record NextIn (text s : List ℕ) (log k from : ℕ) (r : Next) : Type 0 where
-  pub comes : Comes text (chain text s log k) from r
 
 -- the chain from row k on goes on behind its first row
 pub record GoesOn (s : List ℕ) (log k : ℕ) : Type 0 where

@@ -1,14 +1,17 @@
-// What is sung to a note, read from scratch: its syllables in the order of their verses, one by one. A chain of several rows is walked twice for each syllable.
-ghost use Prim.Native.Nat.{_+_, _*_, _≤_, _<_};
+// What is sung to a note, read from scratch: one walk along the rows of its chain finds the row of each verse.
+ghost use Prim.Native.Nat.{_+_, _*_, _≤_, _<_, min, max};
 ghost use mathlib.Core.Path.{_≡_};
-ghost use mathlib.Core.Bool.{cond, not, _&&_, _||_};
-ghost use lib.Dec.{eqb, ltb};
+ghost use mathlib.Core.Bool.{cond};
+ghost use lib.Dec.{ltb};
 ghost use lib.ListN.{length};
-ghost use Rattle.lyrics.specs.Sheet.{lyricRowWidth, holdCode};
-ghost use Rattle.lyric_walk.specs.Walks.{Tables, HeadIs, LinkIs, LeastIs, better, FoundIs, NextIs, withPlace, InText, NextIn, SoleIs, sungByte};
+ghost use Rattle.lyrics.specs.Sheet.{lyricRowWidth};
+ghost use Rattle.lyric_walk.specs.Walks.{Tables, HeadIs, LinkIs, firstPlace, heldSince, Wide, Clear, TakesRow, Gathered, foundAt, withPlace, InText, SoleIs, sungByte};
 
-// A number past every verse, for none.
-const NO_VERSE: usize = 256;
+// The verses that one walk finds: a window of them, which holds all that a tune has (0 to 32).
+pub const WINDOW: usize = 33;
+
+// Past every verse: a whole number of windows.
+pub const VERSES: usize = 264;
 
 // A syllable: its verse, its syllabic's number, whether a later note holds it, and its place in the text.
 pub struct Found {
@@ -19,9 +22,10 @@ pub struct Found {
     pub end: usize,
 }
 
-pub enum Next {
-    Sung(Found),
-    NoMore,
+// The least and the greatest verse in a chain.
+pub struct Span {
+    pub least: usize,
+    pub most: usize,
 }
 
 // What is sung to a note, if its chain has no more than one row.
@@ -75,95 +79,93 @@ fn get_link(scratch: &[u8], log: usize, k: usize) -> Link
     }
 }
 
-// The least verse so far, after one more row.
-fn less_of(from: usize, best: usize, verse: usize, code: u8) -> usize
-    ensures { λ r. ⌜ r ≡ better from best verse code ⌝ }
+pub fn lesser(a: usize, b: usize) -> usize
+    ensures { λ r. ⌜ r ≡ min a b ⌝ }
 {
+    if a < b { a } else { b }
+}
+
+pub fn greater(a: usize, b: usize) -> usize
+    ensures { λ r. ⌜ r ≡ max a b ⌝ }
+{
+    if a < b { b } else { a }
+}
+
+// The place, from 1, of the first row so far that sings a verse, after a row of that verse at `place`; 0 for none.
+fn first_place(found: usize, code: u8, place: usize) -> usize
+    ensures { λ r. ⌜ r ≡ firstPlace found code place ⌝ }
+{
+    if found != 0 {
+        return found;
+    }
     if code == lyrics::HOLD {
-        return best;
+        return 0;
     }
-    if from <= verse {
-        if verse <= best {
-            return verse;
-        }
-        return best;
-    }
-    best
+    place
 }
 
-// The least verse from `from` on that is sung in the chain from row k on; NO_VERSE for none.
-fn next_verse(scratch: &[u8], log: usize, k: usize, from: usize) -> usize
-    requires { ⌜ log + lyricRowWidth * k ≤ length (now scratch) ⌝ }
-    ensures { λ r. ⌜ LeastIs (now (scratch .entry)) log k from r ⌝ }
+// A hold of the verse stands before that row, after a row of that verse.
+fn is_held(found: usize, held: bool, code: u8) -> bool
+    ensures { λ r. ⌜ r ≡ heldSince found held code ⌝ }
 {
-    let mut best = NO_VERSE;
-    let mut place = k;
-    while 0 < place {
-        let row = get_link(scratch, log, place);
-        best = less_of(from, best, row.verse as usize, row.code);
-        place = row.next;
+    if found != 0 {
+        return held;
     }
-    best
-}
-
-// The row is a syllable of the verse.
-fn sings(verse: u8, code: u8, wanted: usize) -> bool
-    ensures { λ r. ⌜ r ≡ (not (eqb code holdCode) && eqb verse wanted) ⌝ }
-{
     if code == lyrics::HOLD {
-        return false;
-    }
-    verse as usize == wanted
-}
-
-// It is held, by this row or a later one.
-fn is_held(held: bool, verse: u8, code: u8, wanted: usize) -> bool
-    ensures { λ r. ⌜ r ≡ (held || (eqb code holdCode && eqb verse wanted)) ⌝ }
-{
-    if held {
         return true;
     }
-    if code == lyrics::HOLD {
-        return verse as usize == wanted;
-    }
-    false
+    held
 }
 
-// The syllable of a verse in the chain from row k on.
-fn find(scratch: &[u8], log: usize, k: usize, wanted: usize) -> Next
-    requires { ⌜ log + lyricRowWidth * k ≤ length (now scratch) ⌝ }
-    ensures { λ r. ⌜ FoundIs (now (scratch .entry)) log k wanted r ⌝ }
+// Takes the row at `place` into the window of verses from `from` on.
+fn take_row(
+    places: &mut [usize; 33],
+    held: &mut [bool; 33],
+    from: usize,
+    verse: usize,
+    code: u8,
+    place: usize,
+)
+    requires { ⌜ Wide (now places) (now held) ⌝ }
+    ensures { λ _. ⌜ TakesRow from verse code place (now (places .entry)) (now (held .entry)) (now (places .exit)) (now (held .exit)) ⌝ }
 {
-    let mut extend = false;
+    if verse < from {
+        return;
+    }
+    let i = verse - from;
+    if WINDOW <= i {
+        return;
+    }
+    let found = places[i];
+    let extend = held[i];
+    places[i] = first_place(found, code, place);
+    held[i] = is_held(found, extend, code);
+}
+
+// Walks along the chain from row k on: for each verse of the window from `from` on the place of its row, 0 for none, and whether it is held.
+pub fn gather(
+    scratch: &[u8],
+    log: usize,
+    k: usize,
+    from: usize,
+    places: &mut [usize; 33],
+    held: &mut [bool; 33],
+) -> Span
+    requires { ⌜ (log + lyricRowWidth * k ≤ length (now scratch)) × Clear (now places) (now held) ⌝ }
+    ensures { λ r. ⌜ Gathered (now (scratch .entry)) log k from (now (places .exit)) (now (held .exit)) r ⌝ }
+{
+    let mut least = VERSES;
+    let mut most = 0;
     let mut place = k;
     while 0 < place {
         let row = get_link(scratch, log, place);
-        if sings(row.verse, row.code, wanted) {
-            let found = Found {
-                verse: row.verse,
-                syllabic: row.code,
-                extend,
-                at: row.at,
-                end: row.end,
-            };
-            return Next::Sung(found);
-        }
-        extend = is_held(extend, row.verse, row.code, wanted);
+        let verse = row.verse as usize;
+        take_row(places, held, from, verse, row.code, place);
+        least = lesser(least, verse);
+        most = greater(most, verse);
         place = row.next;
     }
-    Next::NoMore
-}
-
-// The first syllable from verse `from` on in the chain from row k on.
-fn first_from(scratch: &[u8], log: usize, k: usize, from: usize) -> Next
-    requires { ⌜ log + lyricRowWidth * k ≤ length (now scratch) ⌝ }
-    ensures { λ r. ⌜ NextIs (now (scratch .entry)) log k from r ⌝ }
-{
-    let verse = next_verse(scratch, log, k, from);
-    if verse == NO_VERSE {
-        return Next::NoMore;
-    }
-    find(scratch, log, k, verse)
+    Span { least, most }
 }
 
 // The same syllable at another place.
@@ -195,16 +197,20 @@ fn in_text(len: usize, f: Found) -> Found
     f
 }
 
-// The first syllable from verse `from` on in the chain from row k on. All of a note's: k is its head; from 0 on, then from each one's verse and 1 on.
-pub fn next_syllable(text: &[u8], scratch: &[u8], log: usize, k: usize, from: usize) -> Next
-    requires { ⌜ log + lyricRowWidth * k ≤ length (now scratch) ⌝ }
-    ensures { λ r. ⌜ NextIn (now (text .entry)) (now (scratch .entry)) log k from r ⌝ }
+// The syllable of row `place` of the log, from 1, in the text.
+pub fn syllable_at(text: &[u8], scratch: &[u8], log: usize, place: usize, held: bool) -> Found
+    requires { ⌜ (1 ≤ place) × (log + lyricRowWidth * place ≤ length (now scratch)) ⌝ }
+    ensures { λ r. ⌜ InText (length (now (text .entry))) (foundAt (now (scratch .entry)) log place held) r ⌝ }
 {
-    let Next::Sung(f) = first_from(scratch, log, k, from) else {
-        return Next::NoMore;
+    let row = get_link(scratch, log, place);
+    let found = Found {
+        verse: row.verse,
+        syllabic: row.code,
+        extend: held,
+        at: row.at,
+        end: row.end,
     };
-    let g = in_text(text.len(), f);
-    Next::Sung(g)
+    in_text(text.len(), found)
 }
 
 // What is sung to a note whose chain begins at row k, at once where it has one row or none.

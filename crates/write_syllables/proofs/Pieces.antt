@@ -1,30 +1,32 @@
 -- What is written for syllables, as the writers go through them.
-use Prim.Native.Nat.{ℕ, zero, suc, _+_, _-_, _*_, _/_, _%_, _≤_, _<_}
+use Prim.Native.Nat.{ℕ, zero, suc, _+_, _-_, _*_, _/_, _%_, _≤_, _<_, min, max}
 use mathlib.Core.Path.{_≡_, refl, sym, ap, subst, _∙_}
 use mathlib.Core.Bool.{Bool, false}
 use mathlib.Core.List.{List, [], _∷_, _++_, append-assoc, append-nil}
+use native.Mathlib.Decide.{decLt}
 use native.Mathlib.Omega.{arith}
 use lib.Dec.{eqb}
-use borrow.Author.Tests.{ne-eqb}
+use borrow.Author.Tests.{eq-eqb, ne-eqb}
 use lib.ListN.{length, getD, set, length-append, length-map, List·getD-eq-default}
 use Rattle.laws.specs.Bytes.{part, between, splice, le32}
 use Rattle.laws.proofs.Parts.{length-part, length-between, part-none}
 use Rattle.laws.proofs.Splices.{splice-nil, splice-snoc, spliced-next}
 use Rattle.laws.proofs.Numbers.{length-little, le32-bytes}
-use Rattle.laws.proofs.Rows.{encAll-none, encAll-cons}
+use Rattle.laws.proofs.Lists.{All-map}
+use Rattle.laws.proofs.Rows.{encAll-none, encAll-cons, encAll-append}
 use Rattle.standard.specs.Lyrics.{syllableText}
 use Rattle.reader.specs.Codes.{syllabicCode, bit}
 use Rattle.reader.specs.Lyrics.{Syllable}
 use Rattle.reader.specs.Records.{lyricBytes}
 use Rattle.lyric_words.specs.Words.{asSyllabic}
 use Rattle.lyric_walk.specs.declared.Found.{Found}
-use Rattle.lyric_walk.specs.declared.Next.{Next}
-use Rattle.lyric_walk.specs.declared.Next.the-variants as N
+use Rattle.lyric_walk.specs.declared.Span.{Span}
 use Rattle.lyric_walk.specs.declared.Sole.{Sole}
 use Rattle.lyric_walk.specs.declared.Sole.the-variants as S
-use Rattle.lyric_walk.specs.Walks.{chain, fromVerse, syllableIs, Comes, NextIn, Says, SoleIs, sungByte}
-use Rattle.lyric_walk.proofs.Verses.{walk-start}
-use Rattle.lyric_walk.proofs.Walk.{text-length, text-more}
+use Rattle.lyric_walk.specs.Walks.{chain, syllableIs, ofVerse, within, foundAt, sungAt, window, Gathered, InText, Says, SoleIs, sungByte}
+use Rattle.lyric_walk.proofs.Chains.{verses-small}
+use Rattle.lyric_walk.proofs.Verses.{rising-chain, within-split, within-next, within-all, within-start, within-past, within-none}
+use Rattle.lyric_walk.proofs.Walk.{same-syllable, text-length, text-more}
 use Rattle.store_sections.specs.declared.Wrote.the-variants.{To, NoRoom}
 use Rattle.store_sections.specs.Writes.{WroteIs}
 use Rattle.write_syllables.specs.Pieces.{piece, pieces}
@@ -106,10 +108,7 @@ text-on d e text at j b p q h =
     ap (λ (l : List ℕ). set l j b) p ∙ splice-snoc d 0 (syllableText (part text at j)) j b (omega arith)
     ∙ ap (splice d 0) (ap (λ (x : ℕ). syllableText (part text at j) ++ (x ∷ [])) q ∙ sym (text-more text at j h))
 
--- where a syllable that was found stands
-pub found-in : (text s : List ℕ) (log k from : ℕ) (r : Next) (f : Found) → NextIn text s log k from r → r ≡ N.Sung f → (from ≤ f .verse) × (f .at ≤ f .end) × (f .end ≤ length text)
-found-in text s log k from r f n e = let (g, a, b, c) = subst (Comes text (chain text s log k) from) e (n .comes) in (a, b, c)
-
+-- where a syllable stands
 pub sole-in : (text s : List ℕ) (log k : ℕ) (r : Sole) (f : Found) → SoleIs text s log k r → r ≡ S.One f → (f .at ≤ f .end) × (f .end ≤ length text)
 sole-in text s log k r f n e = let (g, a, b) = subst (Says text s log k) e (n .says) in (a, b)
 
@@ -123,17 +122,56 @@ module _ (b : Bool) (i : ℕ) where
   unfolding pieces
   pieces-none e = ap (pieces b i) e ∙ encAll-none (piece b i)
 
-  -- the chain of a note, verse by verse
+  pieces-append : {ys : List Syllable} (xs zs : List Syllable) → ys ≡ xs ++ zs → pieces b i ys ≡ pieces b i xs ++ pieces b i zs
+  unfolding pieces
+  pieces-append {ys} xs zs e = ap (pieces b i) e ∙ encAll-append (piece b i) xs zs
+
+  -- a row of the log as a syllable; none for 0
+  module _ (text s : List ℕ) (log p : ℕ) (x : Bool) where
+    pub place-none : p ≡ 0 → pieces b i (sungAt text s log p x) ≡ []
+    place-none e = pieces-none (rw (eq-eqb p 0 e))
+
+    pub place-one : (p ≡ 0 → ⊥) → (f : Found) → InText (length text) (foundAt s log p x) f → pieces b i (sungAt text s log p x) ≡ piece b i (syllableIs text f)
+    place-one n f t =
+        pieces-cons (rw (ne-eqb p 0 n) (ap (λ (y : Syllable). y ∷ []) (sym (same-syllable text (foundAt s log p x) f t))))
+        ∙ ap (λ (l : List ℕ). piece b i (syllableIs text f) ++ l) (pieces-none refl) ∙ append-nil (piece b i (syllableIs text f))
+
   module _ (text s : List ℕ) (log k : ℕ) where
-    pub chain-start : pieces b i (chain text s log k) ≡ pieces b i (fromVerse 0 (chain text s log k))
-    chain-start = ap (pieces b i) (sym (walk-start text s log k k))
+    -- the verses of a window, one by one
+    module _ (from : ℕ) (places : List ℕ) (held : List Bool) (r : Span) (g : Gathered s log k from places held r) where
+      pub window-start : pieces b i (within from (from + window) (chain text s log k)) ≡ pieces b i (within (max (r .least) from) (from + window) (chain text s log k))
+      window-start = ap (pieces b i) (within-start from (from + window) (r .least) (r .most) (chain text s log k) (g .span text))
 
-    pub chain-next : (from : ℕ) (r : Next) (f : Found) → NextIn text s log k from r → r ≡ N.Sung f
-        → pieces b i (fromVerse from (chain text s log k)) ≡ piece b i (syllableIs text f) ++ pieces b i (fromVerse (f .verse + 1) (chain text s log k))
-    chain-next from r f n e = pieces-cons (subst (Comes text (chain text s log k) from) e (n .comes) .0)
+      pub window-next : (v : ℕ) → from ≤ v → v < from + window
+          → pieces b i (within v (from + window) (chain text s log k))
+          ≡ pieces b i (sungAt text s log (getD places (v - from) 0) (getD held (v - from) false)) ++ pieces b i (within (v + 1) (from + window) (chain text s log k))
+      window-next v h l =
+          let at : from + (v - from) ≡ v = omega arith in
+          pieces-append (ofVerse v (chain text s log k)) (within (v + 1) (from + window) (chain text s log k)) (within-next v (from + window) (chain text s log k) l (rising-chain text s log k k))
+          ∙ ap (λ (zs : List Syllable). pieces b i zs ++ pieces b i (within (v + 1) (from + window) (chain text s log k)))
+          (ap (λ (u : ℕ). ofVerse u (chain text s log k)) (sym at) ∙ g .each (v - from) (omega arith) text)
 
-    pub chain-end : (from : ℕ) (r : Next) → NextIn text s log k from r → r ≡ N.NoMore → pieces b i (fromVerse from (chain text s log k)) ≡ []
-    chain-end from r n e = pieces-none (subst (Comes text (chain text s log k) from) e (n .comes))
+      pub window-end : (v : ℕ) → min (r .most + 1) (from + window) ≤ v → pieces b i (within v (from + window) (chain text s log k)) ≡ []
+      window-end v h = pieces-none (go (decLt v (from + window)))
+        where
+          go : Dec (v < from + window) → within v (from + window) (chain text s log k) ≡ []
+          go (yes l) = within-past v (from + window) (r .least) (r .most) (chain text s log k) (g .span text) (omega arith)
+          go (no l) = within-none v (from + window) (chain text s log k) (omega arith)
+
+      -- no verse is above it
+      pub verses-end : (a c : ℕ) → r .most < a → pieces b i (within a c (chain text s log k)) ≡ []
+      verses-end a c h = pieces-none (within-past a c (r .least) (r .most) (chain text s log k) (g .span text) h)
+
+    -- the chain, window by window
+    pub chain-start : (c : ℕ) → 256 ≤ c → ((j : ℕ) → getD s j 0 < 256) → pieces b i (chain text s log k) ≡ pieces b i (within 0 c (chain text s log k))
+    chain-start c h bytes =
+        ap (pieces b i) (sym (within-all c (chain text s log k) (All-map (λ (y : Syllable). y .verse < 256) (λ (y : Syllable). y .verse < c) (λ y l. omega arith) (chain text s log k) (verses-small text s log k k bytes))))
+
+    pub chain-next : (a m c : ℕ) → a ≤ m → m ≤ c → pieces b i (within a c (chain text s log k)) ≡ pieces b i (within a m (chain text s log k)) ++ pieces b i (within m c (chain text s log k))
+    chain-next a m c h l = pieces-append (within a m (chain text s log k)) (within m c (chain text s log k)) (within-split a m c 0 (chain text s log k) h l (rising-chain text s log k k))
+
+    pub chain-end : (a c : ℕ) → c ≤ a → pieces b i (within a c (chain text s log k)) ≡ []
+    chain-end a c h = pieces-none (within-none a c (chain text s log k) h)
 
     -- its one syllable, or none
     pub sole-none : (r : Sole) → SoleIs text s log k r → r ≡ S.Nothing → pieces b i (chain text s log k) ≡ []

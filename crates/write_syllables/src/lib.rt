@@ -10,7 +10,7 @@ ghost use Rattle.reader.specs.Records.{lyricBytes};
 ghost use Rattle.store_sections.specs.Writes.{WroteIs};
 ghost use Rattle.lyric_words.specs.Words.{asSyllabic};
 ghost use Rattle.lyrics.specs.Sheet.{syllablesIn, lyricRowWidth};
-ghost use Rattle.lyric_walk.specs.Walks.{Tables, chain, syllableIs};
+ghost use Rattle.lyric_walk.specs.Walks.{Tables, chain, syllableIs, within, sungAt, window, Gathered};
 ghost use Rattle.write_syllables.specs.Pieces.{piece, pieces};
 use reading_records::LYRIC;
 use store_sections::Wrote;
@@ -98,7 +98,62 @@ fn write_piece(text: &[u8], note: usize, f: lyric_walk::Found, texts: bool, to: 
     write_record(note, f, to)
 }
 
-// Those of the chain from row k of the log on, verse by verse. No verse is above 255.
+// The syllable of row `place` of the log; nothing for 0.
+fn write_place(
+    text: &[u8],
+    store: &[u8],
+    log: usize,
+    place: usize,
+    held: bool,
+    note: usize,
+    texts: bool,
+    to: &mut [u8],
+) -> Wrote
+    requires { ⌜ log + lyricRowWidth * place ≤ length (now store) ⌝ }
+    ensures { λ r. ⌜ WroteIs (now (to .entry)) (pieces texts note (sungAt (now (text .entry)) (now (store .entry)) log place held)) (now (to .exit)) r ⌝ }
+{
+    if place == 0 {
+        return Wrote::To(0);
+    }
+    let f = lyric_walk::syllable_at(text, store, log, place, held);
+    write_piece(text, note, f, texts, to)
+}
+
+// Those of the verses of a window that was gathered in the chain from row k on, verse by verse.
+fn write_window(
+    text: &[u8],
+    store: &[u8],
+    log: usize,
+    k: usize,
+    from: usize,
+    places: &[usize; 33],
+    held: &[bool; 33],
+    span: lyric_walk::Span,
+    note: usize,
+    texts: bool,
+    to: &mut [u8],
+) -> Wrote
+    requires { ⌜ (log + lyricRowWidth * k ≤ length (now store)) × (from + window < 18446744073709551616) × Gathered (now store) log k from (now places) (now held) span ⌝ }
+    ensures { λ r. ⌜ WroteIs (now (to .entry)) (pieces texts note (within from (from + window) (chain (now (text .entry)) (now (store .entry)) log k))) (now (to .exit)) r ⌝ }
+{
+    let end = lyric_walk::lesser(span.most + 1, from + lyric_walk::WINDOW);
+    let mut at = 0;
+    let mut verse = lyric_walk::greater(span.least, from);
+    while verse < end {
+        let i = verse - from;
+        let place = places[i];
+        let extend = held[i];
+        let Wrote::To(m) = write_place(text, store, log, place, extend, note, texts, &mut to[at..])
+        else {
+            return Wrote::NoRoom;
+        };
+        at += m;
+        verse += 1;
+    }
+    Wrote::To(at)
+}
+
+// Those of the chain from row k of the log on: one walk where no verse is above the first window's.
 fn write_verses(
     text: &[u8],
     store: &[u8],
@@ -113,15 +168,30 @@ fn write_verses(
 {
     let mut at = 0;
     let mut from = 0;
-    while from < 257 {
-        let lyric_walk::Next::Sung(f) = lyric_walk::next_syllable(text, store, log, k, from) else {
-            return Wrote::To(at);
-        };
-        let Wrote::To(m) = write_piece(text, note, f, texts, &mut to[at..]) else {
+    while from < lyric_walk::VERSES {
+        let mut places = [0; 33];
+        let mut held = [false; 33];
+        let span = lyric_walk::gather(store, log, k, from, &mut places, &mut held);
+        let Wrote::To(m) = write_window(
+            text,
+            store,
+            log,
+            k,
+            from,
+            &places,
+            &held,
+            span,
+            note,
+            texts,
+            &mut to[at..],
+        ) else {
             return Wrote::NoRoom;
         };
         at += m;
-        from = f.verse as usize + 1;
+        if span.most < from + lyric_walk::WINDOW {
+            return Wrote::To(at);
+        }
+        from += lyric_walk::WINDOW;
     }
     Wrote::To(at)
 }
