@@ -43,7 +43,7 @@ use Rattle.write_syllables.specs.Pieces.{piece, pieces}
 use Rattle.write_syllables.proofs.Pieces.{length-record}
 use Rattle.write_lyrics.specs.declared.Passed.{Passed}
 use Rattle.write_lyrics.specs.declared.Passed.the-variants as P
-use Rattle.write_lyrics.specs.Out.{leadRow, sungRow, sungRows, rowsOut, Says, PassedIs, measuresOut, countOf, counted, sectionOut}
+use Rattle.write_lyrics.specs.Out.{leadRow, sungRow, sungRows, sungTotal, rowsOut, Says, PassedIs, measuresOut, countOf, counted, sectionOut}
 
 -- A ROW, as the code asks for it
 module _ (s : List ℕ) (p : ℕ) where
@@ -82,7 +82,16 @@ unfolding sungRows
 sung-low s p zero = omega arith
 sung-low s p (suc k) = omega (arith, bit-le (sungRow s p) 1, sung-low s (p + noteRowWidth) k)
 
--- what the rows of a measure say, where the answer is known
+pub sung-total-step : (s : List ℕ) (h p n k : ℕ) → 0 < n → k ≡ noteCount s h → sungTotal s h p n ≡ sungRows s p k + sungTotal s (h + measureWidth) (p + noteRowWidth * k) (n - 1)
+unfolding sungTotal
+sung-total-step s h p zero k l e = absurd (omega arith)
+sung-total-step s h p (suc n) k l e = let f : suc n - 1 ≡ n = omega arith in rw (f, e)
+
+pub sung-total-none : (s : List ℕ) (h p n : ℕ) → n ≡ 0 → sungTotal s h p n ≡ 0
+unfolding sungTotal
+sung-total-none s h p n l = rw l
+
+-- what the writers of records say, where the answer is known
 pub passed-to : {d bs e : List ℕ} {j : ℕ} {r : Passed} → PassedIs d bs e j r → {n q : ℕ} → r ≡ P.To n q → WroteIs d bs e (To n) × (q ≡ j)
 passed-to {d} {bs} {e} {j} w p = subst (Says d bs e j) p (w .says)
 
