@@ -27,6 +27,9 @@ module _ (ws : List (List Syllable)) where
       let here = pieces true 0 (getD ws j []) in
       rw (g, x, textsOut) (ap (λ (l : List ℕ). here ++ l) (texts-cut (j + 1) a c) ∙ sym (append-assoc here (textsOut ws (j + 1) a) (textsOut ws (j + 1 + a) c)))
 
+  pub texts-all : (k : ℕ) → textsOut ws 0 k ≡ textsOut ws 0 (k - 0)
+  texts-all k = let e : k ≡ k - 0 = omega arith in ap (textsOut ws 0) e
+
   pub texts-step : (j k : ℕ) → j < k → textsOut ws j (k - j) ≡ pieces true 0 (getD ws j []) ++ textsOut ws (j + 1) (k - (j + 1))
   unfolding textsOut
   texts-step j k h = let e : k - j ≡ suc (k - (j + 1)) = omega arith in rw (e, textsOut)

@@ -153,13 +153,7 @@ fn write_records(
 // TEXTS: no byte of them depends on the index of a note, so the notes that are sung are enough, and no row is walked again.
 
 // Those of the first `sung` notes that are sung.
-fn write_texts(
-    text: &[u8],
-    store: &[u8],
-    sheet: lyrics::Sheet,
-    sung: usize,
-    to: &mut [u8],
-) -> Wrote
+fn write_texts(text: &[u8], store: &[u8], sheet: lyrics::Sheet, sung: usize, to: &mut [u8]) -> Wrote
     requires { ⌜ SheetIn (now store) sheet ⌝ }
     ensures { λ r. ⌜ WroteIs (now (to .entry)) (textsOut (syllablesIn (now (text .entry)) (now (store .entry)) sheet) 0 sung) (now (to .exit)) r ⌝ }
 {
@@ -184,13 +178,7 @@ fn write_texts(
 }
 
 // Their section. Its count is written last.
-fn write_text(
-    text: &[u8],
-    store: &[u8],
-    sheet: lyrics::Sheet,
-    sung: usize,
-    to: &mut [u8],
-) -> Wrote
+fn write_text(text: &[u8], store: &[u8], sheet: lyrics::Sheet, sung: usize, to: &mut [u8]) -> Wrote
     requires { ⌜ SheetIn (now store) sheet ⌝ }
     ensures { λ r. ⌜ WroteIs (now (to .entry)) (counted true (textsOut (syllablesIn (now (text .entry)) (now (store .entry)) sheet) 0 sung)) (now (to .exit)) r ⌝ }
 {
