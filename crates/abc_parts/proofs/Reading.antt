@@ -172,6 +172,8 @@ module _ (text s : List ℕ) (n p : ℕ) (header : Key) (t : Tables) (s₂ : Lis
           measures-in = omega (arith, inside, q .for-measures, q .for-notes, q .for-pitches);
           notes-in = omega (arith, inside, all, q .for-notes, q .for-pitches);
           pitches-in = omega (arith, inside, sounds, q .for-pitches);
+          all-notes = all;
+          all-pitches = sounds;
           few-measures = omega (arith, q .for-measures, q .for-notes, q .for-pitches, q .small);
           few-notes = q .music .few-notes;
           few-pitches = q .music .few-pitches;

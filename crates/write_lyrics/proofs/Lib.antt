@@ -1,2 +1,4 @@
 pub mod Out
 pub mod Silent
+pub mod Leads
+pub mod Texts

@@ -43,7 +43,7 @@ use Rattle.write_syllables.specs.Pieces.{piece, pieces}
 use Rattle.write_syllables.proofs.Pieces.{length-record}
 use Rattle.write_lyrics.specs.declared.Passed.{Passed}
 use Rattle.write_lyrics.specs.declared.Passed.the-variants as P
-use Rattle.write_lyrics.specs.Out.{leadRow, sungRow, sungRows, rowsOut, Says, PassedIs, measuresOut, countOf, sectionOut}
+use Rattle.write_lyrics.specs.Out.{leadRow, sungRow, sungRows, sungTotal, rowsOut, Says, PassedIs, measuresOut, countOf, counted, sectionOut}
 
 -- A ROW, as the code asks for it
 module _ (s : List ℕ) (p : ℕ) where
@@ -82,7 +82,16 @@ unfolding sungRows
 sung-low s p zero = omega arith
 sung-low s p (suc k) = omega (arith, bit-le (sungRow s p) 1, sung-low s (p + noteRowWidth) k)
 
--- what the rows of a measure say, where the answer is known
+pub sung-total-step : (s : List ℕ) (h p n k : ℕ) → 0 < n → k ≡ noteCount s h → sungTotal s h p n ≡ sungRows s p k + sungTotal s (h + measureWidth) (p + noteRowWidth * k) (n - 1)
+unfolding sungTotal
+sung-total-step s h p zero k l e = absurd (omega arith)
+sung-total-step s h p (suc n) k l e = let f : suc n - 1 ≡ n = omega arith in rw (f, e)
+
+pub sung-total-none : (s : List ℕ) (h p n : ℕ) → n ≡ 0 → sungTotal s h p n ≡ 0
+unfolding sungTotal
+sung-total-none s h p n l = rw l
+
+-- what the writers of records say, where the answer is known
 pub passed-to : {d bs e : List ℕ} {j : ℕ} {r : Passed} → PassedIs d bs e j r → {n q : ℕ} → r ≡ P.To n q → WroteIs d bs e (To n) × (q ≡ j)
 passed-to {d} {bs} {e} {j} w p = subst (Says d bs e j) p (w .says)
 
@@ -273,30 +282,28 @@ module _ (b : Bool) (ws : List (List Syllable)) (s : List ℕ) where
       ∙ ap (encAll (out b)) (sym (lyrics-measure i a (inOrder ms z) (drop j ws) (All-left _ a z both)))
 
 -- THE SECTION
--- a section with its count
 abbrev shownIn : Bool → List (ℕ × Syllable) → List ℕ
-shownIn b ls = le32 (countOf b (length (encAll (out b) ls))) ++ encAll (out b) ls
+shownIn b ls = counted b (encAll (out b) ls)
 
 records-section : (ls : List (ℕ × Syllable)) → shownIn false ls ≡ section (λ (x : ℕ × Syllable). lyricBytes (x .0) (x .1)) ls
-unfolding section encAll
+unfolding section encAll counted
 records-section ls =
     let n : length (encAll (out false) ls) ≡ lyricWidth * length ls = length-encAll (out false) lyricWidth (λ x. length-record (x .0) (x .1)) ls in
     let e : length (encAll (out false) ls) / lyricWidth ≡ length ls = omega (arith, n) in
     ap (λ (k : ℕ). le32 k ++ encAll (out false) ls) e
 
 texts-section : (ls : List (ℕ × Syllable)) → shownIn true ls ≡ section (λ (c : ℕ). c ∷ []) (concat (map (λ (x : ℕ × Syllable). x .1 .text) ls))
-unfolding section encAll
+unfolding section encAll counted
 texts-section ls = let ts = concat (map (λ (x : ℕ × Syllable). x .1 .text) ls) in ap (λ (l : List ℕ). le32 (length ts) ++ l) (sym (concat-singles ts))
 
 section-out : (b : Bool) (ws : List (List Syllable)) {s : List ℕ} {t : PartTables} {ms : List Head} {log : List (ℕ × Note)} → Represents s t ms log
     → sectionOut b ws s t ≡ shownIn b (lyricsOf 0 (inOrder ms log) ws)
-unfolding sectionOut
 section-out b ws {s} {t} {ms} {log} h =
     let f = h .fits in
     let bytes : measuresOut b ws s 0 0 (t .measures .at) (t .notes .at) (t .measures .count) ≡ encAll (out b) (lyricsOf 0 (inOrder ms log) ws) =
     ap (measuresOut b ws s 0 0 (t .measures .at) (t .notes .at)) (sym (h .measures-are))
     ∙ measures-out b ws s 0 0 (t .measures .at) (t .notes .at) ms log (h .measures-table) (h .notes-table) (f .four-counts) (f .all-notes) (omega (arith, h .few-notes, h .notes-are)) (f .voices-below) in
-    λ i. le32 (countOf b (length (bytes i))) ++ bytes i
+    ap (counted b) bytes
 
 -- of whatever the tables represent
 pub lyrics-section : (ws : List (List Syllable)) {s : List ℕ} {t : PartTables} {ms : List Head} {log : List (ℕ × Note)} → Represents s t ms log
@@ -308,35 +315,31 @@ pub text-section : (ws : List (List Syllable)) {s : List ℕ} {t : PartTables} {
 text-section ws {ms = ms} {log = log} h = section-out true ws h ∙ texts-section (lyricsOf 0 (inOrder ms log) ws)
 
 -- as it is written, its count last
-module _ (b : Bool) (ws : List (List Syllable)) (s : List ℕ) (t : PartTables) where
-  section-length : length (sectionOut b ws s t) ≡ countWidth + length (measuresOut b ws s 0 0 (t .measures .at) (t .notes .at) (t .measures .count))
-  unfolding sectionOut
-  section-length =
-      let bs = measuresOut b ws s 0 0 (t .measures .at) (t .notes .at) (t .measures .count) in
-      length-append (le32 (countOf b (length bs))) bs ∙ omega (arith, length-little 4 (countOf b (length bs)))
+module _ (b : Bool) (bs : List ℕ) where
+  counted-length : length (counted b bs) ≡ countWidth + length bs
+  unfolding counted
+  counted-length = length-append (le32 (countOf b (length bs))) bs ∙ omega (arith, length-little 4 (countOf b (length bs)))
 
-  pub section-short : {d e : List ℕ} → length d < countWidth → WroteIs d (sectionOut b ws s t) e NoRoom
-  section-short h = record { says = omega (arith, section-length) }
+  pub counted-short : {d e : List ℕ} → length d < countWidth → WroteIs d (counted b bs) e NoRoom
+  counted-short h = record { says = omega (arith, counted-length) }
 
-  pub section-none : (d : List ℕ) {e f : List ℕ} → countWidth ≤ length d → WroteIs (take (length d - countWidth) (drop countWidth d)) (measuresOut b ws s 0 0 (t .measures .at) (t .notes .at) (t .measures .count)) f NoRoom → WroteIs d (sectionOut b ws s t) e NoRoom
-  section-none d h g =
+  pub counted-none : (d : List ℕ) {e f : List ℕ} → countWidth ≤ length d → WroteIs (take (length d - countWidth) (drop countWidth d)) bs f NoRoom → WroteIs d (counted b bs) e NoRoom
+  counted-none d h g =
       let room = simp (length-take, length-drop) at (g .says) in
-      record { says = omega (arith, section-length, room) }
+      record { says = omega (arith, counted-length, room) }
 
-  pub section-fits : (d : List ℕ) {f : List ℕ} {len : ℕ} → countWidth ≤ length d → WroteIs (take (length d - countWidth) (drop countWidth d)) (measuresOut b ws s 0 0 (t .measures .at) (t .notes .at) (t .measures .count)) f (To len) → countWidth + len ≤ length d
-  section-fits d h g =
+  pub counted-fits : (d : List ℕ) {f : List ℕ} {len : ℕ} → countWidth ≤ length d → WroteIs (take (length d - countWidth) (drop countWidth d)) bs f (To len) → countWidth + len ≤ length d
+  counted-fits d h g =
       let (p, q, r) = g .says in
       let room = simp (length-take, length-drop) at q in
       omega (arith, room)
 
-  pub section-wrote : (d : List ℕ) {e f : List ℕ} (len low count : ℕ) → countWidth ≤ length d → WroteIs (take (length d - countWidth) (drop countWidth d)) (measuresOut b ws s 0 0 (t .measures .at) (t .notes .at) (t .measures .count)) f (To len)
-      → le32 low ≡ le32 count → count ≡ countOf b len → e ≡ splice (take countWidth d ++ (f ++ drop (length d - countWidth) (drop countWidth d))) 0 (le32 low)
-      → WroteIs d (sectionOut b ws s t) e (To (countWidth + len))
-  unfolding sectionOut
-  section-wrote d {e} {f} len low count h g l c p =
-      let bs = measuresOut b ws s 0 0 (t .measures .at) (t .notes .at) (t .measures .count) in
+  pub counted-wrote : (d : List ℕ) {e f : List ℕ} (len low count : ℕ) → countWidth ≤ length d → WroteIs (take (length d - countWidth) (drop countWidth d)) bs f (To len) → le32 low ≡ le32 count
+      → count ≡ countOf b len → e ≡ splice (take countWidth d ++ (f ++ drop (length d - countWidth) (drop countWidth d))) 0 (le32 low) → WroteIs d (counted b bs) e (To (countWidth + len))
+  unfolding counted
+  counted-wrote d {e} {f} len low count h g l c p =
       let (q, room, r) = g .says in
-      let fits = section-fits d h g in
+      let fits = counted-fits d h g in
       let back = lent-back d countWidth (length d - countWidth) f 0 bs r (omega arith) in
       let number : le32 low ≡ le32 (countOf b (length bs)) = l ∙ ap le32 c ∙ ap (λ (k : ℕ). le32 (countOf b k)) q in
       let w = count-last bs (countOf b (length bs)) back (p ∙ ap (splice (take countWidth d ++ (f ++ drop (length d - countWidth) (drop countWidth d))) 0) number) (omega arith) in

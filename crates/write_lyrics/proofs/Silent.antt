@@ -15,7 +15,7 @@ use Rattle.write_notes.specs.declared.PartTables.{PartTables}
 use Rattle.lyrics.specs.declared.Sheet.{Sheet}
 use Rattle.lyrics.specs.Sheet.{sungFrom, headsIn, syllablesIn}
 use Rattle.write_syllables.specs.Pieces.{piece, pieces}
-use Rattle.write_lyrics.specs.Out.{leadRow, sungRow, sungRows, rowsOut, measuresOut, countOf, sectionOut}
+use Rattle.write_lyrics.specs.Out.{leadRow, sungRow, sungRows, rowsOut, measuresOut, counted, sectionOut}
 
 no-syllable : (text s : List ℕ) (h : Sheet) → h .count ≡ 0 → (j : ℕ) → getD (syllablesIn text s h) j [] ≡ []
 unfolding syllablesIn sungFrom
@@ -46,11 +46,11 @@ module _ (texts : Bool) (ws : List (List Syllable)) (e : (j : ℕ) → getD ws j
       ap (λ (x : List ℕ). x ++ measuresOut texts ws s (i + noteCount s h) (j + sungRows s p (noteCount s h)) (h + measureWidth) (p + noteRowWidth * noteCount s h) n) (rows-silent i j p (noteCount s h))
       ∙ measures-silent (i + noteCount s h) (j + sungRows s p (noteCount s h)) (h + measureWidth) (p + noteRowWidth * noteCount s h) n
 
-none-counted : (texts : Bool) → le32 (countOf texts 0) ++ [] ≡ le32 0
+none-counted : (texts : Bool) → counted texts [] ≡ le32 0
+unfolding counted
 none-counted true = append-nil (le32 0)
 none-counted false = append-nil (le32 0)
 
 pub section-silent : (texts : Bool) (text s : List ℕ) (h : Sheet) (t : PartTables) → h .count ≡ 0 → sectionOut texts (syllablesIn text s h) s t ≡ le32 0
-unfolding sectionOut
 section-silent texts text s h t z =
-    ap (λ (out : List ℕ). le32 (countOf texts (length out)) ++ out) (measures-silent texts (syllablesIn text s h) (no-syllable text s h z) s 0 0 (t .measures .at) (t .notes .at) (t .measures .count)) ∙ none-counted texts
+    ap (counted texts) (measures-silent texts (syllablesIn text s h) (no-syllable text s h z) s 0 0 (t .measures .at) (t .notes .at) (t .measures .count)) ∙ none-counted texts

@@ -2,7 +2,7 @@
 -- is sung.
 use Prim.Native.Nat.{ℕ, zero, suc, _+_, _*_, _/_, _<_}
 use mathlib.Core.Path.{_≡_}
-use mathlib.Core.Bool.{Bool, cond, _&&_}
+use mathlib.Core.Bool.{Bool, true, cond, _&&_}
 use mathlib.Core.List.{List, [], _++_}
 use lib.ListN.{length, getD}
 use Rattle.laws.specs.Bytes.{le32}
@@ -34,6 +34,11 @@ unfoldable pub sungRows : List ℕ → ℕ → ℕ → ℕ
 sungRows s p zero = 0
 sungRows s p (suc k) = bit (sungRow s p) 1 + sungRows s (p + noteRowWidth) k
 
+-- how many of the rows of the n heads from h on, which begin at p
+unfoldable pub sungTotal : List ℕ → ℕ → ℕ → ℕ → ℕ
+sungTotal s h p zero = 0
+sungTotal s h p (suc n) = sungRows s p (noteCount s h) + sungTotal s (h + measureWidth) (p + noteRowWidth * noteCount s h) n
+
 -- what the k rows from p on give: the next note of voice 0 has index i, the next that is sung is number j
 unfoldable pub rowsOut : Bool → List (List Syllable) → List ℕ → ℕ → ℕ → ℕ → ℕ → List ℕ
 rowsOut texts ws s i j p zero = []
@@ -53,13 +58,22 @@ measuresOut texts ws s i j h p zero = []
 measuresOut texts ws s i j h p (suc n) =
     rowsOut texts ws s i j p (noteCount s h) ++ measuresOut texts ws s (i + noteCount s h) (j + sungRows s p (noteCount s h)) (h + measureWidth) (p + noteRowWidth * noteCount s h) n
 
+-- the texts of the k notes that are sung, from number j on
+unfoldable pub textsOut : List (List Syllable) → ℕ → ℕ → List ℕ
+textsOut ws j zero = []
+textsOut ws j (suc k) = pieces true 0 (getD ws j []) ++ textsOut ws (j + 1) k
+
 -- how many records, or bytes of text, n bytes are
 abbrev pub countOf : Bool → ℕ → ℕ
 countOf texts n = cond texts n (n / lyricWidth)
 
+-- records, or texts, behind their count
+unfoldable pub counted : Bool → List ℕ → List ℕ
+counted texts bs = le32 (countOf texts (length bs)) ++ bs
+
 -- the section
-unfoldable pub sectionOut : Bool → List (List Syllable) → List ℕ → PartTables → List ℕ
-sectionOut texts ws s t = let out = measuresOut texts ws s 0 0 (t .measures .at) (t .notes .at) (t .measures .count) in le32 (countOf texts (length out)) ++ out
+abbrev pub sectionOut : Bool → List (List Syllable) → List ℕ → PartTables → List ℕ
+sectionOut texts ws s t = counted texts (measuresOut texts ws s 0 0 (t .measures .at) (t .notes .at) (t .measures .count))
 
 -- the sheet's tables are within the store
 pub record SheetIn (s : List ℕ) (h : Sheet) : Type 0 where

@@ -1,13 +1,16 @@
 // The sections of a part's lyrics and of their texts from its tables in scratch.
 ghost use mathlib.Core.Path.{_≡_};
 ghost use mathlib.Core.Bool.{true, false};
+ghost use mathlib.Core.List.{_++_};
 ghost use Prim.Native.Nat.{_+_, _*_, _≤_, _<_};
 ghost use lib.ListN.{length};
+ghost use Rattle.laws.specs.Bytes.{le32};
 ghost use Rattle.part_rows.specs.Encoded.{noteRowWidth};
 ghost use Rattle.store_sections.specs.Writes.{WroteIs};
 ghost use Rattle.write_notes.specs.Tables.{InStore};
+ghost use Rattle.write_notes.specs.Out.{leads};
 ghost use Rattle.lyrics.specs.Sheet.{syllablesIn};
-ghost use Rattle.write_lyrics.specs.Out.{sungRows, rowsOut, PassedIs, measuresOut, countOf, sectionOut, SheetIn};
+ghost use Rattle.write_lyrics.specs.Out.{sungRows, sungTotal, rowsOut, PassedIs, measuresOut, textsOut, counted, sectionOut, SheetIn};
 use part_measures::MEASURE;
 use part_rows::NOTE_ROW;
 use reading_records::COUNT;
@@ -15,13 +18,15 @@ use reading_records::LYRIC;
 use store_sections::Wrote;
 use write_notes::PartTables;
 
-// How far the rows of a measure are written: up to where, and how many notes are sung before the next measure.
+// How far records are written: up to where, and how many notes are sung up to there.
 enum Passed {
     To(usize, usize),
     NoRoom,
 }
 
-// The records or texts of one measure, whose k rows begin at `place`. Its notes begin at index `note`, and before them `sung` notes are sung.
+// RECORDS
+
+// Those of the k rows from `place` on, of whole measures or of one voice. Their notes begin at index `note`, and before them `sung` notes are sung.
 fn write_rows(
     text: &[u8],
     store: &[u8],
@@ -30,11 +35,10 @@ fn write_rows(
     k: usize,
     note: usize,
     sung: usize,
-    texts: bool,
     to: &mut [u8],
 ) -> Passed
     requires { ⌜ SheetIn (now store) sheet × (place + noteRowWidth * k ≤ length (now store)) × (note + k < 18446744073709551616) × (sung + k < 18446744073709551616) ⌝ }
-    ensures { λ r. ⌜ PassedIs (now (to .entry)) (rowsOut texts (syllablesIn (now (text .entry)) (now (store .entry)) sheet) (now (store .entry)) note sung place k) (now (to .exit)) (sung + sungRows (now (store .entry)) place k) r ⌝ }
+    ensures { λ r. ⌜ PassedIs (now (to .entry)) (rowsOut false (syllablesIn (now (text .entry)) (now (store .entry)) sheet) (now (store .entry)) note sung place k) (now (to .exit)) (sung + sungRows (now (store .entry)) place k) r ⌝ }
 {
     let mut at = 0;
     let mut i = note;
@@ -59,7 +63,7 @@ fn write_rows(
             sheet,
             j,
             i,
-            texts,
+            false,
             &mut to[at..],
         ) else {
             return Passed::NoRoom;
@@ -79,11 +83,10 @@ fn write_measures(
     store: &[u8],
     sheet: lyrics::Sheet,
     t: PartTables,
-    texts: bool,
     to: &mut [u8],
-) -> Wrote
+) -> Passed
     requires { ⌜ SheetIn (now store) sheet × InStore (now store) t ⌝ }
-    ensures { λ r. ⌜ WroteIs (now (to .entry)) (measuresOut texts (syllablesIn (now (text .entry)) (now (store .entry)) sheet) (now (store .entry)) 0 0 (t .measures .at) (t .notes .at) (t .measures .count)) (now (to .exit)) r ⌝ }
+    ensures { λ r. ⌜ PassedIs (now (to .entry)) (measuresOut false (syllablesIn (now (text .entry)) (now (store .entry)) sheet) (now (store .entry)) 0 0 (t .measures .at) (t .notes .at) (t .measures .count)) (now (to .exit)) (sungTotal (now (store .entry)) (t .measures .at) (t .notes .at) (t .measures .count)) r ⌝ }
 {
     let mut at = 0;
     let mut i = 0;
@@ -93,9 +96,8 @@ fn write_measures(
     let mut left = t.measures.count;
     while 0 < left {
         let k = part_measures::note_count(store, h);
-        let Passed::To(m, sung) = write_rows(text, store, sheet, p, k, i, j, texts, &mut to[at..])
-        else {
-            return Wrote::NoRoom;
+        let Passed::To(m, sung) = write_rows(text, store, sheet, p, k, i, j, &mut to[at..]) else {
+            return Passed::NoRoom;
         };
         at += m;
         i += k;
@@ -104,54 +106,143 @@ fn write_measures(
         p += NOTE_ROW * k;
         left -= 1;
     }
+    Passed::To(at, j)
+}
+
+// Those of all notes: all rows at once where all are of voice 0 (`lead`), else measure by measure.
+fn write_all(
+    text: &[u8],
+    store: &[u8],
+    sheet: lyrics::Sheet,
+    t: PartTables,
+    lead: bool,
+    to: &mut [u8],
+) -> Passed
+    requires { ⌜ SheetIn (now store) sheet × InStore (now store) t × (lead ≡ leads (now store) (t .notes .at) (t .notes .count)) ⌝ }
+    ensures { λ r. ⌜ PassedIs (now (to .entry)) (measuresOut false (syllablesIn (now (text .entry)) (now (store .entry)) sheet) (now (store .entry)) 0 0 (t .measures .at) (t .notes .at) (t .measures .count)) (now (to .exit)) (sungTotal (now (store .entry)) (t .measures .at) (t .notes .at) (t .measures .count)) r ⌝ }
+{
+    if lead {
+        return write_rows(text, store, sheet, t.notes.at, t.notes.count, 0, 0, to);
+    }
+    write_measures(text, store, sheet, t, to)
+}
+
+// Their section. Its count is written last.
+fn write_records(
+    text: &[u8],
+    store: &[u8],
+    sheet: lyrics::Sheet,
+    t: PartTables,
+    lead: bool,
+    to: &mut [u8],
+) -> Passed
+    requires { ⌜ SheetIn (now store) sheet × InStore (now store) t × (lead ≡ leads (now store) (t .notes .at) (t .notes .count)) ⌝ }
+    ensures { λ r. ⌜ PassedIs (now (to .entry)) (sectionOut false (syllablesIn (now (text .entry)) (now (store .entry)) sheet) (now (store .entry)) t) (now (to .exit)) (sungTotal (now (store .entry)) (t .measures .at) (t .notes .at) (t .measures .count)) r ⌝ }
+{
+    if to.len() < COUNT {
+        return Passed::NoRoom;
+    }
+    let Passed::To(len, sung) = write_all(text, store, sheet, t, lead, &mut to[COUNT..]) else {
+        return Passed::NoRoom;
+    };
+    let low = write_syllables::low32(len / LYRIC);
+    store::put_u32(to, 0, low);
+    Passed::To(COUNT + len, sung)
+}
+
+// TEXTS: no byte of them depends on the index of a note, so the notes that are sung are enough, and no row is walked again.
+
+// Those of the first `sung` notes that are sung.
+fn write_texts(text: &[u8], store: &[u8], sheet: lyrics::Sheet, sung: usize, to: &mut [u8]) -> Wrote
+    requires { ⌜ SheetIn (now store) sheet ⌝ }
+    ensures { λ r. ⌜ WroteIs (now (to .entry)) (textsOut (syllablesIn (now (text .entry)) (now (store .entry)) sheet) 0 sung) (now (to .exit)) r ⌝ }
+{
+    let mut at = 0;
+    let mut j = 0;
+    while j < sung {
+        let Wrote::To(m) = write_syllables::write_syllables(
+            text,
+            store,
+            sheet,
+            j,
+            0,
+            true,
+            &mut to[at..],
+        ) else {
+            return Wrote::NoRoom;
+        };
+        at += m;
+        j += 1;
+    }
     Wrote::To(at)
 }
 
-// How many records, or bytes of text, `len` bytes are.
-fn count_of(texts: bool, len: usize) -> usize
-    ensures { λ r. ⌜ r ≡ countOf texts len ⌝ }
+// Their section. Its count is written last.
+fn write_text(text: &[u8], store: &[u8], sheet: lyrics::Sheet, sung: usize, to: &mut [u8]) -> Wrote
+    requires { ⌜ SheetIn (now store) sheet ⌝ }
+    ensures { λ r. ⌜ WroteIs (now (to .entry)) (counted true (textsOut (syllablesIn (now (text .entry)) (now (store .entry)) sheet) 0 sung)) (now (to .exit)) r ⌝ }
 {
-    if texts { len } else { len / LYRIC }
+    if to.len() < COUNT {
+        return Wrote::NoRoom;
+    }
+    let Wrote::To(len) = write_texts(text, store, sheet, sung, &mut to[COUNT..]) else {
+        return Wrote::NoRoom;
+    };
+    let low = write_syllables::low32(len);
+    store::put_u32(to, 0, low);
+    Wrote::To(COUNT + len)
 }
 
-// The section of the lyrics, or of their texts, from all notes. Its count is written last.
+// BOTH SECTIONS
+
+// Two that are empty.
+fn write_none(to: &mut [u8]) -> Wrote
+    ensures { λ r. ⌜ WroteIs (now (to .entry)) (le32 0 ++ le32 0) (now (to .exit)) r ⌝ }
+{
+    let Wrote::To(at) = store_sections::write_u32(to, 0) else {
+        return Wrote::NoRoom;
+    };
+    let Wrote::To(k) = store_sections::write_u32(&mut to[at..], 0) else {
+        return Wrote::NoRoom;
+    };
+    Wrote::To(at + k)
+}
+
+// The records, and the texts of as many notes as are sung.
 fn write_sung(
     text: &[u8],
     store: &[u8],
     sheet: lyrics::Sheet,
     t: PartTables,
-    texts: bool,
+    lead: bool,
     to: &mut [u8],
 ) -> Wrote
-    requires { ⌜ SheetIn (now store) sheet × InStore (now store) t ⌝ }
-    ensures { λ r. ⌜ WroteIs (now (to .entry)) (sectionOut texts (syllablesIn (now (text .entry)) (now (store .entry)) sheet) (now (store .entry)) t) (now (to .exit)) r ⌝ }
+    requires { ⌜ SheetIn (now store) sheet × InStore (now store) t × (lead ≡ leads (now store) (t .notes .at) (t .notes .count)) ⌝ }
+    ensures { λ r. ⌜ WroteIs (now (to .entry)) (sectionOut false (syllablesIn (now (text .entry)) (now (store .entry)) sheet) (now (store .entry)) t ++ sectionOut true (syllablesIn (now (text .entry)) (now (store .entry)) sheet) (now (store .entry)) t) (now (to .exit)) r ⌝ }
 {
-    if to.len() < COUNT {
-        return Wrote::NoRoom;
-    }
-    let Wrote::To(len) = write_measures(text, store, sheet, t, texts, &mut to[COUNT..]) else {
+    let Passed::To(at, sung) = write_records(text, store, sheet, t, lead, to) else {
         return Wrote::NoRoom;
     };
-    let count = count_of(texts, len);
-    let low = write_syllables::low32(count);
-    store::put_u32(to, 0, low);
-    Wrote::To(COUNT + len)
+    let Wrote::To(k) = write_text(text, store, sheet, sung, &mut to[at..]) else {
+        return Wrote::NoRoom;
+    };
+    Wrote::To(at + k)
 }
 
-// The section of the lyrics, or of their texts. Where no row is written it is empty, and no note is asked.
-pub fn write_lyrics_or_text(
+// The sections of the lyrics and of their texts. Where no row is written both are empty, and no note is asked. `lead` tells whether all notes are of voice 0.
+pub fn write_lyrics(
     text: &[u8],
     store: &[u8],
     sheet: lyrics::Sheet,
     t: PartTables,
-    texts: bool,
+    lead: bool,
     to: &mut [u8],
 ) -> Wrote
-    requires { ⌜ SheetIn (now store) sheet × InStore (now store) t ⌝ }
-    ensures { λ r. ⌜ WroteIs (now (to .entry)) (sectionOut texts (syllablesIn (now (text .entry)) (now (store .entry)) sheet) (now (store .entry)) t) (now (to .exit)) r ⌝ }
+    requires { ⌜ SheetIn (now store) sheet × InStore (now store) t × (lead ≡ leads (now store) (t .notes .at) (t .notes .count)) ⌝ }
+    ensures { λ r. ⌜ WroteIs (now (to .entry)) (sectionOut false (syllablesIn (now (text .entry)) (now (store .entry)) sheet) (now (store .entry)) t ++ sectionOut true (syllablesIn (now (text .entry)) (now (store .entry)) sheet) (now (store .entry)) t) (now (to .exit)) r ⌝ }
 {
     if sheet.count == 0 {
-        return store_sections::write_u32(to, 0);
+        return write_none(to);
     }
-    write_sung(text, store, sheet, t, texts, to)
+    write_sung(text, store, sheet, t, lead, to)
 }

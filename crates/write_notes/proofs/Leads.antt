@@ -2,18 +2,20 @@
 use Prim.Native.Nat.{ℕ, zero, suc, _+_, _-_, _*_, _≤_, _<_}
 use mathlib.Core.Path.{_≡_, refl, sym, ap, _∙_}
 use mathlib.Core.Bool.{Bool, true, false, cond, _&&_}
-use mathlib.Core.List.{List, [], _++_, append-nil}
+use mathlib.Core.List.{List, [], _++_, append-nil, append-assoc}
 use native.Mathlib.Omega.{arith}
 use borrow.Author.Tests.{eqb-true, ne-eqb}
 use lib.Dec.{eqb}
 use lib.ListN.{length, getD, length-append}
-use Rattle.laws.proofs.Bools.{by-test, and-left, and-right}
-use Rattle.reader.specs.Records.{noteWidth}
+use Rattle.laws.proofs.Bools.{by-test, and-left, and-right, and-both}
+use Rattle.reader.specs.Records.{measureWidth, noteWidth}
 use Rattle.part_rows.specs.Encoded.{noteRowWidth, voiceAt}
 use Rattle.part_rows.specs.Read.{ofVoiceAt}
 use Rattle.store_sections.specs.declared.Wrote.the-variants.{To}
 use Rattle.store_sections.specs.Writes.{WroteIs}
-use Rattle.write_notes.specs.Out.{noteOut, voiceOut, voicesOut, leads}
+use Rattle.part_measures.specs.Heads.{noteCount}
+use Rattle.write_notes.specs.Tables.{total}
+use Rattle.write_notes.specs.Out.{noteOut, recordsOut, voiceOut, voicesOut, leads, notesOut}
 use Rattle.write_notes.proofs.Out.{length-note-out, wrote-as}
 
 -- STEPS, as the loop takes them
@@ -44,6 +46,20 @@ module _ (s : List ℕ) (p k : ℕ) (e : leads s p (suc k) ≡ true) where
 
   pub lead-only : (v : ℕ) → 0 < v → ofVoiceAt s v p ≡ false
   lead-only v h = ne-eqb (getD s (p + voiceAt) 0) v (λ x. omega (arith, eqb-true (getD s (p + voiceAt) 0) 0 lead-first, x))
+
+-- the first a rows, and the b others
+pub leads-cut : (s : List ℕ) (p t a b : ℕ) → t ≡ a + b → leads s p t ≡ true → (leads s p a ≡ true) × (leads s (p + noteRowWidth * a) b ≡ true)
+unfolding leads
+leads-cut s p t zero b q e =
+    let f : p + noteRowWidth * 0 ≡ p = omega arith in
+    let g : b ≡ t = omega arith in
+    (refl, (λ i. leads s (f i) (g i)) ∙ e)
+leads-cut s p t (suc a) b q e =
+    let g : suc (a + b) ≡ t = omega arith in
+    let f : p + noteRowWidth * suc a ≡ p + noteRowWidth + noteRowWidth * a = omega arith in
+    let all : leads s p (suc (a + b)) ≡ true = ap (leads s p) g ∙ e in
+    let (x, y) = leads-cut s (p + noteRowWidth) (a + b) a b refl (lead-rest s p (a + b) all) in
+    (and-both _ _ (lead-first s p (a + b) all) x, ap (λ (k : ℕ). leads s k b) f ∙ y)
 
 -- RECORDS
 lead-other : (s : List ℕ) (v p k : ℕ) → 0 < v → leads s p k ≡ true → voiceOut s v p k ≡ []
@@ -89,3 +105,45 @@ voices-first s p k = refl
 
 pub full-measure : {d e : List ℕ} (s : List ℕ) (p k n : ℕ) → WroteIs d (voiceOut s 0 p k) e (To n) → p + noteRowWidth * k ≤ length s → n ≡ noteWidth * k → WroteIs d (voicesOut s p k 0 4) e (To n)
 full-measure s p k n w h q = wrote-as w (lead-voices s p k (all-lead s p k h (sym (w .says .0) ∙ q)))
+
+-- ALL ROWS AT ONCE
+pub records-step : (s : List ℕ) (p k : ℕ) → 0 < k → recordsOut s p k ≡ noteOut s p ++ recordsOut s (p + noteRowWidth) (k - 1)
+unfolding recordsOut
+records-step s p zero h = absurd (omega arith)
+records-step s p (suc k) h = let e : suc k - 1 ≡ k = omega arith in rw e
+
+pub records-none : (s : List ℕ) (p k : ℕ) → k ≡ 0 → recordsOut s p k ≡ []
+unfolding recordsOut
+records-none s p k h = rw h
+
+pub length-records : (s : List ℕ) (p k : ℕ) → p + noteRowWidth * k ≤ length s → length (recordsOut s p k) ≡ noteWidth * k
+unfolding recordsOut
+length-records s p zero h = refl
+length-records s p (suc k) h =
+    length-append (noteOut s p) (recordsOut s (p + noteRowWidth) k) ∙ omega (arith, length-note-out s p (omega arith), length-records s (p + noteRowWidth) k (omega arith))
+
+records-cut : (s : List ℕ) (p t a b : ℕ) → t ≡ a + b → recordsOut s p t ≡ recordsOut s p a ++ recordsOut s (p + noteRowWidth * a) b
+unfolding recordsOut
+records-cut s p t zero b q =
+    let f : p + noteRowWidth * 0 ≡ p = omega arith in
+    let g : b ≡ t = omega arith in
+    rw (f, g)
+records-cut s p t (suc a) b q =
+    let g : t ≡ suc (a + b) = omega arith in
+    let f : p + noteRowWidth * suc a ≡ p + noteRowWidth + noteRowWidth * a = omega arith in
+    rw (g, f, recordsOut) (ap (λ (l : List ℕ). noteOut s p ++ l) (records-cut s (p + noteRowWidth) (a + b) a b refl) ∙ sym (append-assoc (noteOut s p) (recordsOut s (p + noteRowWidth) a) (recordsOut s (p + noteRowWidth + noteRowWidth * a) b)))
+
+lead-records : (s : List ℕ) (p k : ℕ) → leads s p k ≡ true → recordsOut s p k ≡ voiceOut s 0 p k
+unfolding recordsOut voiceOut
+lead-records s p zero e = refl
+lead-records s p (suc k) e = rw (lead-first s p k e) (ap (λ (l : List ℕ). noteOut s p ++ l) (lead-records s (p + noteRowWidth) k (lead-rest s p k e)))
+
+-- measure by measure, voice 0 before the others, is row by row where all rows are of voice 0
+pub lead-measures : (s : List ℕ) (h p n t : ℕ) → t ≡ total s h n → leads s p t ≡ true → recordsOut s p t ≡ notesOut s h p n
+unfolding recordsOut notesOut total
+lead-measures s h p zero t q e = rw q
+lead-measures s h p (suc n) t q e =
+    let k = noteCount s h in
+    let r = total s (h + measureWidth) n in
+    let (x, y) = leads-cut s p t k r q e in
+    records-cut s p t k r q ∙ (λ i. (lead-records s p k x ∙ lead-voices s p k x) i ++ lead-measures s (h + measureWidth) (p + noteRowWidth * k) n r refl y i)

@@ -24,6 +24,11 @@ flagsFor n = n .flags % 32 + bit (isLone n) 32
 unfoldable pub noteOut : List ℕ → ℕ → List ℕ
 noteOut s p = let n = startAt s p in (n .kind ∷ n .value ∷ n .dots ∷ flagsFor n ∷ []) ++ restAt s p
 
+-- the records of the k rows from p on, of whatever voices
+unfoldable pub recordsOut : List ℕ → ℕ → ℕ → List ℕ
+recordsOut s p zero = []
+recordsOut s p (suc k) = noteOut s p ++ recordsOut s (p + noteRowWidth) k
+
 -- the records of voice v among the k rows from p on
 unfoldable pub voiceOut : List ℕ → ℕ → ℕ → ℕ → List ℕ
 voiceOut s v p zero = []

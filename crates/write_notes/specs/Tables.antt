@@ -25,11 +25,13 @@ unfoldable pub pitchTotal : List ℕ → ℕ → ℕ → ℕ
 pitchTotal s p zero = 0
 pitchTotal s p (suc k) = pitchCount s p + pitchTotal s (p + noteRowWidth) k
 
--- the tables lie within the store, and four bytes hold each count
+-- the tables lie within the store; the measures count all the notes, and these all the pitches; four bytes hold each count
 pub record InStore (s : List ℕ) (t : PartTables) : Type 0 where
   pub measures-in : t .measures .at + measureWidth * t .measures .count ≤ length s
   pub notes-in : t .notes .at + noteRowWidth * total s (t .measures .at) (t .measures .count) ≤ length s
   pub pitches-in : t .pitches .at + pitchRowWidth * pitchTotal s (t .notes .at) (total s (t .measures .at) (t .measures .count)) ≤ length s
+  pub all-notes : total s (t .measures .at) (t .measures .count) ≡ t .notes .count
+  pub all-pitches : pitchTotal s (t .notes .at) (total s (t .measures .at) (t .measures .count)) ≡ t .pitches .count
   pub few-measures : t .measures .count < 2 ^ 32
   pub few-notes : t .notes .count < 2 ^ 32
   pub few-pitches : t .pitches .count < 2 ^ 32

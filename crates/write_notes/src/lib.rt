@@ -5,13 +5,14 @@ ghost use mathlib.Core.List.{List};
 ghost use Prim.Native.Nat.{ℕ, _+_, _*_, _≤_};
 ghost use lib.ListN.{length};
 ghost use Rattle.reader.specs.State.{Note};
-ghost use Rattle.reader.specs.Records.{measureWidth, noteBytes, section};
+ghost use Rattle.reader.specs.Records.{noteWidth, noteBytes, section};
 ghost use Rattle.part_layout.specs.Log.{Head};
 ghost use Rattle.part_layout.specs.Sections.{headBytes, inOrder};
 ghost use Rattle.part_rows.specs.Encoded.{noteRowWidth};
+ghost use Rattle.store_sections.specs.declared.Wrote.the-variants.{To};
 ghost use Rattle.store_sections.specs.Writes.{WroteIs};
 ghost use Rattle.write_notes.specs.Tables.{total, InStore, Represents};
-ghost use Rattle.write_notes.specs.Out.{flagsFor, noteOut, voiceOut, voicesOut, leads, notesOut, measuresSection, notesSection};
+ghost use Rattle.write_notes.specs.Out.{flagsFor, noteOut, recordsOut, voiceOut, voicesOut, leads, notesOut, measuresSection, notesSection};
 use part_measures::MEASURE;
 use part_rows::NOTE_ROW;
 use part_rows::NoteStart;
@@ -74,7 +75,18 @@ fn flags_of(n: NoteStart) -> u8
     flags + 32
 }
 
-// The note record of the row at `place`.
+// Puts the note record of the row at `place`, for which there is room.
+fn put_record(store: &[u8], place: usize, to: &mut [u8])
+    requires { ⌜ (place + noteRowWidth ≤ length (now store)) × (noteWidth ≤ length (now to)) ⌝ }
+    ensures { λ _. ⌜ WroteIs (now (to .entry)) (noteOut (now (store .entry)) place) (now (to .exit)) (To noteWidth) ⌝ }
+{
+    let n = part_rows::note_start(store, place);
+    let flags = flags_of(n);
+    store::put_4(to, 0, n.kind, n.value, n.dots, flags);
+    part_rows::copy_note_rest(store, place, to);
+}
+
+// The same, if there is room.
 fn write_note(store: &[u8], place: usize, to: &mut [u8]) -> Wrote
     requires { ⌜ place + noteRowWidth ≤ length (now store) ⌝ }
     ensures { λ r. ⌜ WroteIs (now (to .entry)) (noteOut (now (store .entry)) place) (now (to .exit)) r ⌝ }
@@ -82,11 +94,28 @@ fn write_note(store: &[u8], place: usize, to: &mut [u8]) -> Wrote
     if to.len() < NOTE {
         return Wrote::NoRoom;
     }
-    let n = part_rows::note_start(store, place);
-    let flags = flags_of(n);
-    store::put_4(to, 0, n.kind, n.value, n.dots, flags);
-    part_rows::copy_note_rest(store, place, to);
+    put_record(store, place, to);
     Wrote::To(NOTE)
+}
+
+// The records of the k rows from `place` on, of whatever voices, as they stand.
+fn write_rows(store: &[u8], place: usize, k: usize, to: &mut [u8]) -> Wrote
+    requires { ⌜ place + noteRowWidth * k ≤ length (now store) ⌝ }
+    ensures { λ r. ⌜ WroteIs (now (to .entry)) (recordsOut (now (store .entry)) place k) (now (to .exit)) r ⌝ }
+{
+    if to.len() < NOTE * k {
+        return Wrote::NoRoom;
+    }
+    let mut at = 0;
+    let mut p = place;
+    let mut left = k;
+    while 0 < left {
+        put_record(store, p, &mut to[at..]);
+        at += NOTE;
+        p += NOTE_ROW;
+        left -= 1;
+    }
+    Wrote::To(at)
 }
 
 // The records of those of the k rows from `place` on that are of one voice.
@@ -186,16 +215,27 @@ fn write_note_records(store: &[u8], t: PartTables, to: &mut [u8]) -> Wrote
     Wrote::To(at)
 }
 
-// The section of the notes: by measure, then by voice, then as written.
-pub fn write_notes(store: &[u8], t: PartTables, to: &mut [u8]) -> Wrote
-    requires { ⌜ InStore (now store) t ⌝ }
+// The records of all notes: at once where all of them are of voice 0 (`lead`), else measure by measure.
+fn write_all(store: &[u8], t: PartTables, lead: bool, to: &mut [u8]) -> Wrote
+    requires { ⌜ InStore (now store) t × (lead ≡ leads (now store) (t .notes .at) (t .notes .count)) ⌝ }
+    ensures { λ r. ⌜ WroteIs (now (to .entry)) (notesOut (now (store .entry)) (t .measures .at) (t .notes .at) (t .measures .count)) (now (to .exit)) r ⌝ }
+{
+    if lead {
+        return write_rows(store, t.notes.at, t.notes.count, to);
+    }
+    write_note_records(store, t, to)
+}
+
+// The section of the notes: by measure, then by voice, then as written. `lead` tells whether all of them are of voice 0.
+pub fn write_notes(store: &[u8], t: PartTables, lead: bool, to: &mut [u8]) -> Wrote
+    requires { ⌜ InStore (now store) t × (lead ≡ leads (now store) (t .notes .at) (t .notes .count)) ⌝ }
     ensures { λ r. ⌜ WroteIs (now (to .entry)) (notesSection (now (store .entry)) t) (now (to .exit)) r ⌝ }
     ensures { λ r. ⌜ ((ms : List Head) (log : List (ℕ × Note)) → Represents (now (store .entry)) t ms log → WroteIs (now (to .entry)) (section (λ (x : ℕ × Note). noteBytes (x .1)) (inOrder ms log)) (now (to .exit)) r) ⌝ }
 {
     let Wrote::To(at) = store_sections::write_u32(to, t.notes.count as u32) else {
         return Wrote::NoRoom;
     };
-    let Wrote::To(k) = write_note_records(store, t, &mut to[at..]) else {
+    let Wrote::To(k) = write_all(store, t, lead, &mut to[at..]) else {
         return Wrote::NoRoom;
     };
     Wrote::To(at + k)

@@ -10,10 +10,9 @@ ghost use Rattle.write_notes.specs.Tables.{InStore, Represents};
 ghost use Rattle.write_lyrics.specs.Out.{SheetIn};
 use lyrics::Sheet;
 use store_sections::Wrote;
-use write_lyrics::write_lyrics_or_text;
 use write_notes::PartTables;
 
-// Measures, notes, pitches, lyrics and lyric text, each where the last one ended.
+// Measures, notes, pitches, lyrics and lyric text, each where the last one ended. Whether all notes are of voice 0 is asked once for all of them.
 pub fn write_sections(
     text: &[u8],
     store: &[u8],
@@ -24,23 +23,21 @@ pub fn write_sections(
     requires { ⌜ InStore (now store) t × SheetIn (now store) sheet ⌝ }
     ensures { λ r. ⌜ ((ms : List Head) (log : List (ℕ × Note)) → Represents (now (store .entry)) t ms log → WroteIs (now (to .entry)) (layout.sections (record { heads = ms; log = log; words = syllablesIn (now (text .entry)) (now (store .entry)) sheet })) (now (to .exit)) r) ⌝ }
 {
+    let lead = write_notes::is_lead(store, t.notes.at, t.notes.count);
     let Wrote::To(measures) = write_notes::write_measures(store, t, to) else {
         return Wrote::NoRoom;
     };
-    let Wrote::To(notes) = write_notes::write_notes(store, t, &mut to[measures..]) else {
+    let Wrote::To(notes) = write_notes::write_notes(store, t, lead, &mut to[measures..]) else {
         return Wrote::NoRoom;
     };
     let b = measures + notes;
-    let Wrote::To(pitches) = write_pitches::write_pitches(store, t, &mut to[b..]) else {
+    let Wrote::To(pitches) = write_pitches::write_pitches(store, t, lead, &mut to[b..]) else {
         return Wrote::NoRoom;
     };
     let c = b + pitches;
-    let Wrote::To(lyrics) = write_lyrics_or_text(text, store, sheet, t, false, &mut to[c..]) else {
+    let Wrote::To(lyrics) = write_lyrics::write_lyrics(text, store, sheet, t, lead, &mut to[c..])
+    else {
         return Wrote::NoRoom;
     };
-    let d = c + lyrics;
-    let Wrote::To(texts) = write_lyrics_or_text(text, store, sheet, t, true, &mut to[d..]) else {
-        return Wrote::NoRoom;
-    };
-    Wrote::To(d + texts)
+    Wrote::To(c + lyrics)
 }

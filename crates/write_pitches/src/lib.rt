@@ -13,6 +13,7 @@ ghost use Rattle.part_rows.specs.Encoded.{noteRowWidth, pitchRowWidth};
 ghost use Rattle.part_rows.specs.Read.{pitchCount};
 ghost use Rattle.store_sections.specs.Writes.{WroteIs};
 ghost use Rattle.write_notes.specs.Tables.{pitchTotal, InStore, Represents};
+ghost use Rattle.write_notes.specs.Out.{leads};
 ghost use Rattle.write_pitches.specs.Out.{voiceOut, voicesOut, pitchesOut, pitchesSection};
 use part_measures::MEASURE;
 use part_rows::NOTE_ROW;
@@ -152,16 +153,27 @@ fn write_records(store: &[u8], t: PartTables, to: &mut [u8]) -> Wrote
     Wrote::To(at)
 }
 
-// The section of the pitches, in the order of the notes that have them.
-pub fn write_pitches(store: &[u8], t: PartTables, to: &mut [u8]) -> Wrote
-    requires { ⌜ InStore (now store) t ⌝ }
+// The pitches of all notes: one run where all notes are of voice 0 (`lead`), else measure by measure.
+fn write_all(store: &[u8], t: PartTables, lead: bool, to: &mut [u8]) -> Wrote
+    requires { ⌜ InStore (now store) t × (lead ≡ leads (now store) (t .notes .at) (t .notes .count)) ⌝ }
+    ensures { λ r. ⌜ WroteIs (now (to .entry)) (pitchesOut (now (store .entry)) (t .measures .at) (t .notes .at) (t .pitches .at) (t .measures .count)) (now (to .exit)) r ⌝ }
+{
+    if lead {
+        return write_run(store, t.pitches.at, PITCH_ROW * t.pitches.count, to);
+    }
+    write_records(store, t, to)
+}
+
+// The section of the pitches, in the order of the notes that have them. `lead` tells whether all notes are of voice 0.
+pub fn write_pitches(store: &[u8], t: PartTables, lead: bool, to: &mut [u8]) -> Wrote
+    requires { ⌜ InStore (now store) t × (lead ≡ leads (now store) (t .notes .at) (t .notes .count)) ⌝ }
     ensures { λ r. ⌜ WroteIs (now (to .entry)) (pitchesSection (now (store .entry)) t) (now (to .exit)) r ⌝ }
     ensures { λ r. ⌜ ((ms : List Head) (log : List (ℕ × Note)) → Represents (now (store .entry)) t ms log → WroteIs (now (to .entry)) (section pitchBytes (concat (map (λ (x : ℕ × Note). x .1 .pitches) (inOrder ms log)))) (now (to .exit)) r) ⌝ }
 {
     let Wrote::To(at) = store_sections::write_u32(to, t.pitches.count as u32) else {
         return Wrote::NoRoom;
     };
-    let Wrote::To(k) = write_records(store, t, &mut to[at..]) else {
+    let Wrote::To(k) = write_all(store, t, lead, &mut to[at..]) else {
         return Wrote::NoRoom;
     };
     Wrote::To(at + k)

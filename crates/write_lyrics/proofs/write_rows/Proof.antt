@@ -1,6 +1,7 @@
 -- `write_lyrics::write_rows` meets its contract: what is left of the rows gives what is left to write.
 use Prim.Native.Nat.{_+_, _-_, _*_, _≤_}
 use mathlib.Core.Path.{_≡_, refl, sym, _∙_}
+use mathlib.Core.Bool.{false}
 use native.Mathlib.Omega.{arith}
 use native.Mathlib.Nat.{le-refl}
 use borrow.Author.Needs.{needs}
@@ -16,12 +17,12 @@ use Rattle.write_lyrics.proofs.write_rows.Statement.{statement}
 use Rattle.write_lyrics.proofs.write_rows.Tie as tie
 
 abbrev Inv-loop : tie.InvT-loop
-Inv-loop text store sheet place k note sung texts to₀ at₀ i₀ j₀ p₀ left₀ to at i j p left =
+Inv-loop text store sheet place k note sung to₀ at₀ i₀ j₀ p₀ left₀ to at i j p left =
     (p + noteRowWidth * left ≤ length store) × (i + left ≤ note + k) × (j + left ≤ sung + k) × (j + sungRows store p left ≡ sung + sungRows store place k) × (length to ≡ length to₀)
-    × Written to₀ (rowsOut texts (syllablesIn text store sheet) store note sung place k) (rowsOut texts (syllablesIn text store sheet) store i j p left) to at
+    × Written to₀ (rowsOut false (syllablesIn text store sheet) store note sung place k) (rowsOut false (syllablesIn text store sheet) store i j p left) to at
 
 abbrev μ-loop : tie.MeasureT-loop
-μ-loop text store sheet place k note sung texts to₀ at₀ i₀ j₀ p₀ left₀ to at i j p left = left
+μ-loop text store sheet place k note sung to₀ at₀ i₀ j₀ p₀ left₀ to at i j p left = left
 
 loop-holds : tie.Need-loop-holds Inv-loop μ-loop
 loop-holds c = (c .before .before .before .pre .1, le-refl _, le-refl _, refl, refl, begin _ _)
@@ -61,7 +62,7 @@ returns c =
     let l = c .before .before .before .before .before .before .before .before .before .before .before .loop in
     let a = c .before .before .before .before .before .before .before .before .before .before .before .before .before .before .before .args in
     record {
-      says = written-none (l .inv .5) (told (c .before .before .before .before .write-syllables .ensures) (c .enum-told .given .1)) (rowsOut (a .texts) (syllablesIn (a .text .now) (a .store .now) (a .sheet)) (a .store .now) (l .i + 1) (l .j + 1) (l .p + noteRowWidth) (l .left - 1))
+      says = written-none (l .inv .5) (told (c .before .before .before .before .write-syllables .ensures) (c .enum-told .given .1)) (rowsOut false (syllablesIn (a .text .now) (a .store .now) (a .sheet)) (a .store .now) (l .i + 1) (l .j + 1) (l .p + noteRowWidth) (l .left - 1))
           (rows-sung _ _ _ _ _ _ _ (c .before .before .before .before .before .before .before .before .before .before .loop-test .taken) (sym (c .before .before .before .before .before .before .before .before .before .is-of-voice .ensures) ∙ not-false _ (c .before .before .before .before .before .before .before .before .if1 .left)) (not-false _ (sym (c .before .before .before .before .before .before .before .is-rest .ensures) ∙ c .before .before .before .before .before .before .if2 .left)));
     }
 

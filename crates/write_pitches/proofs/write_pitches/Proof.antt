@@ -12,30 +12,30 @@ returns : tie.Need-returns
 returns c =
     pitches-say (none (told (c .before .before .before .before .write-u32 .ensures) (c .enum-told .given .1)) _)
 
-sub-write-records : tie.Need-sub-write-records
-sub-write-records c = omega (arith, in-store (told (c .before .before .before .before .before .write-u32 .ensures) (c .before .at .given .1)) .0)
+sub-write-all : tie.Need-sub-write-all
+sub-write-all c = omega (arith, in-store (told (c .before .before .before .before .before .write-u32 .ensures) (c .before .at .given .1)) .0)
 
-part-write-records-start : tie.Need-part-write-records-start
-part-write-records-start c = omega (arith, in-store (told (c .before .before .before .before .before .write-u32 .ensures) (c .before .at .given .1)) .0)
+part-write-all-start : tie.Need-part-write-all-start
+part-write-all-start c = omega (arith, in-store (told (c .before .before .before .before .before .write-u32 .ensures) (c .before .at .given .1)) .0)
 
 -- the pitches have none
 
 returns-2 : tie.Need-returns-2
 returns-2 c =
     let at = c .before .before .before .before .before .before .before in
-    pitches-say (next-none (told (at .before .before .before .before .write-u32 .ensures) (at .at .given .1)) (told (c .before .before .before .before .write-records .ensures) (c .enum-told2 .given .1)))
+    pitches-say (next-none (told (at .before .before .before .before .write-u32 .ensures) (at .at .given .1)) (told (c .before .before .before .before .write-all .ensures) (c .enum-told2 .given .1)))
 
-add-t12 : tie.Need-add-t12
-add-t12 c =
+add-t13 : tie.Need-add-t13
+add-t13 c =
     let at = c .before .before .before .before .before .before .before .before in
-    omega (arith, next-to (told (at .before .before .before .before .write-u32 .ensures) (at .at .given .1)) (told (c .before .before .before .before .before .write-records .ensures) (c .before .k .given .1)) .says .1, at .before .before .before .before .before .before .before .before .before .good)
+    omega (arith, next-to (told (at .before .before .before .before .write-u32 .ensures) (at .at .given .1)) (told (c .before .before .before .before .before .write-all .ensures) (c .before .k .given .1)) .says .1, at .before .before .before .before .before .before .before .before .before .good)
 
 -- both wrote
 
 returns-3 : tie.Need-returns-3
 returns-3 c =
     let at = c .before .before .before .before .before .before .before .before in
-    pitches-say (next-to (told (at .before .before .before .before .write-u32 .ensures) (at .at .given .1)) (told (c .before .before .before .before .before .write-records .ensures) (c .before .k .given .1)))
+    pitches-say (next-to (told (at .before .before .before .before .write-u32 .ensures) (at .at .given .1)) (told (c .before .before .before .before .before .write-all .ensures) (c .before .k .given .1)))
 
 pub write-pitches-spec : {M : Type 1} → statement M
-write-pitches-spec = tie.close (tie.spec (λ c. search needs) (λ c κs. search needs) (λ c. search needs) (λ c. search needs) (λ c. search needs) returns sub-write-records part-write-records-start (λ c. search needs) (λ c κs. search needs) (λ c. search needs) (λ c. search needs) (λ c. search needs) returns-2 add-t12 (λ c. search needs) returns-3)
+write-pitches-spec = tie.close (tie.spec (λ c. search needs) (λ c κs. search needs) (λ c. search needs) (λ c. search needs) (λ c. search needs) returns sub-write-all part-write-all-start (λ c. search needs) (λ c κs. search needs) (λ c. search needs) (λ c. search needs) (λ c. search needs) returns-2 add-t13 (λ c. search needs) returns-3)
