@@ -89,6 +89,9 @@ fn big(kind: &str, bytes: usize) -> String {
     generate::big(kind, bytes).expect("a kind of big tune")
 }
 
+/// Texts whose bytes are passed over, most of them: what the contract has cleared for each byte is more than the Rust does with it.
+pub const PASSED_OVER: &[&str] = &["foreign", "title", "comment", "comments"];
+
 /// Every text, the plain tune first.
 pub const TEXTS: &[Text] = &[
     Text { name: "plain", about: "a reel, one voice", longer: Some(plain), make: || one(plain(USUAL)) },
@@ -126,6 +129,19 @@ pub const TEXTS: &[Text] = &[
     Text { name: "voices32", about: "32 voices in turn, a line each", longer: None, make: || one(voices(32, 4_990, |i| i.to_string())) },
     Text { name: "voices1", about: "the same lines in one voice", longer: None, make: || one(voices(1, 4_990, |i| i.to_string())) },
     Text { name: "named", about: "32 voices whose long names begin alike", longer: None, make: || one(voices(32, 320, |i| format!("{}{i} name=\"Voice {i}\" clef=treble", "x".repeat(60)))) },
+    Text { name: "spaces", about: "spaces between two notes", longer: None, make: || one(repeated(head("") + "A", " ") + "B\n") },
+    Text { name: "skipped", about: "bytes in music that mean nothing", longer: None, make: || one(repeated(head("") + "A", "y$#*;@?") + "\n") },
+    Text { name: "bars", about: "one note, then barlines", longer: None, make: || one(repeated(head("") + "A", "|") + "\n") },
+    Text { name: "chord", about: "one chord of thousands of pitches", longer: None, make: || one(repeated(head("") + "[", STEPS) + "]\n") },
+    Text { name: "empty", about: "empty chords", longer: None, make: || one(repeated(head("") + "A", "[]") + "\n") },
+    Text { name: "tuplets", about: "tuplet marks, each in the place of the one before", longer: None, make: || one(repeated(head(""), "(3") + "A\n") },
+    Text { name: "keys", about: "inline keys, no music between them", longer: None, make: || one(repeated(head(""), "[K:G]") + "A\n") },
+    Text { name: "unsung", about: "lyric lines behind one note", longer: None, make: || one(repeated(head("") + "A|\n", "w: la la la la la la la\n")) },
+    Text { name: "accents", about: "a lyric line of letters beyond ASCII", longer: None, make: || one(repeated(head("") + "A\nw: ", "é") + "\n") },
+    Text { name: "foreign", about: "a title of characters beyond ASCII", longer: None, make: || one(repeated("X:1\nT:".into(), "é日") + "\nK:C\nA\n") },
+    Text { name: "title", about: "one long title", longer: None, make: || one(repeated("X:1\nT:".into(), "x") + "\nK:C\nA\n") },
+    Text { name: "comment", about: "one long comment", longer: None, make: || one(repeated(head("") + "A %", "x") + "\n") },
+    Text { name: "comments", about: "lines of comment", longer: None, make: || one(repeated(head("") + "A\n", "% nothing that is read stands here, and so on to the end\n")) },
     Text { name: "tiny", about: "one note", longer: None, make: || one(head("") + "A\n") },
     Text { name: "tally", about: "document 01's tally", longer: None, make: || one("X:1\nL:1/8\nK:G\nFA (3GAB|c2 z2|]\nw: one two-three\n".into()) },
 ];

@@ -1,5 +1,5 @@
 //! The port and the Rust on the same texts, in turn: `tools/benchmark --help`.
-use compare::texts::{TEXTS, Text};
+use compare::texts::{PASSED_OVER, TEXTS, Text};
 use sindvaelo::{parse_abc, reading_bytes, scratch_bytes};
 use std::hint::black_box;
 use std::io::Write;
@@ -142,7 +142,8 @@ fn main() {
     println!("{:10} {:>8} {:>10} {:>10} {:>7} {:>8} {:>9} {:>8} {:>8}", "text", "bytes", "port ns/B", "Rust ns/B", "ratio", "to plain", "copy ns/B", "port ×10", "Rust ×10");
     // What a byte of the plain tune takes at the usual size, beside which the others are dear or cheap.
     let plain = measure(&TEXTS[0].texts(), seconds);
-    let (mut least, mut dearest): (Option<(f64, String)>, Option<(f64, String)>) = (None, None);
+    // By ratio or cost: the text. Of texts that are read, of those passed over; the dearest.
+    let (mut least, mut passed, mut dearest) = (Vec::new(), Vec::new(), Vec::new());
     let read = |path: &String| std::fs::read_to_string(path).unwrap_or_else(|error| panic!("{path}: {error}"));
     let measured: Vec<(&str, Vec<Vec<String>>)> = match files.len() {
         0 => TEXTS.iter().filter(|text| text.name.contains(&word)).map(|text| (text.name, sizes(text, usual))).collect(),
@@ -166,16 +167,20 @@ fn main() {
                 grows(|r| r.port),
                 grows(|r| r.rust)
             );
-            let name = format!("{name} ({} bytes)", row.bytes);
-            if least.as_ref().is_none_or(|(ratio, _)| row.ratio() < *ratio) {
-                least = Some((row.ratio(), name.clone()));
-            }
-            if dearest.as_ref().is_none_or(|(most, _)| dear > *most) {
-                dearest = Some((dear, name));
-            }
+            let sized = format!("{name} ({} bytes)", row.bytes);
+            if PASSED_OVER.contains(&name) { &mut passed } else { &mut least }.push((row.ratio(), sized.clone()));
+            dearest.push((-dear, sized));
             before.push(row);
         }
     }
-    let (Some((ratio, slow)), Some((dear, costly))) = (least, dearest) else { panic!("no text has {word} in its name") };
-    println!("least ratio: {ratio:.2} on {slow}; dearest beside the plain tune: {dear:.2} times on {costly}");
+    let first = |mut rows: Vec<(f64, String)>| {
+        rows.sort_by(|a, b| a.0.total_cmp(&b.0));
+        rows.into_iter().next()
+    };
+    assert!(!dearest.is_empty(), "no text has {word} in its name");
+    for (what, rows) in [("least ratio", least), ("least ratio of texts that are passed over", passed), ("dearest beside the plain tune", dearest)] {
+        if let Some((value, text)) = first(rows) {
+            println!("{what}: {:.2} on {text}", value.abs());
+        }
+    }
 }
