@@ -1,6 +1,7 @@
 /* The floor of a reader under document 01's contract on this machine, for tools/floor: program FILE... Nanoseconds for each byte of text, processor time of the thread, low decile of 300:
  * clearing scratch; one pass that looks at every byte by a table, writes a note's record and a pitch for each letter and a measure's record for each bar; copying these records out.
- * No reader that writes readings can do less; lyrics, lengths, accidentals, chords and refusals are left out. Where a file has zero bytes, each ends a text. */
+ * A reader of music, which looks at one byte after the other, can hardly do less: lyrics, lengths, accidentals, chords and refusals are left out. Comments and titles can be passed
+ * over many bytes at a time, so their floor is the clearing alone. Where a file has zero bytes, each ends a text. */
 #define _POSIX_C_SOURCE 200809L
 #include "abc.h"
 #include <stdio.h>
