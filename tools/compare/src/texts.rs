@@ -63,9 +63,10 @@ fn lines(bytes: usize) -> String {
     sized("X:1\nL:1/8\nK:D\n".into(), "A|\n", bytes)
 }
 
+/// As far as 100,000 notes go.
 fn plain(bytes: usize) -> String {
     let tune = "|:G2 BG dGBG|A2 cA eAcA|B2 gB d2 ^cd|e2 dB A3 z|\nG2 BG dGBG|A2 cA eAcA|(3Bcd g2 fdcA|G4 G2:|\n";
-    sized("X:1\nT:Plain\nM:4/4\nL:1/8\nK:G\n".into(), tune, bytes)
+    sized("X:1\nT:Plain\nM:4/4\nL:1/8\nK:G\n".into(), tune, bytes.min(150_000))
 }
 
 /// Voices in turn, a line of music each, so many lines in all.
