@@ -1,4 +1,7 @@
 //! The port beside the Rust: what document 01 makes of the Rust's answer for both stores, and what the port gives.
+pub mod texts;
+pub mod tunes;
+
 use oracle::{Answer, Rust, answer, rust_answer};
 use sindvaelo::{MOST_BYTES, Refusal, parse_abc, scratch_bytes};
 

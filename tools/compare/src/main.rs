@@ -1,11 +1,15 @@
 //! The port of `parse_abc` beside the Rust on whole texts: `tools/differential-texts --help`.
-use compare::{Known, Stores, known, reading_len};
+use compare::texts::{TEXTS, Text};
+use compare::{Known, Stores, known, reading_len, tunes};
 use oracle::generate;
 use oracle::rng::Rng;
 use sindvaelo::{MOST_BYTES, reading_bytes, scratch_bytes};
 use std::collections::BTreeMap;
 
 mod edges;
+
+/// A longer text that differs is not made small, which would take hours.
+const LONG: usize = 8_000;
 
 /// What one kind of texts came to.
 #[derive(Default)]
@@ -38,7 +42,10 @@ impl Run {
     fn call(&mut self, text: &[u8], known: &Known, reading: usize, scratch: usize) {
         self.sum.calls += 1;
         let Some(words) = self.stores.difference(text, known, reading, scratch) else { return };
-        if self.sum.differences.len() < 5 {
+        if text.len() > LONG {
+            let start = String::from_utf8_lossy(&text[..60]).into_owned();
+            self.sum.differences.push(format!("{words}\n    a text of {} bytes that begins {}", text.len(), oracle::escape(start.as_bytes())));
+        } else if self.sum.differences.len() < 5 {
             let (more, under) = (reading as isize - reading_len(known) as isize, scratch as isize - scratch_bytes(text.len()) as isize);
             let small = oracle::shrink(text.to_vec(), |t| {
                 let k = compare::known(t);
@@ -143,6 +150,12 @@ fn mutated(r: &mut Rng) -> Vec<u8> {
     let cut = |text: &[u8], from: usize| (from..text.len()).find(|i| text[*i] < 128).unwrap_or(text.len());
     let (i, j) = (cut(&a, r.below(a.len() + 1)), cut(&b, r.below(b.len() + 1)));
     let mut text = [&a[..i], &b[j..]].concat();
+    change(r, &mut text);
+    text
+}
+
+/// Changes a few bytes.
+fn change(r: &mut Rng, text: &mut Vec<u8>) {
     for _ in 0..r.below(6) {
         if text.is_empty() {
             break;
@@ -156,6 +169,23 @@ fn mutated(r: &mut Rng) -> Vec<u8> {
             _ => text[at] = r.next() as u8 & 0x7f,
         }
     }
+}
+
+/// Up to three pieces of the benchmark's texts, mostly of one of them, behind a header, with a few bytes changed: small, as the whole texts take long.
+fn adversarial(r: &mut Rng, texts: &[String]) -> Vec<u8> {
+    let mut text = b"X:1\nL:1/8\nK:D\n".to_vec();
+    let mut from = r.below(texts.len());
+    for _ in 0..1 + r.below(3) {
+        if r.chance(20) {
+            from = r.below(texts.len());
+        }
+        let whole = &texts[from];
+        let at = whole.floor_char_boundary(r.below(whole.len() + 1));
+        let most = r.one(&[20, 100, 400]);
+        let end = whole.floor_char_boundary((at + r.below(most)).min(whole.len()));
+        text.extend(whole[at..end].bytes());
+    }
+    change(r, &mut text);
     text
 }
 
@@ -342,12 +372,17 @@ fn main() {
         let seed = seed ^ (0xed6e << 16 | at as u64);
         run(&format!("random: {}", piece.name), count / 20, &|run, i| run.text(&(piece.random)(&mut Rng::of(seed, i)), i % 16 == 0));
     }
+    let tunes = tunes::all();
+    let whole: Vec<String> = TEXTS.iter().filter(|text| text.name != "tunes").flat_map(Text::texts).collect();
     let outside = edges::outside();
     run("edges: lengths outside the domain of equality", outside.len() as u64, &|run, i| run.alike(&outside[i as usize]));
     run("random: lengths outside the domain of equality", count / 20, &|run, i| run.alike(&edges::outside_at_random(&mut Rng::of(seed ^ 0xd0a1, i))));
     run("generated", count, &|run, i| run.text(&generate::text(&mut Rng::of(seed, i)), i % 16 == 0));
     run("mutated", count / 4, &|run, i| run.text(&mutated(&mut Rng::of(seed ^ 0x5eed, i)), i % 16 == 0));
     run("bytes", count / 4, &|run, i| run.text(&noise(&mut Rng::of(seed ^ 0xb17e5, i)), i % 16 == 0));
+    run("tunes", tunes::COUNT as u64, &|run, i| run.text(tunes[i as usize].as_bytes(), i % 16 == 0));
+    run("adversarial: whole", whole.len() as u64, &|run, i| run.text(whole[i as usize].as_bytes(), i % 16 == 0));
+    run("adversarial: pieces", count / 20, &|run, i| run.text(&adversarial(&mut Rng::of(seed ^ 0xad7e, i), &whole), i % 16 == 0));
     run("blocks", count / 50, &|run, i| blocks(run, seed, i));
     if huge {
         // 67,108,864 bytes and one more: the second is refused, the first is not for its length.
