@@ -1,11 +1,11 @@
 -- ONE WALK along a chain.
-use Prim.Native.Nat.{ℕ, zero, suc, _+_, _-_, _≤_, _<_, min, max}
+use Prim.Native.Nat.{ℕ, zero, suc, _+_, _≤_, _<_, min, max}
 use mathlib.Core.Path.{_≡_, refl, sym, ap, subst, _∙_}
 use mathlib.Core.Bool.{Bool, true, false, cond}
 use mathlib.Core.List.{List, [], _∷_}
 use native.Mathlib.Omega.{arith}
 use lib.Dec.{eqb}
-use lib.ListN.{length, getD, set, replicate, length-set, length-replicate}
+use lib.ListN.{getD, set, replicate, length-set, length-replicate}
 use lib.Seq.{getD-set-same, getD-set-other}
 use borrow.Author.Tests.{eq-eqb, ne-eqb, eqb-true, eqb-false}
 use Rattle.laws.specs.Lists.{All}
@@ -14,10 +14,9 @@ use Rattle.reader.specs.Lyrics.{Syllable, held}
 use Rattle.lyrics.specs.declared.Row.{Row}
 use Rattle.lyrics.specs.Sheet.{holdCode, syllableOf, applyRow}
 use Rattle.lyric_walk.specs.declared.Link.{Link}
-use Rattle.lyric_walk.specs.declared.Span.{Span}
-use Rattle.lyric_walk.specs.Walks.{chain, rowOfLink, LinkIs, ofVerse, syllableIs, foundOf, foundAt, firstPlace, heldSince, window, Wide, Clear, TakesRow, Between, Gathered}
+use Rattle.lyric_walk.specs.Walks.{chain, rowOfLink, LinkIs, ofVerse, syllableIs, foundOf, foundAt, firstPlace, heldSince, window, Wide, Clear, TakesRow, InSpan, Gathered}
 use Rattle.lyric_walk.proofs.Chains.{chain-none, row-all}
-use Rattle.lyric_walk.proofs.Verses.{Rising, rising-chain, heldBy, of-other, of-hold, of-found}
+use Rattle.lyric_walk.proofs.Verses.{rising-chain, heldBy, of-other, of-hold, of-found}
 
 -- A VERSE: what the rows down to `place` say of it, the rest being ahead
 abbrev pub SoFar : List ℕ → List ℕ → ℕ → ℕ → ℕ → Bool → ℕ → List Syllable
@@ -71,7 +70,7 @@ module _ (s : List ℕ) (log k v p : ℕ) (x : Bool) (place : ℕ) (w : Noting s
 pub record Spanning (s : List ℕ) (log k least most place : ℕ) : Type 0 where
   pub low : place ≤ k
   pub small : most < 256
-  pub ahead : (text : List ℕ) (a b : ℕ) → a ≤ least → most ≤ b → All (Between a b) (chain text s log place) → All (Between a b) (chain text s log k)
+  pub ahead : (text : List ℕ) (a b : ℕ) → a ≤ least → most ≤ b → All (InSpan a b) (chain text s log place) → All (InSpan a b) (chain text s log k)
 
 spanning-start : (s : List ℕ) (log k least : ℕ) → Spanning s log k least 0 k
 spanning-start s log k least = record { low = omega arith; small = omega arith; ahead = λ text a b h l p. p }
@@ -84,7 +83,7 @@ spanning-next s log k least most place w r i byte =
       small = omega (arith, w .small);
       ahead = λ text a b h l p.
           w .ahead text a b (omega arith) (omega arith)
-          (subst (All (Between a b)) (sym (i .sung text)) (row-all (λ (v : ℕ). (a ≤ v) × (v ≤ b)) text (rowOfLink r) (chain text s log (r .next)) (omega arith, omega arith) p));
+          (subst (All (InSpan a b)) (sym (i .sung text)) (row-all (λ (v : ℕ). (a ≤ v) × (v ≤ b)) text (rowOfLink r) (chain text s log (r .next)) (omega arith, omega arith) p));
     }
 
 -- THE WINDOW
@@ -119,7 +118,7 @@ gathering-end s log k from places held least most place g h =
     record {
       low = λ i l. g .each i l .low;
       each = λ i l text. g .each i l .ahead text ∙ ap (λ (ys : List Syllable). cond (eqb (getD places i 0) 0) ys (syllableIs text (foundAt s log (getD places i 0) (getD held i false)) ∷ [])) (none text (from + i) (getD held i false));
-      span = λ text. g .span .ahead text least most (omega arith) (omega arith) (subst (All (Between least most)) (sym (nil text)) tt);
+      span = λ text. g .span .ahead text least most (omega arith) (omega arith) (subst (All (InSpan least most)) (sym (nil text)) tt);
       small = g .span .small;
     }
   where

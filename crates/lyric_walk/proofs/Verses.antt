@@ -12,7 +12,7 @@ use Rattle.laws.proofs.Bools.{by-test}
 use Rattle.reader.specs.Lyrics.{Syllable, put, held}
 use Rattle.lyrics.specs.declared.Row.{Row}
 use Rattle.lyrics.specs.Sheet.{holdCode, syllableOf, applyRow, sungFrom, rowOf, rowAt, nextOf}
-use Rattle.lyric_walk.specs.Walks.{ofVerse, within, Between}
+use Rattle.lyric_walk.specs.Walks.{ofVerse, within, InSpan}
 
 -- RISING VERSES
 abbrev pub Rising : ℕ → List Syllable → Type 0
@@ -201,7 +201,7 @@ within-all b [] a = refl
 within-all b (y ∷ ys) a = in-yes 0 b y ys (omega arith) (a .0) ∙ ap (λ (l : List Syllable). y ∷ l) (within-all b ys (a .1))
 
 -- from the least verse on
-pub within-start : (a b least most : ℕ) (ys : List Syllable) → All (Between least most) ys → within a b ys ≡ within (max least a) b ys
+pub within-start : (a b least most : ℕ) (ys : List Syllable) → All (InSpan least most) ys → within a b ys ≡ within (max least a) b ys
 within-start a b least most [] h = refl
 within-start a b least most (y ∷ ys) h =
     λ i. cond (same i && ltb (y .verse) b) (y ∷ within-start a b least most ys (h .1) i) (within-start a b least most ys (h .1) i)
@@ -214,7 +214,7 @@ within-start a b least most (y ∷ ys) h =
         go (no p) = rw (le-leb a (y .verse) (omega arith), le-leb (max least a) (y .verse) (omega (arith, h .0 .0)))
 
 -- none past the greatest
-pub within-past : (a b least most : ℕ) (ys : List Syllable) → All (Between least most) ys → most < a → within a b ys ≡ []
+pub within-past : (a b least most : ℕ) (ys : List Syllable) → All (InSpan least most) ys → most < a → within a b ys ≡ []
 within-past a b least most [] h l = refl
 within-past a b least most (y ∷ ys) h l = in-below a b y ys (omega (arith, h .0 .1)) ∙ within-past a b least most ys (h .1) l
 

@@ -97,14 +97,14 @@ pub record TakesRow (from verse code place : ℕ) (p : List ℕ) (x : List Bool)
   pub other : (i : ℕ) → i < window → (from + i ≡ verse → ⊥) → (getD q i 0 ≡ getD p i 0) × (getD y i false ≡ getD x i false)
 
 -- the verse of a syllable is one from least to most
-abbrev pub Between : ℕ → ℕ → Syllable → Type 0
-Between least most y = (least ≤ y .verse) × (y .verse ≤ most)
+abbrev pub InSpan : ℕ → ℕ → Syllable → Type 0
+InSpan least most y = (least ≤ y .verse) × (y .verse ≤ most)
 
 -- what the chain from row k on sings of each verse of the window from `from` on; and its least and greatest verse
 pub record Gathered (s : List ℕ) (log k from : ℕ) (places : List ℕ) (held : List Bool) (r : Span) : Type 0 where
   pub low : (i : ℕ) → i < window → getD places i 0 ≤ k
   pub each : (i : ℕ) → i < window → (text : List ℕ) → ofVerse (from + i) (chain text s log k) ≡ sungAt text s log (getD places i 0) (getD held i false)
-  pub span : (text : List ℕ) → All (Between (r .least) (r .most)) (chain text s log k)
+  pub span : (text : List ℕ) → All (InSpan (r .least) (r .most)) (chain text s log k)
   pub small : r .most < 256
 
 -- A SYLLABLE IN THE TEXT

@@ -172,7 +172,7 @@ fn write_verses(
         let mut places = [0; 33];
         let mut held = [false; 33];
         let span = lyric_walk::gather(store, log, k, from, &mut places, &mut held);
-        let Wrote::To(m) = write_window(
+        let Wrote::To(n) = write_window(
             text,
             store,
             log,
@@ -187,7 +187,7 @@ fn write_verses(
         ) else {
             return Wrote::NoRoom;
         };
-        at += m;
+        at += n;
         if span.most < from + lyric_walk::WINDOW {
             return Wrote::To(at);
         }

@@ -1,6 +1,5 @@
 -- `write_syllables::write_place` meets its contract.
 use mathlib.Core.Path.{sym}
-use native.Mathlib.Omega.{arith}
 use borrow.Author.Needs.{needs}
 use Rattle.store_sections.proofs.Writes.{start}
 use Rattle.write_notes.proofs.Out.{wrote-as}

@@ -54,7 +54,7 @@ add-at : tie.Need-add-at Inv-loop μ-loop
 add-at c =
     let a = c .before .before .before .before .before .before .before .before .before .before .before .before .before .before .before .before .before .args in
     let l = c .before .before .before .before .before .before .before .before .before .before .before .before .before .loop in
-    let w = written-on (l .inv .3) (told (c .before .before .before .before .before .write-window .ensures) (c .before .m .given .1)) (chain-next (a .texts) (a .note) (a .text .now) (a .store .now) (a .log) (a .k) (l .from) (l .from + window) past (omega arith) (omega (arith, c .before .before .before .before .before .before .before .before .before .before .before .before .loop-test .taken, l .inv .1))) in
+    let w = written-on (l .inv .3) (told (c .before .before .before .before .before .write-window .ensures) (c .before .n .given .1)) (chain-next (a .texts) (a .note) (a .text .now) (a .store .now) (a .log) (a .k) (l .from) (l .from + window) past (omega arith) (omega (arith, c .before .before .before .before .before .before .before .before .before .before .before .before .loop-test .taken, l .inv .1))) in
     omega (arith, w .wrote .says .1, c .before .before .before .before .before .before .before .before .before .before .before .before .before .before .before .before .before .good)
 
 add-if1 : tie.Need-add-if1 Inv-loop μ-loop
@@ -66,7 +66,7 @@ returns-2 : tie.Need-returns-2 Inv-loop μ-loop
 returns-2 c =
     let a = c .before .before .before .before .before .before .before .before .before .before .before .before .before .before .before .before .before .before .before .args in
     let l = c .before .before .before .before .before .before .before .before .before .before .before .before .before .before .before .loop in
-    let w = written-on (l .inv .3) (told (c .before .before .before .before .before .before .before .write-window .ensures) (c .before .before .before .m .given .1)) (chain-next (a .texts) (a .note) (a .text .now) (a .store .now) (a .log) (a .k) (l .from) (l .from + window) past (omega arith) (omega (arith, c .before .before .before .before .before .before .before .before .before .before .before .before .before .before .loop-test .taken, l .inv .1))) in
+    let w = written-on (l .inv .3) (told (c .before .before .before .before .before .before .before .write-window .ensures) (c .before .before .before .n .given .1)) (chain-next (a .texts) (a .note) (a .text .now) (a .store .now) (a .log) (a .k) (l .from) (l .from + window) past (omega arith) (omega (arith, c .before .before .before .before .before .before .before .before .before .before .before .before .before .before .loop-test .taken, l .inv .1))) in
     written-all w (verses-end (a .texts) (a .note) (a .text .now) (a .store .now) (a .log) (a .k) (l .from) _ _ _ (c .before .before .before .before .before .before .before .before .before .before .before .gather .ensures) (l .from + window) past (c .if1 .taken))
 
 add-from : tie.Need-add-from Inv-loop μ-loop
@@ -81,7 +81,7 @@ loop-again : tie.Need-loop-again Inv-loop μ-loop
 loop-again c =
     let a = c .before .before .before .before .before .before .before .before .before .before .before .before .before .before .before .before .before .before .before .args in
     let l = c .before .before .before .before .before .before .before .before .before .before .before .before .before .before .before .loop in
-    let w = written-on (l .inv .3) (told (c .before .before .before .before .before .before .before .write-window .ensures) (c .before .before .before .m .given .1)) (chain-next (a .texts) (a .note) (a .text .now) (a .store .now) (a .log) (a .k) (l .from) (l .from + window) past (omega arith) (omega (arith, c .before .before .before .before .before .before .before .before .before .before .before .before .before .before .loop-test .taken, l .inv .1))) in
+    let w = written-on (l .inv .3) (told (c .before .before .before .before .before .before .before .write-window .ensures) (c .before .before .before .n .given .1)) (chain-next (a .texts) (a .note) (a .text .now) (a .store .now) (a .log) (a .k) (l .from) (l .from + window) past (omega arith) (omega (arith, c .before .before .before .before .before .before .before .before .before .before .before .before .before .before .loop-test .taken, l .inv .1))) in
     (omega (arith, c .before .before .before .before .before .before .before .before .before .before .before .before .before .before .loop-test .taken, l .inv .1), omega (arith, l .inv .1), written-in w .1, w)
 
 returns-3 : tie.Need-returns-3 Inv-loop μ-loop
