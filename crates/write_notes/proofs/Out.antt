@@ -6,7 +6,6 @@ use mathlib.Core.List.{List, [], _∷_, _++_, append-nil, append-assoc}
 use native.Mathlib.Nat.{add-zero}
 use native.Mathlib.Omega.{arith}
 use lib.Dec.{eqb}
-use borrow.Author.Tests.{eq-eqb, ne-eqb, le-leb, lt-leb}
 use lib.ListN.{length, getD, take, drop, length-append, length-take, length-drop, take-append-drop}
 use Rattle.laws.specs.Lists.{All, filter, sum}
 use Rattle.laws.specs.Bytes.{part, splice, encAll, little, le32, u32At}
@@ -83,31 +82,15 @@ pub length-note-out : (s : List ℕ) (p : ℕ) → p + noteRowWidth ≤ length s
 unfolding noteOut part
 length-note-out s p h = simp (length-take, length-drop) (omega arith)
 
--- FLAGS, as the code asks for them
-module _ (n : NoteStart) where
-  plain : isLone n ≡ false → n .flags % 32 ≡ flagsFor n
-  unfolding flagsFor bit
-  plain e = rw e (omega arith)
+-- FLAGS, as the code computes them: r is 1 where the note is lone, else 0
+thirty-two : (b : Bool) → 32 * bit b 1 ≡ bit b 32
+unfolding bit
+thirty-two true = refl
+thirty-two false = refl
 
-  pub flags-rest : (n .kind ≡ 0 → ⊥) → n .flags % 32 ≡ flagsFor n
-  unfolding isLone
-  flags-rest h = plain (simp (ne-eqb _ 0 h))
-
-  pub flags-long : n .kind ≡ 0 → n .value < 5 → n .flags % 32 ≡ flagsFor n
-  unfolding isLone
-  flags-long z h = plain (simp (eq-eqb _ 0 z, lt-leb 5 _ h))
-
-  pub flags-short : n .kind ≡ 0 → 5 ≤ n .value → 9 < n .value → n .flags % 32 ≡ flagsFor n
-  unfolding isLone
-  flags-short z l h = plain (simp (eq-eqb _ 0 z, le-leb 5 (n .value) l, lt-leb _ 9 h))
-
-  pub flags-beamed : n .kind ≡ 0 → 5 ≤ n .value → n .value ≤ 9 → (n .beam ≡ 0 → ⊥) → n .flags % 32 ≡ flagsFor n
-  unfolding isLone
-  flags-beamed z l h b = plain (simp (eq-eqb _ 0 z, le-leb 5 (n .value) l, le-leb (n .value) 9 h, ne-eqb _ 0 b))
-
-  pub flags-lone : n .kind ≡ 0 → 5 ≤ n .value → n .value ≤ 9 → n .beam ≡ 0 → n .flags % 32 + 32 ≡ flagsFor n
-  unfolding isLone flagsFor bit
-  flags-lone z l h b = simp (eq-eqb _ 0 z, le-leb 5 (n .value) l, le-leb (n .value) 9 h, eq-eqb _ 0 b)
+pub flags-are : (n : NoteStart) (r : ℕ) (b : Bool) → r ≡ bit b 1 → b ≡ isLone n → n .flags % 32 + 32 * r ≡ flagsFor n
+unfolding flagsFor
+flags-are n r b e f = ap (λ (k : ℕ). n .flags % 32 + k) (ap (λ (k : ℕ). 32 * k) (e ∙ ap (λ (c : Bool). bit c 1) f) ∙ thirty-two (isLone n))
 
 -- A record, as it is written
 pub note-wrote : {d u e : List ℕ} (s : List ℕ) (p fl : ℕ) (n : NoteStart) → n ≡ startAt s p → u ≡ splice d 0 (n .kind ∷ n .value ∷ n .dots ∷ fl ∷ []) → e ≡ splice u beamAt (restAt s p) → fl ≡ flagsFor n
