@@ -3,7 +3,7 @@
 -- index does no harm, and nothing is cleared.
 use Prim.Native.Nat.{ℕ, _+_, _-_, _*_, _≤_, _<_}
 use mathlib.Core.Path.{_≡_}
-use mathlib.Core.Bool.{Bool, cond, _&&_}
+use mathlib.Core.Bool.{Bool, false, cond, _&&_}
 use mathlib.Core.Option.{Option, none, some}
 use mathlib.Core.List.{List, [], _∷_}
 use lib.Dec.{eqb, leb, ltb}
@@ -33,6 +33,10 @@ believed s at count step octave p = (ltb 0 p && leb p count) && (eqb (getD s (ro
 unfoldable pub placeIn : List ℕ → ℕ → ℕ → ℕ → ℕ → ℕ
 placeIn s at count step octave = cond (believed s at count step octave (u32At s (entryAt at step octave))) (u32At s (entryAt at step octave)) 0
 
+-- the row of a place has an accidental for a voice
+unfoldable pub isGiven : List ℕ → ℕ → ℕ → ℕ → Bool
+isGiven s at p voice = cond (eqb p 0) false (eqb (getD s (slotAt at p voice) 0) 1)
+
 -- the accidental in the slot that stands at k
 unfoldable pub heldAt : List ℕ → ℕ → ℕ → ℕ → Option Pitch
 heldAt s k step octave = cond (eqb (getD s k 0) 1) (some (record { step = step; octave = octave; alter = getD s (k + slotAlterAt) 0; cents = getD s (k + slotCentsAt) 0 })) none
@@ -44,7 +48,7 @@ recalledAt s at p voice step octave = cond (eqb p 0) none (heldAt s (slotAt at p
 abbrev pub recalled : List ℕ → ℕ → ℕ → ℕ → ℕ → ℕ → Option Pitch
 recalled s at count voice step octave = recalledAt s at (placeIn s at count step octave) voice step octave
 
--- A ROW FOR A STEP AND OCTAVE: the one that there is, else a new one with its entry
+-- A ROW MORE, for a step and octave that have none, with its entry
 unfoldable pub withRow : List ℕ → ℕ → ℕ → ℕ → ℕ → List ℕ
 withRow s at count step octave = splice (splice s (rowAt at (count + 1)) (scopeRow step octave)) (entryAt at step octave) (le32 (count + 1))
 
