@@ -1,47 +1,19 @@
+-- `part_accidentals::row_for` meets its contract: there is one, or it is new.
+use Rattle.part_accidentals.proofs.Resolving.{row-found, row-put}
 use borrow.Author.Needs.{needs}
+use native.Mathlib.Omega.{arith}
 use Rattle.part_accidentals.proofs.row_for.Statement.{statement}
 use Rattle.part_accidentals.proofs.row_for.Tie as tie
-use Rattle.part_accidentals.proofs.row_for.Reads as reads
-use Rattle.part_accidentals.proofs.row_for.Lts as lts
-use Rattle.part_accidentals.proofs.find_row.Reads as find-row-reads
-use Rattle.part_accidentals.proofs.put_row.Reads as put-row-reads
 
--- src/lib.rt:140:9
-find-row-requires : tie.Need-find-row-requires
-find-row-requires c κs = search needs
-
--- src/lib.rt:142:9
-same-length : tie.Need-same-length
-same-length c = search needs
-
--- src/lib.rt:142:9
 returns : tie.Need-returns
-returns c = ?
+returns c =
+    let a = c .before .before .before .before .args in
+    row-found (a .store .now) (a .at) (a .count) (a .step) (a .octave) _ (c .before .find-row .ensures) (c .if1 .taken)
 
--- src/lib.rt:147:5
-put-row-requires : tie.Need-put-row-requires
-put-row-requires c κs = search needs
-
--- src/lib.rt:148:16
-add-next : tie.Need-add-next
-add-next c = search needs
-
--- src/lib.rt:136:1
-same-length-2 : tie.Need-same-length-2
-same-length-2 c = search needs
-
--- src/lib.rt:136:1
 returns-2 : tie.Need-returns-2
-returns-2 c = ?
+returns-2 c =
+    let a = c .before .before .before .before .before .before .before .before .args in
+    row-put (a .store .now) (a .at) (a .count) (a .step) (a .octave) _ (c .before .before .before .before .before .find-row .ensures) (c .before .before .before .before .if1 .left) _ (c .before .before .put-row .ensures)
 
 pub row-for-spec : {M : Type 1} → statement M
-row-for-spec =
-    tie.close
-    (tie.spec
-    find-row-requires
-    same-length
-    returns
-    put-row-requires
-    add-next
-    same-length-2
-    returns-2)
+row-for-spec = tie.close (tie.spec (λ c κs. search needs) (λ c. search needs) returns (λ c κs. search needs) (λ c. search needs) (λ c. search needs) returns-2)

@@ -1,64 +1,54 @@
+-- `part_accidentals::unmarked` meets its contract: by the slot, or by the key.
+use Prim.Native.Nat.{_+_}
+use mathlib.Core.Path.{sym, _∙_}
+use lib.ListN.{getD}
+use Rattle.part_rows.specs.Encoded.{slotAlterAt, slotCentsAt}
+use Rattle.part_scopes.proofs.Places.{place-inside}
+use Rattle.part_accidentals.proofs.Resolving.{given-inside, by-slot, by-key}
 use borrow.Author.Needs.{needs}
+use native.Mathlib.Omega.{arith}
 use Rattle.part_accidentals.proofs.unmarked.Statement.{statement}
 use Rattle.part_accidentals.proofs.unmarked.Tie as tie
-use Rattle.part_accidentals.proofs.unmarked.Reads as reads
-use Rattle.part_accidentals.proofs.unmarked.Lts as lts
-use Rattle.part_accidentals.proofs.abc_key_alter.Reads as abc-key-alter-reads
-use Rattle.part_accidentals.proofs.find_row.Reads as find-row-reads
-use Rattle.part_accidentals.proofs.is_given.Reads as is-given-reads
-use Rattle.part_accidentals.proofs.slot_at.Reads as slot-at-reads
 
--- src/lib.rt:191:9
-find-row-requires : tie.Need-find-row-requires
-find-row-requires c κs = search needs
-
--- src/lib.rt:192:8
 is-given-requires : tie.Need-is-given-requires
-is-given-requires c κs = ?
+is-given-requires c κs =
+    let a = c .before .before .args in
+    let pre = c .before .before .pre in
+    (pre .0, omega (arith, pre .2, c .find-row .ensures, place-inside (a .store .now) (a .at) (a .count) (a .step) (a .octave)))
 
--- src/lib.rt:193:13
 slot-at-requires : tie.Need-slot-at-requires
-slot-at-requires c κs = ?
+slot-at-requires c κs =
+    let a = c .before .before .before .before .args in
+    let pre = c .before .before .before .before .pre in
+    let in-row = given-inside (a .store .now) (a .at) (a .count) (a .voice) (a .step) (a .octave) _ (c .before .before .find-row .ensures) (sym (c .before .is-given .ensures) ∙ c .if1 .taken) in
+    (in-row .0, pre .0, omega (arith, pre .2, in-row .1))
 
--- src/lib.rt:197:26
-add-t11 : tie.Need-add-t11
-add-t11 c = search needs
-
--- src/lib.rt:197:20
 shared-slice-read-t13 : tie.Need-shared-slice-read-t13
-shared-slice-read-t13 c = ?
+shared-slice-read-t13 c =
+    let a = c .before .before .before .before .before .before .args in
+    let pre = c .before .before .before .before .before .before .pre in
+    let in-row = given-inside (a .store .now) (a .at) (a .count) (a .voice) (a .step) (a .octave) _ (c .before .before .before .before .find-row .ensures) (sym (c .before .before .before .is-given .ensures) ∙ c .before .before .if1 .taken) in
+    omega (arith, pre .0, pre .2, in-row .0, in-row .1, c .before .slot-at .ensures)
 
--- src/lib.rt:198:26
-add-t14 : tie.Need-add-t14
-add-t14 c = search needs
-
--- src/lib.rt:198:20
 shared-slice-read-t16 : tie.Need-shared-slice-read-t16
-shared-slice-read-t16 c = ?
+shared-slice-read-t16 c =
+    let a = c .before .before .before .before .before .before .before .args in
+    let pre = c .before .before .before .before .before .before .before .pre in
+    let in-row = given-inside (a .store .now) (a .at) (a .count) (a .voice) (a .step) (a .octave) _ (c .before .before .before .before .before .find-row .ensures) (sym (c .before .before .before .before .is-given .ensures) ∙ c .before .before .before .if1 .taken) in
+    omega (arith, pre .0, pre .2, in-row .0, in-row .1, c .before .before .slot-at .ensures)
 
--- src/lib.rt:194:9
 returns : tie.Need-returns
-returns c = ?
+returns c =
+    let a = c .before .before .before .before .before .before .before .args in
+    let s = a .store .now in
+    let slot = c .before .before .slot-at .ensures in
+    λ k e. (λ i. record { step = a .step; octave = a .octave; alter = getD s (slot i + slotAlterAt) 0; cents = getD s (slot i + slotCentsAt) 0 })
+    ∙ by-slot s (a .at) (a .count) (a .voice) (a .step) (a .octave) _ (c .before .before .before .before .before .find-row .ensures) (sym (c .before .before .before .before .is-given .ensures) ∙ c .before .before .before .if1 .taken) k
 
--- src/lib.rt:204:16
-abc-key-alter-requires : tie.Need-abc-key-alter-requires
-abc-key-alter-requires c κs = search needs
-
--- src/lib.rt:179:1
 returns-2 : tie.Need-returns-2
-returns-2 c = ?
+returns-2 c =
+    let a = c .before .before .before .before .before .args in
+    λ k e. by-key (a .store .now) (a .at) (a .count) (a .voice) (a .step) (a .octave) _ (c .before .before .before .find-row .ensures) (sym (c .before .before .is-given .ensures) ∙ c .before .if1 .left) k _ (c .abc-key-alter .ensures k e)
 
 pub unmarked-spec : {M : Type 1} → statement M
-unmarked-spec =
-    tie.close
-    (tie.spec
-    find-row-requires
-    is-given-requires
-    slot-at-requires
-    add-t11
-    shared-slice-read-t13
-    add-t14
-    shared-slice-read-t16
-    returns
-    abc-key-alter-requires
-    returns-2)
+unmarked-spec = tie.close (tie.spec (λ c κs. search needs) is-given-requires slot-at-requires (λ c. search needs) shared-slice-read-t13 (λ c. search needs) shared-slice-read-t16 returns (λ c κs. search needs) returns-2)
