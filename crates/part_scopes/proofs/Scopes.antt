@@ -73,8 +73,8 @@ newest-as s s′ at count count′ place (x ∷ xs) same h =
 
 module _ {s : List ℕ} {at count : ℕ} {places : List ℕ} {scopes : List Scope} (h : Scoped s at count places scopes) where
   -- A WRITE BEFORE THE INDEX
-  pub scoped-kept : (s′ : List ℕ) (k : ℕ) (bs : List ℕ) → s′ ≡ splice s k bs → k + length bs ≤ at → Scoped s′ at count places scopes
-  scoped-kept s′ k bs e l =
+  pub scoped-behind : (s′ : List ℕ) (k : ℕ) (bs : List ℕ) → s′ ≡ splice s k bs → k + length bs ≤ at → Scoped s′ at count places scopes
+  scoped-behind s′ k bs e l =
       let same : (j : ℕ) → at ≤ j → getD s′ j 0 ≡ getD s j 0 = λ j m. ap (λ (x : List ℕ). getD x j 0) e ∙ byte-above s k bs j (omega arith) in
       record {
         places-4 = h .places-4;

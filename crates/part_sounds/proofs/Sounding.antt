@@ -27,9 +27,10 @@ use Rattle.part_rows.specs.Table.{Only}
 use Rattle.part_rows.specs.Encoded.{rowFor, pitchFor, pitchRow, pitchRowWidth}
 use Rattle.part_rows.proofs.Bytes.{pitch-row, length-pitch-row}
 use Rattle.part_rows.proofs.Tables.{table-front, only-then, only-wider}
-use Rattle.part_chains.specs.Chains.{Scoped, Scopes}
+use Rattle.part_scopes.specs.Scopes.{Scoped, Scopes}
 use Rattle.part_accidentals.specs.declared.Resolved.{Resolved}
 use Rattle.part_accidentals.specs.Resolving.{signs, writtenOf, ResolvedAs}
+use Rattle.part_scopes.proofs.Scopes.{scoped-behind}
 use Rattle.part_registers.specs.declared.Line.{Line}
 use Rattle.part_registers.specs.declared.Pending.{Pending}
 use Rattle.part_registers.specs.declared.Counts.{Counts}
@@ -39,7 +40,7 @@ use Rattle.part_registers.specs.Notes.{flagsIn}
 use Rattle.part_registers.specs.States.{pendingFor}
 use Rattle.part_registers.proofs.Notes.{note-flags-is}
 use Rattle.part_invariant.specs.Invariant.{Room, Stored, Represents, RepresentedInLine, pitchesIn, Appendable, Appends}
-use Rattle.part_invariant.proofs.Stores.{withPitches, pitch-pushed, pitch-pushed-only, scoped-behind}
+use Rattle.part_invariant.proofs.Stores.{withPitches, pitch-pushed, pitch-pushed-only}
 use Rattle.part_invariant.proofs.Appending.{room-same, stored-pitches}
 use Rattle.part_sounds.specs.Sounds.{restRow, soundRow, withPending, Restable, SimulatesRest, Pushable, SimulatesPitch, Soundable, SimulatesSound, SimulatesNote}
 
