@@ -16,7 +16,6 @@ use Rattle.standard.specs.Fields.{Meter}
 use Rattle.reader.specs.Barlines.{leftOf}
 use Rattle.reader.specs.Codes.{barlineCode}
 use Rattle.reader.specs.Records.{passBits, measureWidth}
-use Rattle.reader.specs.Pitches.{Scope, remembered}
 use Rattle.reader.specs.Token as token
 use Rattle.reader.specs.State as State
 use Rattle.reader.specs.State.{voltaBegins, noScopes, withTime}
@@ -26,8 +25,7 @@ use Rattle.token_symbols.specs.declared.Barline.{Barline}
 use Rattle.token_symbols.specs.declared.Barline.the-variants.{Normal, RepeatStart, RepeatEnd, RepeatBoth, Double, Final}
 use Rattle.token_symbols.specs.Bars.{barlineFor}
 use Rattle.part_rows.specs.Table.{Table, Only}
-use Rattle.part_rows.specs.Encoded.{scopeRow, scopeRowWidth}
-use Rattle.part_rows.proofs.Tables.{table-row, table-none, only-splice, only-then}
+use Rattle.part_rows.proofs.Tables.{table-row, only-splice, only-then}
 use Rattle.part_measures.specs.Heads.{headRow, newRow, noNotes, leftAt, rightAt, meterAt, voltaAt}
 use Rattle.part_measures.proofs.Heads.{length-head, new-row, head-left, head-right, head-meter, head-volta, head-empty}
 use Rattle.part_scopes.specs.Scopes.{Scoped}
