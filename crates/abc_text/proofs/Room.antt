@@ -12,7 +12,7 @@ use Rattle.reader.specs.Scan.{Items}
 use Rattle.reader.specs.Part.{build}
 use Rattle.reader.specs.Records.{measureWidth, sections}
 use Rattle.reader.specs.Answer.{scratchNeeded}
-use Rattle.bounds.specs.Weights.{itemBytes}
+use Rattle.bounds.specs.Weights.{scopeIndexWidth, itemBytes}
 use Rattle.bounds.proofs.Tables.{part-room}
 use Rattle.store_sections.specs.declared.Wrote.the-variants.{To, NoRoom}
 use Rattle.store_sections.specs.Writes.{WroteIs}
@@ -30,7 +30,7 @@ pub rooms-left : (text s : List ℕ) (h : Shared) → Done text s h → length t
 unfolding scratchNeeded
 rooms-left text s h d short fits = record { room = λ q. at-part q (part-room text (d .state) (itemsIn text s (h .items)) q (d .scanned)) }
   where
-    at-part : (q : ℕ) → tableEnd (length (itemsIn text s (h .items))) + measureWidth + measureWidth * sum itemBytes (itemsOf q (itemsIn text s (h .items))) ≤ scratchNeeded (length text)
+    at-part : (q : ℕ) → tableEnd (length (itemsIn text s (h .items))) + scopeIndexWidth + measureWidth + measureWidth * sum itemBytes (itemsOf q (itemsIn text s (h .items))) ≤ scratchNeeded (length text)
         → PartRoom text s (h .items) q
     at-part q p =
         let n = length-items text s (h .items) in
