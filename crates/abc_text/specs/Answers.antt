@@ -8,7 +8,7 @@ use Rattle.laws.specs.Lists.{sum}
 use Rattle.reader.specs.Steps.{itemsOf}
 use Rattle.reader.specs.Records.{measureWidth}
 use Rattle.reader.specs.Answer.{Outcome, early, refusedWith, Answer, read, refused, answerOf}
-use Rattle.bounds.specs.Weights.{itemBytes}
+use Rattle.bounds.specs.Weights.{scopeIndexWidth, itemBytes}
 use Rattle.scan_table.specs.Rows.{itemsIn, tableEnd}
 use Rattle.store_sections.specs.declared.Wrote.{Wrote}
 use Rattle.store_sections.specs.declared.Wrote.the-variants.{To, NoRoom}
@@ -44,7 +44,7 @@ pub record EarlyIs (text : List ℕ) (sl : ℕ) (r : Early) : Type 0 where
 
 -- ROOM for the tables of each part of the n items behind the line table and a part's own
 abbrev pub takenBy : List ℕ → List ℕ → ℕ → ℕ → ℕ
-takenBy text s n q = tableEnd n + tableEnd n + measureWidth + measureWidth * sum itemBytes (itemsOf q (itemsIn text s n))
+takenBy text s n q = tableEnd n + tableEnd n + scopeIndexWidth + measureWidth + measureWidth * sum itemBytes (itemsOf q (itemsIn text s n))
 
 pub record Rooms (text s : List ℕ) (n : ℕ) : Type 0 where
   pub fits : (q : ℕ) → takenBy text s n q ≤ length s

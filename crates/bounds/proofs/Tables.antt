@@ -21,7 +21,7 @@ use Rattle.reader.specs.State.{newPart}
 use Rattle.reader.specs.Part.{onToken, lineBegins, onItem, build}
 use Rattle.reader.specs.Answer.{scratchNeeded}
 use Rattle.reader.specs.Records.{notesOf, pitchesOf, lyrics, lyricText}
-use Rattle.bounds.specs.Weights.{Weights, Covered, tableWeights, itemRowWidth, itemWeight, scratchPerByte, scratchPerLineFeed, noteWeights, pitchWeights, accidentalWeights, measureWeights, syllableWeights, textWeights, stateWeight, scopesWeight, tokenWeight, musicBytes, lyricBytes, itemBytes}
+use Rattle.bounds.specs.Weights.{Weights, Covered, tableWeights, itemRowWidth, itemWeight, scopeIndexWidth, scratchPerByte, scratchPerLineFeed, noteWeights, pitchWeights, accidentalWeights, measureWeights, syllableWeights, textWeights, stateWeight, scopesWeight, tokenWeight, musicBytes, lyricBytes, itemBytes}
 use Rattle.bounds.proofs.TokenWeights.{line-covered}
 use Rattle.bounds.proofs.PartWeights.{tokens-step, begins-step, reading-weight, items-covered}
 use Rattle.bounds.proofs.Counts.{music-bound, lyric-bound, bytes-sum}
@@ -110,7 +110,7 @@ lines-most text t a e =
 
 -- ROOM for the tables of any one part, behind the line table and the part's own
 pub part-room : (text : List ℕ) (t : ScanState) (a : Items) (q : ℕ) → scan (textLines text) ≡ on t a
-    → (256 + itemRowWidth * length a) + (256 + itemRowWidth * length a) + tableWeights .measure + tableWeights .byte * sum itemBytes (itemsOf q a) ≤ scratchNeeded (length text)
+    → (256 + itemRowWidth * length a) + (256 + itemRowWidth * length a) + scopeIndexWidth + tableWeights .measure + tableWeights .byte * sum itemBytes (itemsOf q a) ≤ scratchNeeded (length text)
 unfolding scratchNeeded
 part-room text t a q e = omega (arith, lines-most text t a e, mine-bytes q a)
 

@@ -40,12 +40,16 @@ abbrev pub sectionWeights : Weights
 sectionWeights =
     record { measure = measureWidth; note = noteWidth; pitch = pitchWidth; accidental = 0; syllable = lyricWidth; text = 1; byte = 23; kept = 5 }
 
--- THE ROWS OF SCRATCH that are no records of a reading: a note, an accidental in force, the head of a note's syllables, a syllable, an item of the line table
+-- THE ROWS OF SCRATCH that are no records of a reading: a note, a step and octave with accidentals in force, the head of a note's syllables, a syllable, an item of the line table
 abbrev pub noteRowWidth : ℕ
 noteRowWidth = 16
 
 abbrev pub scopeRowWidth : ℕ
-scopeRowWidth = 8
+scopeRowWidth = 16
+
+-- the index of the accidentals in force: four bytes for each of 7 steps in 256 octaves
+abbrev pub scopeIndexWidth : ℕ
+scopeIndexWidth = 7168
 
 abbrev pub lyricHeadWidth : ℕ
 lyricHeadWidth = 4

@@ -1,4 +1,4 @@
--- FOUR PLACES, each written again: one of them is another one.
+-- FOUR PLACES, all but the first written again: one of them is another one.
 use Prim.Native.Nat.{ℕ, zero, suc, _<_}
 use mathlib.Core.Path.{_≡_, refl, ap, _∙_}
 use mathlib.Core.Bool.{cond}
@@ -16,11 +16,10 @@ set-self (x ∷ xs) (suc i) = ap (λ (ys : List ℕ). x ∷ ys) (set-self xs i)
 as-is : (l : List ℕ) (i x : ℕ) → x ≡ getD l i 0 → set l i x ≡ l
 as-is l i x e = ap (set l i) e ∙ set-self l i
 
-pub four-set : (l : List ℕ) (voice place a b c d : ℕ) → voice < 4 → a ≡ cond (eqb voice 0) place (getD l 0 0) → b ≡ cond (eqb voice 1) place (getD (set l 0 a) 1 0)
-    → c ≡ cond (eqb voice 2) place (getD (set (set l 0 a) 1 b) 2 0) → d ≡ cond (eqb voice 3) place (getD (set (set (set l 0 a) 1 b) 2 c) 3 0)
-    → set (set (set (set l 0 a) 1 b) 2 c) 3 d ≡ set l voice place
-four-set l zero place a b c d k ea eb ec ed = as-is _ 3 d ed ∙ as-is _ 2 c ec ∙ as-is _ 1 b eb ∙ ap (set l 0) ea
-four-set l (suc zero) place a b c d k ea eb ec ed = as-is _ 3 d ed ∙ as-is _ 2 c ec ∙ (λ i. set (as-is l 0 a ea i) 1 (eb i))
-four-set l (suc (suc zero)) place a b c d k ea eb ec ed = as-is _ 3 d ed ∙ (λ i. set ((as-is _ 1 b eb ∙ as-is l 0 a ea) i) 2 (ec i))
-four-set l (suc (suc (suc zero))) place a b c d k ea eb ec ed = λ i. set ((as-is _ 2 c ec ∙ as-is _ 1 b eb ∙ as-is l 0 a ea) i) 3 (ed i)
-four-set l (suc (suc (suc (suc n)))) place a b c d k ea eb ec ed = absurd (not-suc-le-zero (le-of-suc-le-suc (le-of-suc-le-suc (le-of-suc-le-suc (le-of-suc-le-suc k)))))
+pub four-set : (l : List ℕ) (voice place b c d : ℕ) → voice < 4 → (voice ≡ 0 → ⊥) → b ≡ cond (eqb voice 1) place (getD l 1 0) → c ≡ cond (eqb voice 2) place (getD (set l 1 b) 2 0)
+    → d ≡ cond (eqb voice 3) place (getD (set (set l 1 b) 2 c) 3 0) → set (set (set l 1 b) 2 c) 3 d ≡ set l voice place
+four-set l zero place b c d k n eb ec ed = absurd (n refl)
+four-set l (suc zero) place b c d k n eb ec ed = as-is _ 3 d ed ∙ as-is _ 2 c ec ∙ ap (set l 1) eb
+four-set l (suc (suc zero)) place b c d k n eb ec ed = as-is _ 3 d ed ∙ (λ i. set (as-is l 1 b eb i) 2 (ec i))
+four-set l (suc (suc (suc zero))) place b c d k n eb ec ed = λ i. set ((as-is _ 2 c ec ∙ as-is l 1 b eb) i) 3 (ed i)
+four-set l (suc (suc (suc (suc m)))) place b c d k n eb ec ed = absurd (not-suc-le-zero (le-of-suc-le-suc (le-of-suc-le-suc (le-of-suc-le-suc (le-of-suc-le-suc k)))))

@@ -16,7 +16,6 @@ use Rattle.standard.specs.Fields.{Meter}
 use Rattle.reader.specs.Barlines.{leftOf}
 use Rattle.reader.specs.Codes.{barlineCode}
 use Rattle.reader.specs.Records.{passBits, measureWidth}
-use Rattle.reader.specs.Pitches.{Scope, remembered}
 use Rattle.reader.specs.Token as token
 use Rattle.reader.specs.State as State
 use Rattle.reader.specs.State.{voltaBegins, noScopes, withTime}
@@ -26,17 +25,17 @@ use Rattle.token_symbols.specs.declared.Barline.{Barline}
 use Rattle.token_symbols.specs.declared.Barline.the-variants.{Normal, RepeatStart, RepeatEnd, RepeatBoth, Double, Final}
 use Rattle.token_symbols.specs.Bars.{barlineFor}
 use Rattle.part_rows.specs.Table.{Table, Only}
-use Rattle.part_rows.specs.Encoded.{scopeRow, scopeRowWidth}
-use Rattle.part_rows.proofs.Tables.{table-row, table-none, only-splice, only-then}
+use Rattle.part_rows.proofs.Tables.{table-row, only-splice, only-then}
 use Rattle.part_measures.specs.Heads.{headRow, newRow, noNotes, leftAt, rightAt, meterAt, voltaAt}
 use Rattle.part_measures.proofs.Heads.{length-head, new-row, head-left, head-right, head-meter, head-volta, head-empty}
-use Rattle.part_chains.specs.Chains.{Keeps, Scoped}
+use Rattle.part_scopes.specs.Scopes.{Scoped}
+use Rattle.part_scopes.proofs.Scopes.{scoped-none, scoped-behind}
 use Rattle.part_registers.specs.declared.Line.{Line}
 use Rattle.part_registers.specs.declared.Counts.{Counts}
 use Rattle.part_registers.specs.declared.Tables.{Tables}
 use Rattle.part_registers.specs.declared.Registers.{Registers}
 use Rattle.part_invariant.specs.Invariant.{Room, Stored, Represents, RepresentedInLine, pitchesIn, Grows, Simulates}
-use Rattle.part_invariant.proofs.Stores.{withHeads, head-altered, head-only, head-pushed, head-pushed-only, scoped-behind}
+use Rattle.part_invariant.proofs.Stores.{withHeads, head-altered, head-only, head-pushed, head-pushed-only}
 use Rattle.part_invariant.proofs.Logs.{last-head, count-most, counts-4}
 use Rattle.part_invariant.proofs.Appending.{someHead, room-same}
 use Rattle.part_bars.specs.Bars.{codeOf, leftStore, nowhere, ended, opened, timed}
@@ -163,25 +162,8 @@ four-nowhere (suc (suc zero)) h = refl
 four-nowhere (suc (suc (suc zero))) h = refl
 four-nowhere (suc (suc (suc (suc v)))) h = absurd (omega arith)
 
-four-none : (v : ℕ) → v < 4 → getD noScopes v [] ≡ []
-four-none zero h = refl
-four-none (suc zero) h = refl
-four-none (suc (suc zero)) h = refl
-four-none (suc (suc (suc zero))) h = refl
-four-none (suc (suc (suc (suc v)))) h = absurd (omega arith)
-
-pub no-scopes : (s : List ℕ) (at : ℕ) → at ≤ length s → Scoped s at 0 nowhere noScopes
-no-scopes s at h =
-    record {
-      rows = [];
-      table = table-none scopeRow scopeRowWidth s at;
-      count-is = refl;
-      small = omega arith;
-      room = omega arith;
-      places-4 = refl;
-      scopes-4 = refl;
-      keeps = λ v l. record { chain = []; linked = four-nowhere v l; same = λ w. ap (λ (c : Scope). remembered c w) (sym (four-none v l)) };
-    }
+pub no-scopes : (s : List ℕ) (at : ℕ) → Scoped s at 0 nowhere noScopes
+no-scopes s at = scoped-none s at nowhere refl four-nowhere
 
 -- the open head is empty
 open-empty : (hs : List Head) (d : Head) → 0 < length hs → openIsEmpty hs ≡ isEmptyHead (getD hs (length hs - 1) d)
@@ -215,14 +197,14 @@ endedWith r n places =
       verses = r .verses;
     }
 
-ends-represented : {t : Tables} {s s′ : List ℕ} {r : Registers} (b : standard.Barline) (opens : Bool) (l : LogState) (n : ℕ) (places : List ℕ) (heads′ : List Head) → t .scopes ≤ length s′ → Represents t s r [] l
+ends-represented : {t : Tables} {s s′ : List ℕ} {r : Registers} (b : standard.Barline) (opens : Bool) (l : LogState) (n : ℕ) (places : List ℕ) (heads′ : List Head) → Represents t s r [] l
     → Stored t (endedWith r n places .counts) s′ heads′ (l .log) (pitchesIn (l .log) ++ []) → heads′ ≡ endedHeads b opens (l .line .meter) (l .heads) → places ≡ endedLast opens (l .heads) (l .last)
     → Represents t s′ (endedWith r n places) [] (onBarline b opens l)
 unfolding onBarline
-ends-represented {t} {s} {s′} {r} b opens l n places heads′ room h q e f =
+ends-represented {t} {s} {s′} {r} b opens l n places heads′ h q e f =
     record {
       stored = subst (λ (hs : List Head). Stored t (endedWith r n places .counts) s′ hs (l .log) (pitchesIn (l .log) ++ [])) e q;
-      scoped = no-scopes s′ (t .scopes) room;
+      scoped = no-scopes s′ (t .scopes);
       key-is = h .key-is;
       last-is = f;
       pending-is = h .pending-is;
@@ -293,7 +275,7 @@ module _ {t : Tables} {s : List ℕ} {r : Registers} (room : Room t (r .counts) 
         holds =
             λ l st h.
             let z : openIsEmpty (l .heads) ≡ true = sym (is-empty l st h) ∙ y in
-            ends-represented b opens l (r .counts .heads) (r .last .places) (onLastHead (leftSet b) (l .heads)) (omega (arith, room .for-scopes, room .ends, o .same-length)) h
+            ends-represented b opens l (r .counts .heads) (r .last .places) (onLastHead (leftSet b) (l .heads)) h
             (stored-as (open-stored less s′ leftAt (w .bytes) e′ (omega (arith, w .short)) l (some-head l st) h (leftSet b) (w .sets (getD (l .heads) (r .counts .heads - 1) someHead))) refl refl refl) (rw (z, endedHeads)) (rw z (h .last-is));
       }
 
@@ -317,7 +299,7 @@ module _ {t : Tables} {s : List ℕ} {r : Registers} (room : Room t (r .counts) 
           holds =
               λ l st h.
               let z : openIsEmpty (l .heads) ≡ false = sym (is-empty l st h) ∙ n in
-              ends-represented b opens l (r .counts .heads) (r .last .places) (onLastHead (withRight b) (l .heads)) (omega (arith, room .for-scopes, room .ends, only₁ .same-length)) h (stored-as (stored₁ l st h) refl refl refl)
+              ends-represented b opens l (r .counts .heads) (r .last .places) (onLastHead (withRight b) (l .heads)) h (stored-as (stored₁ l st h) refl refl refl)
               (rw (z, endedHeads) (rw c)) (rw (z, c) (h .last-is));
         }
 
@@ -338,6 +320,6 @@ module _ {t : Tables} {s : List ℕ} {r : Registers} (room : Room t (r .counts) 
           holds =
               λ l st h.
               let z : openIsEmpty (l .heads) ≡ false = sym (is-empty l st h) ∙ n in
-              ends-represented b opens l (r .counts .heads + 1) nowhere (onLastHead (withRight b) (l .heads) ++ (newHead (l .line .meter) (leftOf b) ∷ [])) (omega (arith, room .for-scopes, room .ends, only₁ .same-length, only₂ .same-length)) h
+              ends-represented b opens l (r .counts .heads + 1) nowhere (onLastHead (withRight b) (l .heads) ++ (newHead (l .line .meter) (leftOf b) ∷ [])) h
               (stored-as (head-pushed (stored₁ l st h) s₂ room₁ (newHead (l .line .meter) (leftOf b)) (newRow lcode (r .line .top) (r .line .bottom)) (row l h) e₃) refl refl refl) (rw (z, endedHeads) (rw c)) (rw (z, c));
         }

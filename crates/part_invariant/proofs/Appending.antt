@@ -33,6 +33,7 @@ use Rattle.part_rows.proofs.Bytes.{length-note, note-set-beam}
 use Rattle.part_rows.proofs.Tables.{table-u32, only-splice, only-then}
 use Rattle.part_measures.specs.Heads.{headRow}
 use Rattle.part_measures.proofs.Heads.{length-head, head-count, head-counted}
+use Rattle.part_scopes.proofs.Scopes.{scoped-behind}
 use Rattle.part_registers.specs.declared.Tables.{Tables}
 use Rattle.part_registers.specs.declared.Counts.{Counts}
 use Rattle.part_registers.specs.declared.Line.{Line}
@@ -42,7 +43,7 @@ use Rattle.part_registers.specs.States.{halfFor, runningFor, lineFor}
 use Rattle.part_registers.proofs.Notes.{beams-is, run-is, fewer-is, grouped-is, beamed-is, half-is}
 use Rattle.part_invariant.specs.Invariant.{Room, Stored, pitchesIn, Represents, Grows, Appendable, Appends}
 use Rattle.part_invariant.specs.Appended.{beforeStore, ranOn, soundedOn, appended}
-use Rattle.part_invariant.proofs.Stores.{withNotes, head-altered, head-only, note-altered, note-pushed, note-pushed-only, scoped-behind}
+use Rattle.part_invariant.proofs.Stores.{withNotes, head-altered, head-only, note-altered, note-pushed, note-pushed-only}
 use Rattle.part_invariant.proofs.Logs.{last-head, count-most, counts-4, place-same, place-at, place-pitches, more-pitches, before-pitches, final-pitches}
 
 abbrev pub someNote : ℕ × Note

@@ -7,11 +7,9 @@ use lib.ListN.{length, getD, length-append}
 use Rattle.laws.specs.Bytes.{splice}
 use Rattle.laws.specs.Lists.{alterAt}
 use Rattle.laws.proofs.Lists.{length-alterAt}
-use Rattle.laws.proofs.Splices.{length-spliced}
 use Rattle.standard.specs.Pitches.{Pitch}
 use Rattle.reader.specs.State.{Note}
 use Rattle.reader.specs.Records.{pitchBytes, measureWidth}
-use Rattle.reader.specs.Pitches.{Scope}
 use Rattle.part_layout.specs.Log.{Head}
 use Rattle.part_rows.specs.Table.{Table, Only}
 use Rattle.part_rows.specs.Encoded.{noteRow, noteRowWidth, pitchRowWidth}
@@ -19,7 +17,6 @@ use Rattle.part_rows.proofs.Bytes.{length-note, length-pitch}
 use Rattle.part_rows.proofs.Tables.{table-before, table-behind, table-back, table-push, table-alter, only-splice}
 use Rattle.part_measures.specs.Heads.{headRow}
 use Rattle.part_measures.proofs.Heads.{length-head}
-use Rattle.part_chains.specs.Chains.{Scoped}
 use Rattle.part_registers.specs.declared.Tables.{Tables}
 use Rattle.part_registers.specs.declared.Counts.{Counts}
 use Rattle.part_invariant.specs.Invariant.{Room, Stored}
@@ -128,18 +125,3 @@ module _ {t : Tables} {c : Counts} {s : List ℕ} {heads : List Head} {log : Lis
     pub pitch-pushed-only : Only (t .heads) (t .end) s s′
     pitch-pushed-only =
         only-splice (t .heads) (t .end) s s′ _ bs e (omega (arith, room .for-heads, room .for-notes)) (omega (arith, room .for-pitches, room .for-scopes, ap length b, length-pitch x))
-
--- THE SCOPES, which stand behind them
-pub scoped-behind : {s : List ℕ} {at count : ℕ} {places : List ℕ} {scopes : List Scope} → Scoped s at count places scopes → (s′ : List ℕ) (k : ℕ) (bs : List ℕ) → s′ ≡ splice s k bs → k + length bs ≤ at
-    → Scoped s′ at count places scopes
-scoped-behind {s} h s′ k bs e l =
-    record {
-      rows = h .rows;
-      table = table-behind (h .table) s′ k bs e l;
-      count-is = h .count-is;
-      small = h .small;
-      room = omega (arith, h .room, length-spliced s s′ k bs e);
-      places-4 = h .places-4;
-      scopes-4 = h .scopes-4;
-      keeps = h .keeps;
-    }

@@ -10,10 +10,10 @@ use Rattle.reader.specs.Records.{pitchBytes, measureWidth}
 use Rattle.part_layout.specs.Log.{Head, LogState, append}
 use Rattle.part_layout.specs.Lines.{Standing}
 use Rattle.part_rows.specs.Table.{Table, Only}
-use Rattle.part_rows.specs.Encoded.{noteRow, rowFor, noteRowWidth, pitchRowWidth, scopeRowWidth}
+use Rattle.part_rows.specs.Encoded.{noteRow, rowFor, noteRowWidth, pitchRowWidth, scopeRowWidth, scopeIndexWidth}
 use Rattle.part_rows.specs.declared.NoteRow.{NoteRow}
 use Rattle.part_measures.specs.Heads.{headRow}
-use Rattle.part_chains.specs.Chains.{Scoped}
+use Rattle.part_scopes.specs.Scopes.{Scoped}
 use Rattle.part_registers.specs.declared.Tables.{Tables}
 use Rattle.part_registers.specs.declared.Counts.{Counts}
 use Rattle.part_registers.specs.declared.Registers.{Registers}
@@ -24,7 +24,7 @@ pub record Room (t : Tables) (c : Counts) (size heads notes pitches scopes : ℕ
   pub for-heads : t .heads + measureWidth * (c .heads + heads) ≤ t .notes
   pub for-notes : t .notes + noteRowWidth * (c .notes + notes) ≤ t .pitches
   pub for-pitches : t .pitches + pitchRowWidth * (c .pitches + pitches) ≤ t .scopes
-  pub for-scopes : t .scopes + scopeRowWidth * (c .scopes + scopes) ≤ t .end
+  pub for-scopes : t .scopes + scopeIndexWidth + scopeRowWidth * (c .scopes + scopes) ≤ t .end
   pub ends : t .end ≤ size
   pub small : t .end < 2 ^ 32
 

@@ -4,7 +4,7 @@ use mathlib.Core.List.{List, []}
 use Rattle.part_layout.specs.Log.{LogState}
 use Rattle.part_layout.specs.Lines.{Between}
 use Rattle.part_rows.specs.Table.{Only}
-use Rattle.part_rows.specs.Encoded.{noteRowWidth, pitchRowWidth, scopeRowWidth}
+use Rattle.part_rows.specs.Encoded.{noteRowWidth, pitchRowWidth, scopeRowWidth, scopeIndexWidth}
 use Rattle.capacity.specs.Sizes.{bars, letters, tones, signs}
 use Rattle.part_registers.specs.declared.Tables.{Tables}
 use Rattle.part_registers.specs.declared.Counts.{Counts}
@@ -23,7 +23,7 @@ pub record RoomForBytes (t : Tables) (c : Counts) (size : ℕ) (bytes : List ℕ
   pub for-heads : t .heads + measureWidth * (max 1 (c .heads) + bars bytes) ≤ t .notes
   pub for-notes : t .notes + noteRowWidth * (c .notes + tones bytes) ≤ t .pitches
   pub for-pitches : t .pitches + pitchRowWidth * (c .pitches + letters bytes) ≤ t .scopes
-  pub for-scopes : t .scopes + scopeRowWidth * (c .scopes + signs bytes) ≤ t .end
+  pub for-scopes : t .scopes + scopeIndexWidth + scopeRowWidth * (c .scopes + signs bytes) ≤ t .end
   pub ends : t .end ≤ size
   pub small : t .end < 2 ^ 32
 

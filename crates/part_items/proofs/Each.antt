@@ -40,9 +40,9 @@ use Rattle.part_items.specs.Items.{begun, keyedAs}
 use Rattle.part_items.proofs.Music.{grows-none, rest-room}
 
 -- THE BEGINNING
-pub begun-represented : (t : Tables) (s : List ℕ) → t .scopes ≤ length s → Represents t s begun [] newLog
+pub begun-represented : (t : Tables) (s : List ℕ) → Represents t s begun [] newLog
 unfolding newLog plainKey newLine
-begun-represented t s h =
+begun-represented t s =
     record {
       stored =
           record {
@@ -53,7 +53,7 @@ begun-represented t s h =
             notes-are = refl;
             pitches-are = refl;
           };
-      scoped = no-scopes s (t .scopes) h;
+      scoped = no-scopes s (t .scopes);
       key-is = refl;
       last-is = refl;
       pending-is = refl;
@@ -139,12 +139,12 @@ reset-simulates header =
     })
 
 -- A K LINE: a key is heard
-hears-represented : {t : Tables} {s : List ℕ} {r : Registers} (k : Key) (l : LogState) → t .scopes ≤ length s → Represents t s r [] l → Represents t s (hearing r k) [] (hears k l)
+hears-represented : {t : Tables} {s : List ℕ} {r : Registers} (k : Key) (l : LogState) → Represents t s r [] l → Represents t s (hearing r k) [] (hears k l)
 unfolding hears
-hears-represented {t} {s} k l room h =
+hears-represented {t} {s} k l h =
     record {
       stored = stored-as (h .stored) refl refl refl;
-      scoped = no-scopes s (t .scopes) room;
+      scoped = no-scopes s (t .scopes);
       key-is = refl;
       last-is = h .last-is;
       pending-is = h .pending-is;
@@ -170,9 +170,6 @@ key-measured header k (m ∷ ms) l h = refl
 hearing-grows : (r : Registers) (k : Key) → GrowsBy (r .counts) (hearing r k .counts) []
 hearing-grows r k = record { more-heads = omega arith; more-notes = omega arith; more-pitches = omega arith; more-scopes = omega arith }
 
-scopes-inside : {t : Tables} {c : Counts} {size : ℕ} {bs : List ℕ} → RoomForBytes t c size bs → t .scopes ≤ size
-scopes-inside room = omega (arith, room .for-scopes, room .ends)
-
 module _ {t : Tables} {s : List ℕ} {r : Registers} (room : RoomForBytes t (r .counts) (length s) []) (header k : Key) where
   -- where there is no measure
   pub key-none : r .counts .heads ≡ 0 → SimulatesItem t s r s (hearing r header) [] (λ l. onItem header l (keyChange k))
@@ -182,7 +179,7 @@ module _ {t : Tables} {s : List ℕ} {r : Registers} (room : RoomForBytes t (r .
         only = only-none (t .heads) (t .end) s;
         grows = hearing-grows r header;
         holds =
-            λ l b h. subst (λ (x : LogState). Represents t s (hearing r header) [] x) (key-unmeasured header k (l .heads) l (sym (h .stored .heads-are) ∙ e)) (hears-represented header l (scopes-inside room) h);
+            λ l b h. subst (λ (x : LogState). Represents t s (hearing r header) [] x) (key-unmeasured header k (l .heads) l (sym (h .stored .heads-are) ∙ e)) (hears-represented header l h);
       }
 
   module _ (some : 0 < r .counts .heads) (w : RepresentedBetween t s r) (s′ : List ℕ) where
@@ -207,7 +204,7 @@ module _ {t : Tables} {s : List ℕ} {r : Registers} (room : RoomForBytes t (r .
           grows = hearing-grows r k;
           holds =
               λ l b h. subst (λ (x : LogState). Represents t s′ (hearing r k) [] x) (key-measured header k (l .heads) l (omega (arith, some, h .stored .heads-are)))
-              (hears-represented k (onOpen (withKeyMark k) l) (omega (arith, scopes-inside room, o .only .same-length)) (o .holds l b h));
+              (hears-represented k (onOpen (withKeyMark k) l) (o .holds l b h));
         }
 
     -- AN M LINE on the open measure

@@ -10,10 +10,10 @@ use Rattle.scan_table.specs.Rows.{rowFrom, itemRowWidth, bAt, unitAt, withLyric
 use Rattle.part_layout.specs.Log.{LogState}
 use Rattle.part_rows.specs.Table.{Only}
 use Rattle.part_rows.proofs.Tables.{table-behind, only-splice, only-then}
+use Rattle.part_scopes.proofs.Scopes.{scoped-behind}
 use Rattle.part_registers.specs.declared.Tables.{Tables}
 use Rattle.part_registers.specs.declared.Registers.{Registers}
 use Rattle.part_invariant.specs.Invariant.{Room, Represents}
-use Rattle.part_invariant.proofs.Stores.{scoped-behind}
 
 -- no other byte changed
 pub only-lyric : (s : List ℕ) (i verse start : ℕ) → Only (rowFrom i) (rowFrom i + itemRowWidth) s (withLyric s i verse start)

@@ -271,7 +271,7 @@ module _ (text : List ℕ) (t : Tables) (header : Key) (p n : ℕ) (s₀ : List 
         lines =
             ap (λ (rs : List Row). map (lineIn text) (filter (isLine p) rs)) (rows-none decItem itemRowWidth s₀ itemsFrom)
             ∙ sym (ap (λ (xs : List (ℕ × Item)). reverse (foldl (onItem header) newLog (itemsOf p xs) .verses .lines)) none);
-        represents = rw (none, e) (begun-represented t s₀ (omega (arith, room .for-scopes, room .ends)));
+        represents = rw (none, e) (begun-represented t s₀);
         room = rw e room;
       }
 

@@ -28,6 +28,7 @@ use Rattle.part_rows.specs.Table.{Only}
 use Rattle.part_rows.specs.Encoded.{rowBytes, noteRow, noteRowWidth, kindAt, valueAt, dotsAt, beamAt}
 use Rattle.part_rows.proofs.Bytes.{length-note, note-kind, note-value, note-dots, note-set-value, note-set-beam}
 use Rattle.part_rows.proofs.Tables.{table-byte, only-none, only-splice}
+use Rattle.part_scopes.proofs.Scopes.{scoped-behind}
 use Rattle.part_registers.specs.declared.Tables.{Tables}
 use Rattle.part_registers.specs.declared.Counts.{Counts}
 use Rattle.part_registers.specs.declared.Line.{Line}
@@ -36,7 +37,7 @@ use Rattle.part_registers.specs.declared.Half.the-variants as half
 use Rattle.part_registers.specs.Notes.{beams, brokenRow, runAgain}
 use Rattle.part_registers.proofs.Notes.{beams-is, run-is, broken-is}
 use Rattle.part_invariant.specs.Invariant.{Room, Stored, Represents, RepresentedInLine, pitchesIn, Grows, Simulates}
-use Rattle.part_invariant.proofs.Stores.{note-altered, scoped-behind}
+use Rattle.part_invariant.proofs.Stores.{note-altered}
 use Rattle.part_invariant.proofs.Logs.{place-at, place-pitches, broken-pitches}
 use Rattle.part_invariant.proofs.Appending.{someNote, stored-pitches}
 use Rattle.part_rhythm.specs.Rhythm.{placeOf, brokenValue, valueBytes, brokenStore, brokenIn, againBeam, againStore, againIn, againRun, halfAfter, halfWaits, runs}

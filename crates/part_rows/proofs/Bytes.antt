@@ -11,7 +11,7 @@ use Rattle.reader.specs.State.{Note, withBeam, withValue}
 use Rattle.reader.specs.Records.{signed8, signed16, pitchBytes}
 use Rattle.part_rows.specs.declared.NoteRow.{NoteRow}
 use Rattle.part_rows.specs.declared.Sounded.{Sounded}
-use Rattle.part_rows.specs.Encoded.{rowFor, rowBytes, noteRow, pitchFor, pitchRow, Remembered, scopeRow, noteRowWidth, pitchRowWidth, scopeRowWidth, kindAt, valueAt, dotsAt, beamAt}
+use Rattle.part_rows.specs.Encoded.{rowFor, rowBytes, noteRow, pitchFor, pitchRow, noteRowWidth, pitchRowWidth, kindAt, valueAt, dotsAt, beamAt}
 
 -- NOTES
 pub length-row : (n : NoteRow) (v : ℕ) → length (rowBytes n v) ≡ noteRowWidth
@@ -59,8 +59,3 @@ pub pitch-bytes : (p : Sounded) (o a c h : ℕ) → o ≡ signed8 (p .octave) �
     → p .step ∷ o ∷ a ∷ c ∷ h ∷ [] ≡ pitchRow p
 unfolding pitchRow
 pitch-bytes p o a c h e f g k = rw (e, f, g, k)
-
--- ACCIDENTALS
-pub length-scope : (x : Remembered) → length (scopeRow x) ≡ scopeRowWidth
-unfolding scopeRow little
-length-scope x = refl

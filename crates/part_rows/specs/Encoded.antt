@@ -22,6 +22,10 @@ pitchRowWidth = pitchWidth
 abbrev pub scopeRowWidth : ℕ
 scopeRowWidth = bounds.scopeRowWidth
 
+-- the index before these rows
+abbrev pub scopeIndexWidth : ℕ
+scopeIndexWidth = bounds.scopeIndexWidth
+
 -- WHERE THE FIELDS OF A NOTE'S ROW STAND; the first twelve bytes are where the note record has them
 abbrev pub kindAt : ℕ
 kindAt = 0
@@ -44,18 +48,21 @@ pitchCountAt = 8
 abbrev pub voiceAt : ℕ
 voiceAt = 12
 
--- WHERE THE FIELDS OF AN ACCIDENTAL'S ROW STAND, behind its step
+-- WHERE THE FIELDS OF A ROW OF ACCIDENTALS STAND, behind its step; of each slot the first byte says whether it holds one
 abbrev pub scopeOctaveAt : ℕ
 scopeOctaveAt = 1
 
-abbrev pub scopeAlterAt : ℕ
-scopeAlterAt = 2
+abbrev pub scopeSlotsAt : ℕ
+scopeSlotsAt = 4
 
-abbrev pub scopeCentsAt : ℕ
-scopeCentsAt = 3
+abbrev pub scopeSlotWidth : ℕ
+scopeSlotWidth = 3
 
-abbrev pub scopeNextAt : ℕ
-scopeNextAt = 4
+abbrev pub slotAlterAt : ℕ
+slotAlterAt = 1
+
+abbrev pub slotCentsAt : ℕ
+slotCentsAt = 2
 
 -- a note's flags but the last, which is known at the end only
 unfoldable pub flagsByte : Flags → ℕ
@@ -96,11 +103,10 @@ pitchFor p = record { step = p .step; octave = p .octave; alter = p .alter; cent
 unfoldable pub pitchRow : Sounded → List ℕ
 pitchRow p = p .step ∷ signed8 (p .octave) ∷ signed8 (p .alter) ∷ signed16 (p .cents)
 
--- an accidental remembered; the place, from 1, of the one before it in its scope, 0 for none; and the overlay voice whose scope it is, which no byte holds
-pub record Remembered : Type 0 where
-  pub pitch : Pitch
-  pub next : ℕ
-  pub voice : ℕ
+-- a step and octave with accidentals in force: its bytes before one is given, with a slot of three bytes for each of four overlay voices
+abbrev pub scopeRow : ℕ → ℕ → List ℕ
+scopeRow step octave = (step ∷ octave ∷ 0 ∷ 0 ∷ []) ++ (0 ∷ 0 ∷ 0 ∷ 0 ∷ []) ++ (0 ∷ 0 ∷ 0 ∷ 0 ∷ []) ++ (0 ∷ 0 ∷ 0 ∷ 0 ∷ [])
 
-unfoldable pub scopeRow : Remembered → List ℕ
-scopeRow x = (x .pitch .step ∷ x .pitch .octave ∷ x .pitch .alter ∷ x .pitch .cents ∷ []) ++ le32 (x .next)
+-- an accidental in a slot
+abbrev pub scopeSlot : ℕ → ℕ → List ℕ
+scopeSlot alter cents = 1 ∷ alter ∷ cents ∷ []

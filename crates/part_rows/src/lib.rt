@@ -9,12 +9,14 @@ ghost use Rattle.reader.specs.Records.{noteWidth, signed8, signed16};
 ghost use Rattle.part_rows.specs.Encoded.{rowBytes, pitchRow, noteRowWidth, pitchRowWidth, valueAt, dotsAt, beamAt};
 ghost use Rattle.part_rows.specs.Read.{startAt, restAt, soundsAt, ofVoiceAt, pitchCount};
 
-// The bytes of a row: a note's, a pitch's (those of its record), an accidental's.
+// The bytes of a row: a note's, a pitch's (those of its record), that of a step and octave with accidentals; and of the index of those.
 pub const NOTE_ROW: usize = 16;
 
 pub const PITCH_ROW: usize = reading_records::PITCH;
 
-pub const SCOPE_ROW: usize = 8;
+pub const SCOPE_ROW: usize = 16;
+
+pub const SCOPE_INDEX: usize = 7168;
 
 // Where the fields of a note's row stand. The first twelve bytes are where the note record has them.
 const VALUE: usize = 1;

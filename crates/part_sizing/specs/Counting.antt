@@ -4,7 +4,7 @@ use mathlib.Core.List.{List}
 use Rattle.reader.specs.Records.{measureWidth}
 use Rattle.capacity.specs.Sizes.{bars, letters, rests, signs}
 use Rattle.scan_table.specs.Rows.{tableEnd}
-use Rattle.part_rows.specs.Encoded.{noteRowWidth, pitchRowWidth, scopeRowWidth}
+use Rattle.part_rows.specs.Encoded.{noteRowWidth, pitchRowWidth, scopeRowWidth, scopeIndexWidth}
 use Rattle.part_registers.specs.declared.Tables.{Tables}
 use Rattle.part_sizing.specs.declared.Made.{Made}
 use Rattle.part_sizing.specs.declared.Block.{Block}
@@ -46,7 +46,7 @@ pub record Few (m : Made) (k : ℕ) : Type 0 where
   pub rests : m .rests + k < 2 ^ 64
   pub signs : m .signs + k < 2 ^ 64
 
--- THE TABLES behind n items: a first measure and one for each barline, a note for each letter and rest, a pitch for each letter, a row for each sign
+-- THE TABLES behind n items: a first measure and one for each barline, a note for each letter and rest, a pitch for each letter, the index of accidentals and a row for each sign
 abbrev pub headsAt : ℕ → ℕ
 headsAt n = tableEnd n
 
@@ -60,4 +60,4 @@ abbrev pub scopesAt : ℕ → Made → ℕ
 scopesAt n m = pitchesAt n m + pitchRowWidth * m .letters
 
 abbrev pub tablesAt : ℕ → Made → Tables
-tablesAt n m = record { heads = headsAt n; notes = notesAt n m; pitches = pitchesAt n m; scopes = scopesAt n m; end = scopesAt n m + scopeRowWidth * m .signs }
+tablesAt n m = record { heads = headsAt n; notes = notesAt n m; pitches = pitchesAt n m; scopes = scopesAt n m; end = scopesAt n m + scopeIndexWidth + scopeRowWidth * m .signs }

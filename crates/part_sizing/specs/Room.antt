@@ -6,7 +6,7 @@ use lib.ListN.{length}
 use Rattle.laws.specs.Lists.{sum}
 use Rattle.reader.specs.Steps.{itemsOf}
 use Rattle.reader.specs.Records.{measureWidth}
-use Rattle.bounds.specs.Weights.{lyricBytes, itemBytes}
+use Rattle.bounds.specs.Weights.{scopeIndexWidth, lyricBytes, itemBytes}
 use Rattle.capacity.specs.Sizes.{tones}
 use Rattle.capacity.specs.Music.{musicOf}
 use Rattle.scan_table.specs.Rows.{itemsIn, tableEnd}
@@ -16,10 +16,10 @@ use Rattle.part_invariant.specs.Lines.{RoomForBytes}
 use Rattle.lyrics.specs.Sheet.{lyricHeadWidth, lyricRowWidth}
 use Rattle.part_sizing.specs.Counting.{madeOf, tablesAt}
 
--- behind the line table there are a measure's bytes for a first measure and for each byte of the part's lines
+-- behind the line table there are the index of accidentals, and a measure's bytes for a first measure and for each byte of the part's lines
 pub record PartRoom (text s : List ℕ) (n part : ℕ) : Type 0 where
-  pub fits : tableEnd n + measureWidth + measureWidth * sum itemBytes (itemsOf part (itemsIn text s n)) ≤ length s
-  pub small : tableEnd n + measureWidth + measureWidth * sum itemBytes (itemsOf part (itemsIn text s n)) < 2 ^ 32
+  pub fits : tableEnd n + scopeIndexWidth + measureWidth + measureWidth * sum itemBytes (itemsOf part (itemsIn text s n)) ≤ length s
+  pub small : tableEnd n + scopeIndexWidth + measureWidth + measureWidth * sum itemBytes (itemsOf part (itemsIn text s n)) < 2 ^ 32
   pub short : length text ≤ 67108864
 
 -- the part's music

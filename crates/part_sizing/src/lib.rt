@@ -188,7 +188,7 @@ fn tables_at(n: usize, m: Made) -> Tables
     let notes = heads + part_measures::MEASURE * (m.bars + 1);
     let pitches = notes + part_rows::NOTE_ROW * (m.letters + m.rests);
     let scopes = pitches + part_rows::PITCH_ROW * m.letters;
-    let end = scopes + part_rows::SCOPE_ROW * m.signs;
+    let end = scopes + part_rows::SCOPE_INDEX + part_rows::SCOPE_ROW * m.signs;
     Tables {
         heads,
         notes,

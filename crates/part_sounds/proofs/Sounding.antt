@@ -27,9 +27,10 @@ use Rattle.part_rows.specs.Table.{Only}
 use Rattle.part_rows.specs.Encoded.{rowFor, pitchFor, pitchRow, pitchRowWidth}
 use Rattle.part_rows.proofs.Bytes.{pitch-row, length-pitch-row}
 use Rattle.part_rows.proofs.Tables.{table-front, only-then, only-wider}
-use Rattle.part_chains.specs.Chains.{Scoped, Scopes}
+use Rattle.part_scopes.specs.Scopes.{Scoped}
 use Rattle.part_accidentals.specs.declared.Resolved.{Resolved}
 use Rattle.part_accidentals.specs.Resolving.{signs, writtenOf, ResolvedAs}
+use Rattle.part_scopes.proofs.Scopes.{scoped-behind}
 use Rattle.part_registers.specs.declared.Line.{Line}
 use Rattle.part_registers.specs.declared.Pending.{Pending}
 use Rattle.part_registers.specs.declared.Counts.{Counts}
@@ -39,7 +40,7 @@ use Rattle.part_registers.specs.Notes.{flagsIn}
 use Rattle.part_registers.specs.States.{pendingFor}
 use Rattle.part_registers.proofs.Notes.{note-flags-is}
 use Rattle.part_invariant.specs.Invariant.{Room, Stored, Represents, RepresentedInLine, pitchesIn, Appendable, Appends}
-use Rattle.part_invariant.proofs.Stores.{withPitches, pitch-pushed, pitch-pushed-only, scoped-behind}
+use Rattle.part_invariant.proofs.Stores.{withPitches, pitch-pushed, pitch-pushed-only}
 use Rattle.part_invariant.proofs.Appending.{room-same, stored-pitches}
 use Rattle.part_sounds.specs.Sounds.{restRow, soundRow, withPending, Restable, SimulatesRest, Pushable, SimulatesPitch, Soundable, SimulatesSound, SimulatesNote}
 
@@ -110,9 +111,6 @@ pushedOn r q =
 module _ (t : Tables) (s : List ℕ) (r : Registers) (p : Pitch) (room : Room t (r .counts) (length s) 0 0 1 (signs (p .sign))) where
   pub push-overlay : Pushable t s r → r .line .overlay < 4
   push-overlay a = omega (arith, a .overlay-4, ap (λ (x : Line). x .overlay) (a .represents .line-is))
-
-  pub push-scopes : Pushable t s r → Scopes s (t .scopes) (r .counts .scopes) (r .key .scopes)
-  push-scopes a = record { scopes = a .state .scopes; scoped = a .represents .scoped }
 
   module _ (s₁ s₂ : List ℕ) (q : Resolved) (res : ResolvedAs s (t .scopes) (r .counts .scopes) (r .key) (r .line .overlay) p s₁ q)
       (e : s₂ ≡ splice s₁ (t .pitches + pitchRowWidth * r .counts .pitches) (pitchRow (q .sounded))) where

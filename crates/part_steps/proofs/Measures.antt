@@ -17,14 +17,15 @@ use Rattle.part_layout.specs.Log.{Head, LogState, withKeyMark, newHead, onToken
 use Rattle.part_rows.proofs.Tables.{only-none}
 use Rattle.part_measures.specs.Heads.{newRow, keyMarkAt}
 use Rattle.part_measures.proofs.Heads.{new-row, length-new, head-mark}
-use Rattle.part_chains.specs.Chains.{Scoped}
+use Rattle.part_scopes.specs.Scopes.{Scoped}
 use Rattle.capacity.specs.Sizes.{bars, letters, rests, signs}
+use Rattle.part_scopes.proofs.Scopes.{scoped-behind}
 use Rattle.part_registers.specs.declared.Counts.{Counts}
 use Rattle.part_registers.specs.declared.Tables.{Tables}
 use Rattle.part_registers.specs.declared.Registers.{Registers}
 use Rattle.part_invariant.specs.Invariant.{Room, Stored, Represents, RepresentedInLine, pitchesIn, Simulates}
 use Rattle.part_invariant.specs.Lines.{RoomForBytes, RepresentedBetween, GrowsBy, SimulatesItem}
-use Rattle.part_invariant.proofs.Stores.{head-pushed, head-pushed-only, scoped-behind}
+use Rattle.part_invariant.proofs.Stores.{head-pushed, head-pushed-only}
 use Rattle.part_invariant.proofs.Appending.{someHead}
 use Rattle.part_bars.proofs.Heads.{some-head, open-represented, open-only, no-scopes, stored-as}
 use Rattle.part_steps.specs.Steps.{hearing, begun}
@@ -36,7 +37,7 @@ module _ {t : Tables} {s : List ℕ} {r : Registers} (k : Key) (room : Room t (r
   hears-represented l h =
       record {
         stored = stored-as (h .stored) refl refl refl;
-        scoped = no-scopes s (t .scopes) (omega (arith, room .for-scopes, room .ends));
+        scoped = no-scopes s (t .scopes);
         key-is = refl;
         last-is = h .last-is;
         pending-is = h .pending-is;

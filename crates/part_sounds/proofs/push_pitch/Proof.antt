@@ -1,5 +1,5 @@
 -- `part_sounds::push_pitch` meets its contract.
-use Rattle.part_sounds.proofs.Sounding.{push-overlay, push-scopes, pushes}
+use Rattle.part_sounds.proofs.Sounding.{push-overlay, pushes}
 use borrow.Author.Needs.{needs}
 use native.Mathlib.Omega.{arith}
 use Rattle.part_sounds.proofs.push_pitch.Statement.{statement}
@@ -10,7 +10,7 @@ resolve-abc-pitch-requires c κs =
     let a = c .before .before .before .before .args in
     let room = c .before .before .before .before .pre .0 in
     let able = c .before .before .before .before .pre .1 in
-    (push-overlay (a .t) (a .store .now) (a .r) (a .pitch) room able, c .before .before .before .before .pre .2, omega (arith, room), omega (arith, room), push-scopes (a .t) (a .store .now) (a .r) (a .pitch) room able)
+    (push-overlay (a .t) (a .store .now) (a .r) (a .pitch) room able, c .before .before .before .before .pre .2, omega (arith, room), omega (arith, room))
 
 add-pitches : tie.Need-add-pitches
 add-pitches c = let room = c .before .before .before .before .before .before .before .before .before .before .before .before .before .before .pre .0 in omega (arith, room)
