@@ -32,7 +32,7 @@ no-space c h = or-none (within 9 13 c) (eqb c 32) (and-no-right (leb 9 c) (leb c
 
 module _ (text : List ℕ) (end : ℕ) (l : end ≤ length text) where
   -- begins no white space
-  no-white : (i : ℕ) → i < end → isPlain (getD text i 0) ≡ true → whiteAt (between text i end) ≡ 0
+  pub no-white : (i : ℕ) → i < end → isPlain (getD text i 0) ≡ true → whiteAt (between text i end) ≡ 0
   no-white i h e = plain-here text i end h l (omega (arith, high (getD text i 0) e)) (no-space (getD text i 0) (low (getD text i 0) e))
 
   -- n of them belong to the word

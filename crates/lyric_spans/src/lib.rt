@@ -98,6 +98,23 @@ fn is_plain(b: u8) -> bool
     text_bytes::is_within(b'!', b'~', b)
 }
 
+// Where the next word begins behind one that ends at `at`, or `end`: mostly behind one space.
+pub fn next_start(text: &[u8], at: usize, end: usize) -> usize
+    requires { ⌜ (at ≤ end) × (end ≤ length (now text)) ⌝ }
+    ensures { λ r. ⌜ WordStart (now (text .entry)) at end r ⌝ }
+{
+    if end - at < 2 {
+        return word_start(text, at, end);
+    }
+    if text[at] != b' ' {
+        return word_start(text, at, end);
+    }
+    if !is_plain(text[at + 1]) {
+        return word_start(text, at, end);
+    }
+    at + 1
+}
+
 // The first byte at or behind `at` that is not plain, or `end`.
 pub fn plain_end(text: &[u8], at: usize, end: usize) -> usize
     requires { ⌜ (at ≤ end) × (end ≤ length (now text)) ⌝ }

@@ -221,7 +221,7 @@ pub fn abc_lyric_token(text: &[u8], from: Cursor, end: usize) -> Read
     }
     let plain = lyric_spans::plain_end(text, from.at, end);
     if is_one_syllable(text, from.at, plain, end) {
-        let at = lyric_spans::word_start(text, plain, end);
+        let at = lyric_spans::next_start(text, plain, end);
         let cursor = Cursor {
             at,
             word: at,

@@ -51,19 +51,15 @@ struct Row {
     count: u32,
 }
 
-// What a key does to a step: sharps come in the order F C G D A E B, flats from B back. 128 is added.
+// What a key does to a step: sharps come in the order F C G D A E B, flats from B back. 128 is added. No test branches, since steps are hard to foretell.
 pub fn abc_key_alter(fifths: u8, step: u8) -> u8
     requires { ⌜ step < 7 ⌝ }
     ensures { λ r. ⌜ ((k : Key) → k .fifths ≡ fifths → r ≡ keyAlter k step) ⌝ }
 {
     let place = (2 * step + 1) % 7;
-    if place + 128 < fifths {
-        return 129;
-    }
-    if fifths <= place + 121 {
-        return 127;
-    }
-    128
+    let sharp = store::one_if(place + 128 < fifths);
+    let flat = store::one_if(fifths <= place + 121);
+    128 + sharp - flat
 }
 
 // Where the entry of a step and octave stands in the index.

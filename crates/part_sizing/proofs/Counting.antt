@@ -10,7 +10,7 @@ use lib.ListN.{length, getD, take, drop, length-append, drop-of-length-le}
 use borrow.Author.Tests.{eq-eqb, ne-eqb}
 use Rattle.laws.specs.Lists.{filter, sum}
 use Rattle.laws.specs.Bytes.{part, between}
-use Rattle.laws.proofs.Bools.{cond-le, by-test}
+use Rattle.laws.proofs.Bools.{by-test}
 use Rattle.laws.proofs.Lists.{drop-next, filter-le}
 use Rattle.laws.proofs.Parts.{part-all, length-between, between-first, between-none, between-cut}
 use Rattle.standard.specs.Pitches.{isLetter}
@@ -29,9 +29,6 @@ use Rattle.part_sizing.specs.declared.Block.{Block}
 use Rattle.part_sizing.specs.Counting.{madeOf, more, both, asMade, Few, Under, Adds}
 
 -- A BYTE
-pub one-most : (b : Bool) → cond b 1 0 ≤ 1
-one-most b = cond-le b 1
-
 -- what one byte can make
 count-one : (p : ℕ → Bool) (c : ℕ) → length (filter p (c ∷ [])) ≡ cond (p c) 1 0
 count-one p c = by-test (p c) (λ e. rw e) (λ e. rw e)

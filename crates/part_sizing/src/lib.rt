@@ -1,6 +1,5 @@
 // Where the tables of a part stand in scratch: one pass over the bytes of its music lines says how many rows each can need.
 ghost use mathlib.Core.Path.{_≡_};
-ghost use mathlib.Core.Bool.{cond};
 ghost use mathlib.Core.List.{[], _∷_};
 ghost use Prim.Native.Nat.{_+_, _*_, _^_, _≤_, _<_};
 ghost use lib.ListN.{length};
@@ -57,12 +56,6 @@ fn is_sign(c: u8) -> bool
     c == b'='
 }
 
-fn one(b: bool) -> u8
-    ensures { λ r. ⌜ r ≡ cond b 1 0 ⌝ }
-{
-    if b { 1 } else { 0 }
-}
-
 // The same for at most 240 bytes. Counts of one byte let a loop take many bytes at a time.
 struct Block {
     bars: u8,
@@ -77,10 +70,10 @@ fn with_byte(m: Block, c: u8) -> Block
     ensures { λ r. ⌜ asMade r ≡ more (asMade m) (c ∷ []) ⌝ }
 {
     Block {
-        bars: m.bars + one(is_bar(c)),
-        letters: m.letters + one(token_pitches::is_letter(c)),
-        rests: m.rests + one(is_rest(c)),
-        signs: m.signs + one(is_sign(c)),
+        bars: m.bars + store::one_if(is_bar(c)),
+        letters: m.letters + store::one_if(token_pitches::is_letter(c)),
+        rests: m.rests + store::one_if(is_rest(c)),
+        signs: m.signs + store::one_if(is_sign(c)),
     }
 }
 

@@ -57,13 +57,12 @@ fn write_rows(
             left -= 1;
             continue;
         }
-        let Wrote::To(m) = write_syllables::write_syllables(
+        let Wrote::To(m) = write_syllables::write_syllable_records(
             text,
             store,
             sheet,
             j,
             i,
-            false,
             &mut to[at..],
         ) else {
             return Passed::NoRoom;
@@ -160,13 +159,11 @@ fn write_texts(text: &[u8], store: &[u8], sheet: lyrics::Sheet, sung: usize, to:
     let mut at = 0;
     let mut j = 0;
     while j < sung {
-        let Wrote::To(m) = write_syllables::write_syllables(
+        let Wrote::To(m) = write_syllables::write_syllable_texts(
             text,
             store,
             sheet,
             j,
-            0,
-            true,
             &mut to[at..],
         ) else {
             return Wrote::NoRoom;

@@ -5,7 +5,6 @@ ghost use mathlib.Core.List.{List};
 ghost use Prim.Native.Nat.{ℕ, _+_, _*_, _≤_};
 ghost use lib.ListN.{length};
 ghost use Rattle.reader.specs.State.{Note};
-ghost use Rattle.reader.specs.Codes.{bit};
 ghost use Rattle.reader.specs.Records.{noteWidth, noteBytes, section};
 ghost use Rattle.part_layout.specs.Log.{Head};
 ghost use Rattle.part_layout.specs.Sections.{headBytes, inOrder};
@@ -56,19 +55,12 @@ pub fn write_measures(store: &[u8], t: PartTables, to: &mut [u8]) -> Wrote
 
 // NOTES
 
-// 1 if b, else 0.
-pub fn one_if(b: bool) -> u8
-    ensures { λ r. ⌜ (r ≡ bit b 1) × (r ≤ 1) ⌝ }
-{
-    if b { 1 } else { 0 }
-}
-
 // The flags of a note: 32 is added where it is no rest, from an eighth to a 128th, and in no beam. No test branches, since which note is one is hard to foretell.
 fn flags_of(n: NoteStart) -> u8
     ensures { λ r. ⌜ r ≡ flagsFor n ⌝ }
 {
     let lone = (n.kind == 0) & (5 <= n.value) & (n.value <= 9) & (n.beam == 0);
-    n.flags % 32 + 32 * one_if(lone)
+    n.flags % 32 + 32 * store::one_if(lone)
 }
 
 // Puts the note record of the row at `place`, for which there is room.

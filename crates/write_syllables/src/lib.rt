@@ -1,11 +1,12 @@
 // What is written for the syllables of a note: their records, or their texts.
 ghost use mathlib.Core.Path.{_≡_};
+ghost use mathlib.Core.Bool.{true, false};
 ghost use mathlib.Core.List.{List, [], _∷_};
 ghost use Prim.Native.Nat.{ℕ, _+_, _*_, _≤_, _<_};
 ghost use lib.ListN.{length, getD};
 ghost use Rattle.laws.specs.Bytes.{between, splice, le32};
 ghost use Rattle.standard.specs.Lyrics.{syllableText};
-ghost use Rattle.reader.specs.Codes.{syllabicCode, bit};
+ghost use Rattle.reader.specs.Codes.{syllabicCode};
 ghost use Rattle.reader.specs.Records.{lyricBytes};
 ghost use Rattle.store_sections.specs.Writes.{WroteIs};
 ghost use Rattle.lyric_words.specs.Words.{asSyllabic};
@@ -31,12 +32,6 @@ fn syllabic_of(code: u8) -> u8
     if code < 3 { code } else { 3 }
 }
 
-fn one_if(b: bool) -> u8
-    ensures { λ r. ⌜ r ≡ bit b 1 ⌝ }
-{
-    if b { 1 } else { 0 }
-}
-
 // Writes three bytes from `at` on.
 fn put_3(store: &mut [u8], at: usize, a: u8, b: u8, c: u8)
     requires { ⌜ at + 3 ≤ length (now store) ⌝ }
@@ -58,7 +53,7 @@ fn write_record(note: usize, f: lyric_walk::Found, to: &mut [u8]) -> Wrote
     let index = low32(note);
     let len = low32(f.end - f.at);
     let code = syllabic_of(f.syllabic);
-    let extend = one_if(f.extend);
+    let extend = store::one_if(f.extend);
     store::put_u32(to, 0, index);
     put_3(to, 4, f.verse, code, extend);
     store::put_u32(to, 7, len);
@@ -196,43 +191,50 @@ fn write_verses(
     Wrote::To(at)
 }
 
-// The same, at once where the chain has one row or none.
-fn write_chain(
-    text: &[u8],
-    store: &[u8],
-    log: usize,
-    k: usize,
-    note: usize,
-    texts: bool,
-    to: &mut [u8],
-) -> Wrote
-    requires { ⌜ log + lyricRowWidth * k ≤ length (now store) ⌝ }
-    ensures { λ r. ⌜ WroteIs (now (to .entry)) (pieces texts note (chain (now (text .entry)) (now (store .entry)) log k)) (now (to .exit)) r ⌝ }
-{
-    let sole = lyric_walk::sole_syllable(text, store, log, k);
-    match sole {
-        lyric_walk::Sole::Nothing => Wrote::To(0),
-        lyric_walk::Sole::One(f) => write_piece(text, note, f, texts, to),
-        lyric_walk::Sole::Several => write_verses(text, store, log, k, note, texts, to),
-    }
-}
-
-// Those of note `sung` among the notes that are sung, which is the note at index `note` of all: none past the last of the sheet.
-pub fn write_syllables(
+// The records of note `sung` among the notes that are sung, which is the note at index `note` of all: none past the last of the sheet. Nearly every
+// chain has one row or none.
+pub fn write_syllable_records(
     text: &[u8],
     store: &[u8],
     sheet: lyrics::Sheet,
     sung: usize,
     note: usize,
-    texts: bool,
     to: &mut [u8],
 ) -> Wrote
     requires { ⌜ (Tables (now store) sheet) × (sheet .count + 1 < 18446744073709551616) ⌝ }
-    ensures { λ r. ⌜ WroteIs (now (to .entry)) (pieces texts note (getD (syllablesIn (now (text .entry)) (now (store .entry)) sheet) sung [])) (now (to .exit)) r ⌝ }
+    ensures { λ r. ⌜ WroteIs (now (to .entry)) (pieces false note (getD (syllablesIn (now (text .entry)) (now (store .entry)) sheet) sung [])) (now (to .exit)) r ⌝ }
 {
     if sheet.sounded <= sung {
         return Wrote::To(0);
     }
     let k = lyric_walk::head(store, sheet, sung);
-    write_chain(text, store, sheet.log, k, note, texts, to)
+    let sole = lyric_walk::sole_syllable(text, store, sheet.log, k);
+    match sole {
+        lyric_walk::Sole::Nothing => Wrote::To(0),
+        lyric_walk::Sole::One(f) => write_record(note, f, to),
+        lyric_walk::Sole::Several => write_verses(text, store, sheet.log, k, note, false, to),
+    }
+}
+
+// Their texts, in which no index stands.
+pub fn write_syllable_texts(
+    text: &[u8],
+    store: &[u8],
+    sheet: lyrics::Sheet,
+    sung: usize,
+    to: &mut [u8],
+) -> Wrote
+    requires { ⌜ (Tables (now store) sheet) × (sheet .count + 1 < 18446744073709551616) ⌝ }
+    ensures { λ r. ⌜ WroteIs (now (to .entry)) (pieces true 0 (getD (syllablesIn (now (text .entry)) (now (store .entry)) sheet) sung [])) (now (to .exit)) r ⌝ }
+{
+    if sheet.sounded <= sung {
+        return Wrote::To(0);
+    }
+    let k = lyric_walk::head(store, sheet, sung);
+    let sole = lyric_walk::sole_syllable(text, store, sheet.log, k);
+    match sole {
+        lyric_walk::Sole::Nothing => Wrote::To(0),
+        lyric_walk::Sole::One(f) => write_text(text, f.at, f.end, to),
+        lyric_walk::Sole::Several => write_verses(text, store, sheet.log, k, 0, true, to),
+    }
 }

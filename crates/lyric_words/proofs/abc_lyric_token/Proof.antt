@@ -38,8 +38,8 @@ is-one-syllable-requires c κs =
     let p = c .before .before .before .before .pre in
     (p .1, omega (arith, c .plain-end .ensures, endIn-ge isPlain (a .text .now) (a .from .at) (a .end)), p .2)
 
-word-start-requires : tie.Need-word-start-requires
-word-start-requires c κs =
+next-start-requires : tie.Need-next-start-requires
+next-start-requires c κs =
     let a = c .before .before .before .before .before .before .args in
     let p = c .before .before .before .before .before .before .pre in
     (omega (arith, c .before .before .plain-end .ensures, endIn-le isPlain (a .text .now) (a .from .at) (a .end) (omega (arith, p .1))), p .2)
@@ -49,7 +49,7 @@ returns-2 c =
     let a = c .before .before .before .before .before .before .before .args in
     let p = c .before .before .before .before .before .before .before .pre in
     let left = c .before .before .before .before .if1 .left in
-    token-plain (a .text .now) (a .end) (p .2) (a .from .at) _ (p .1) (c .before .before .before .plain-end .ensures) (sym (c .before .before .is-one-syllable .ensures) ∙ c .before .if2 .taken) (a .from) refl (p .0) (λ h. absurd (omega arith)) _ (c .word-start .ensures)
+    token-plain (a .text .now) (a .end) (p .2) (a .from .at) _ (p .1) (c .before .before .before .plain-end .ensures) (sym (c .before .before .is-one-syllable .ensures) ∙ c .before .if2 .taken) (a .from) refl (p .0) (λ h. absurd (omega arith)) _ (c .next-start .ensures)
 
 word-end-requires : tie.Need-word-end-requires
 word-end-requires c κs =
@@ -83,7 +83,7 @@ abc-lyric-token-spec =
     returns
     plain-end-requires
     is-one-syllable-requires
-    word-start-requires
+    next-start-requires
     returns-2
     word-end-requires
     word-token-requires

@@ -49,11 +49,11 @@ loop-again-2 c =
     let more = c .before .before .before .before .loop-test .taken in
     (omega (arith, v .0), omega (arith, v .1, more), omega (arith, v .2), omega (arith, v .3, sung-other s (l .p) (l .left) more (row-rest s (l .p) (not-true _ (sym (c .before .is-rest .ensures) ∙ c .if2 .taken)))), v .4, written-as (v .5) (rows-rest _ _ _ _ _ _ _ more (sym (c .before .before .before .is-of-voice .ensures) ∙ not-false _ (c .before .before .if1 .left)) (not-true _ (sym (c .before .is-rest .ensures) ∙ c .if2 .taken))))
 
-sub-write-syllables : tie.Need-sub-write-syllables Inv-loop μ-loop
-sub-write-syllables c = omega (arith, written-in (c .before .before .before .before .before .loop .inv .5) .0)
+sub-write-syllable-records : tie.Need-sub-write-syllable-records Inv-loop μ-loop
+sub-write-syllable-records c = omega (arith, written-in (c .before .before .before .before .before .loop .inv .5) .0)
 
-part-write-syllables-start : tie.Need-part-write-syllables-start Inv-loop μ-loop
-part-write-syllables-start c = omega (arith, written-in (c .before .before .before .before .before .loop .inv .5) .0)
+part-write-syllable-records-start : tie.Need-part-write-syllable-records-start Inv-loop μ-loop
+part-write-syllable-records-start c = omega (arith, written-in (c .before .before .before .before .before .loop .inv .5) .0)
 
 -- no room for the syllables of a note
 
@@ -62,13 +62,13 @@ returns c =
     let l = c .before .before .before .before .before .before .before .before .before .before .before .loop in
     let a = c .before .before .before .before .before .before .before .before .before .before .before .before .before .before .before .args in
     record {
-      says = written-none (l .inv .5) (told (c .before .before .before .before .write-syllables .ensures) (c .enum-told .given .1)) (rowsOut false (syllablesIn (a .text .now) (a .store .now) (a .sheet)) (a .store .now) (l .i + 1) (l .j + 1) (l .p + noteRowWidth) (l .left - 1))
+      says = written-none (l .inv .5) (told (c .before .before .before .before .write-syllable-records .ensures) (c .enum-told .given .1)) (rowsOut false (syllablesIn (a .text .now) (a .store .now) (a .sheet)) (a .store .now) (l .i + 1) (l .j + 1) (l .p + noteRowWidth) (l .left - 1))
           (rows-sung _ _ _ _ _ _ _ (c .before .before .before .before .before .before .before .before .before .before .loop-test .taken) (sym (c .before .before .before .before .before .before .before .before .before .is-of-voice .ensures) ∙ not-false _ (c .before .before .before .before .before .before .before .before .if1 .left)) (not-false _ (sym (c .before .before .before .before .before .before .before .is-rest .ensures) ∙ c .before .before .before .before .before .before .if2 .left)));
     }
 
 add-at : tie.Need-add-at Inv-loop μ-loop
 add-at c =
-    let w = written-on (c .before .before .before .before .before .before .before .before .before .before .before .before .loop .inv .5) (told (c .before .before .before .before .before .write-syllables .ensures) (c .before .m .given .1)) (rows-sung _ _ _ _ _ _ _ (c .before .before .before .before .before .before .before .before .before .before .before .loop-test .taken) (sym (c .before .before .before .before .before .before .before .before .before .before .is-of-voice .ensures) ∙ not-false _ (c .before .before .before .before .before .before .before .before .before .if1 .left)) (not-false _ (sym (c .before .before .before .before .before .before .before .before .is-rest .ensures) ∙ c .before .before .before .before .before .before .before .if2 .left))) in
+    let w = written-on (c .before .before .before .before .before .before .before .before .before .before .before .before .loop .inv .5) (told (c .before .before .before .before .before .write-syllable-records .ensures) (c .before .m .given .1)) (rows-sung _ _ _ _ _ _ _ (c .before .before .before .before .before .before .before .before .before .before .before .loop-test .taken) (sym (c .before .before .before .before .before .before .before .before .before .before .is-of-voice .ensures) ∙ not-false _ (c .before .before .before .before .before .before .before .before .before .if1 .left)) (not-false _ (sym (c .before .before .before .before .before .before .before .before .is-rest .ensures) ∙ c .before .before .before .before .before .before .before .if2 .left))) in
     omega (arith, w .wrote .says .1, c .before .before .before .before .before .before .before .before .before .before .before .before .before .before .before .before .good)
 
 add-i-2 : tie.Need-add-i-2 Inv-loop μ-loop
@@ -85,7 +85,7 @@ loop-again-3 c =
     let v = l .inv in
     let s = c .before .before .before .before .before .before .before .before .before .before .before .before .before .before .before .before .args .store .now in
     let more = c .before .before .before .before .before .before .before .before .before .before .before .loop-test .taken in
-    let w = written-on (v .5) (told (c .before .before .before .before .before .write-syllables .ensures) (c .before .m .given .1)) (rows-sung _ _ _ _ _ _ _ more (sym (c .before .before .before .before .before .before .before .before .before .before .is-of-voice .ensures) ∙ not-false _ (c .before .before .before .before .before .before .before .before .before .if1 .left)) (not-false _ (sym (c .before .before .before .before .before .before .before .before .is-rest .ensures) ∙ c .before .before .before .before .before .before .before .if2 .left))) in (
+    let w = written-on (v .5) (told (c .before .before .before .before .before .write-syllable-records .ensures) (c .before .m .given .1)) (rows-sung _ _ _ _ _ _ _ more (sym (c .before .before .before .before .before .before .before .before .before .before .is-of-voice .ensures) ∙ not-false _ (c .before .before .before .before .before .before .before .before .before .if1 .left)) (not-false _ (sym (c .before .before .before .before .before .before .before .before .is-rest .ensures) ∙ c .before .before .before .before .before .before .before .if2 .left))) in (
       omega (arith, v .0),
       omega (arith, v .1, more),
       omega (arith, v .2, more),
@@ -100,4 +100,4 @@ returns-2 c =
     record { says = (written-all (l .inv .5) (rows-none _ _ _ _ _ _ _ (omega arith)), omega (arith, l .inv .3, sung-none (c .before .before .before .before .before .args .store .now) (l .p) (l .left) (omega arith))) }
 
 pub write-rows-spec : {M : Type 1} → statement M
-write-rows-spec = tie.close (tie.spec Inv-loop μ-loop loop-holds (λ c κs. search needs) (λ c. search needs) (λ c. search needs) (λ c. search needs) loop-again (λ c κs. search needs) add-i (λ c. search needs) (λ c. search needs) (λ c. search needs) loop-again-2 sub-write-syllables part-write-syllables-start (λ c. search needs) (λ c κs. search needs) (λ c. search needs) (λ c. search needs) (λ c. search needs) returns add-at add-i-2 add-j (λ c. search needs) (λ c. search needs) (λ c. search needs) loop-again-3 (λ c. search needs) returns-2)
+write-rows-spec = tie.close (tie.spec Inv-loop μ-loop loop-holds (λ c κs. search needs) (λ c. search needs) (λ c. search needs) (λ c. search needs) loop-again (λ c κs. search needs) add-i (λ c. search needs) (λ c. search needs) (λ c. search needs) loop-again-2 sub-write-syllable-records part-write-syllable-records-start (λ c. search needs) (λ c κs. search needs) (λ c. search needs) (λ c. search needs) (λ c. search needs) returns add-at add-i-2 add-j (λ c. search needs) (λ c. search needs) (λ c. search needs) loop-again-3 (λ c. search needs) returns-2)

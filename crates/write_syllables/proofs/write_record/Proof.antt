@@ -1,6 +1,7 @@
 -- `write_syllables::write_record` meets its contract: three writes, each where the last ended.
 use native.Mathlib.Omega.{arith}
 use borrow.Author.Needs.{needs}
+use Rattle.reader.specs.Codes.{bit}
 use Rattle.write_syllables.proofs.Pieces.{record-none, record-wrote}
 use Rattle.write_syllables.proofs.write_record.Statement.{statement}
 use Rattle.write_syllables.proofs.write_record.Tie as tie
@@ -9,9 +10,10 @@ returns : tie.Need-returns
 returns c text h = record-none text _ _ (c .if1 .taken)
 
 returns-2 : tie.Need-returns-2
+unfolding bit
 returns-2 c text h =
     let calls = c .before .before .before .before .before .before .before .before .before .before .before .before in
-    record-wrote text _ _ _ _ _ _ (calls .before .before .before .before .low32 .ensures) (calls .before .before .low322 .ensures) (calls .before .syllabic-of .ensures) (calls .one-if .ensures) (c .before .before .before .before .before .before .before .before .before .before .put-u32 .ensures) (c .before .before .before .before .before .before .put-3 .ensures) (c .before .before .put-u322 .ensures)
+    record-wrote text _ _ _ _ _ _ (calls .before .before .before .before .low32 .ensures) (calls .before .before .low322 .ensures) (calls .before .syllabic-of .ensures) (calls .one-if .ensures .0) (c .before .before .before .before .before .before .before .before .before .before .put-u32 .ensures) (c .before .before .before .before .before .before .put-3 .ensures) (c .before .before .put-u322 .ensures)
     (omega (arith, c .before .before .before .before .before .before .before .before .before .before .before .before .before .before .before .before .before .if1 .left))
     h
 

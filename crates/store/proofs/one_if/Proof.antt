@@ -1,15 +1,12 @@
--- `write_notes::one_if` meets its contract.
+-- `store::one_if` meets its contract.
 use native.Mathlib.Omega.{arith}
-use Rattle.reader.specs.Codes.{bit}
-use Rattle.write_notes.proofs.one_if.Statement.{statement}
-use Rattle.write_notes.proofs.one_if.Tie as tie
+use Rattle.store.proofs.one_if.Statement.{statement}
+use Rattle.store.proofs.one_if.Tie as tie
 
 returns : tie.Need-returns
-unfolding bit
 returns c = (rw (c .if1 .taken), omega arith)
 
 returns-2 : tie.Need-returns-2
-unfolding bit
 returns-2 c = (rw (c .if1 .left), omega arith)
 
 pub one-if-spec : {M : Type 1} → statement M
