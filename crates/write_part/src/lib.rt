@@ -1,4 +1,5 @@
 // The five sections of a part from its tables in scratch, one after the other.
+ghost use mathlib.Core.Path.{_≡_};
 ghost use mathlib.Core.List.{List};
 ghost use Prim.Native.Nat.{ℕ};
 ghost use Rattle.reader.specs.State.{Note};
@@ -7,23 +8,24 @@ ghost use Rattle.part_layout.specs.Sections as layout;
 ghost use Rattle.store_sections.specs.Writes.{WroteIs};
 ghost use Rattle.lyrics.specs.Sheet.{syllablesIn};
 ghost use Rattle.write_notes.specs.Tables.{InStore, Represents};
+ghost use Rattle.write_notes.specs.Out.{leads};
 ghost use Rattle.write_lyrics.specs.Out.{SheetIn};
 use lyrics::Sheet;
 use store_sections::Wrote;
 use write_notes::PartTables;
 
-// Measures, notes, pitches, lyrics and lyric text, each where the last one ended. Whether all notes are of voice 0 is asked once for all of them.
-pub fn write_sections(
+// Measures, notes, pitches, lyrics and lyric text, each where the last one ended. `lead` tells whether all notes are of voice 0.
+fn write_tables(
     text: &[u8],
     store: &[u8],
     t: PartTables,
     sheet: Sheet,
+    lead: bool,
     to: &mut [u8],
 ) -> Wrote
-    requires { ⌜ InStore (now store) t × SheetIn (now store) sheet ⌝ }
+    requires { ⌜ InStore (now store) t × SheetIn (now store) sheet × (lead ≡ leads (now store) (t .notes .at) (t .notes .count)) ⌝ }
     ensures { λ r. ⌜ ((ms : List Head) (log : List (ℕ × Note)) → Represents (now (store .entry)) t ms log → WroteIs (now (to .entry)) (layout.sections (record { heads = ms; log = log; words = syllablesIn (now (text .entry)) (now (store .entry)) sheet })) (now (to .exit)) r) ⌝ }
 {
-    let lead = write_notes::is_lead(store, t.notes.at, t.notes.count);
     let Wrote::To(measures) = write_notes::write_measures(store, t, to) else {
         return Wrote::NoRoom;
     };
@@ -40,4 +42,21 @@ pub fn write_sections(
         return Wrote::NoRoom;
     };
     Wrote::To(c + lyrics)
+}
+
+// The same: whether all notes are of voice 0 is asked once. The two calls have a constant each, by which the compiler makes two shorter writers of one.
+pub fn write_sections(
+    text: &[u8],
+    store: &[u8],
+    t: PartTables,
+    sheet: Sheet,
+    to: &mut [u8],
+) -> Wrote
+    requires { ⌜ InStore (now store) t × SheetIn (now store) sheet ⌝ }
+    ensures { λ r. ⌜ ((ms : List Head) (log : List (ℕ × Note)) → Represents (now (store .entry)) t ms log → WroteIs (now (to .entry)) (layout.sections (record { heads = ms; log = log; words = syllablesIn (now (text .entry)) (now (store .entry)) sheet })) (now (to .exit)) r) ⌝ }
+{
+    if write_notes::is_lead(store, t.notes.at, t.notes.count) {
+        return write_tables(text, store, t, sheet, true, to);
+    }
+    write_tables(text, store, t, sheet, false, to)
 }
