@@ -50,23 +50,23 @@ module _ (text s₀ : List ℕ) (n : ℕ) (h : Rooms text s₀ n) (s : List ℕ)
     pub own-items : itemsOf q (itemsIn text (lent s′ (own .at)) (own .count)) ≡ itemsOf q (itemsIn text s₀ n)
     own-items = o .own ∙ ap (itemsOf q) e
 
+    lent-length : length (lent s′ (own .at)) ≡ length s₀ - own .at
+    lent-length = simp (length-take, length-drop) (omega (arith, o .same-length, l))
+
     -- its tables have room
     pub own-room : PartRoom text (lent s′ (own .at)) (own .count) q
     own-room =
-        let z : length (lent s′ (own .at)) ≡ length s₀ - own .at = simp (length-take, length-drop) (omega (arith, o .same-length, l)) in
         record {
-          fits = rw own-items (omega (arith, h .fits q, o .room, z));
+          fits = rw own-items (omega (arith, h .fits q, o .room, lent-length));
           small = rw own-items (omega (arith, h .small q, o .room));
           short = h .short;
         }
 
-    -- once it is written, the items are as they were
-    module _ (t : List ℕ) (k : length t ≡ length (lent s′ (own .at))) where
-      pub own-kept : itemsIn text t (own .count) ≡ itemsIn text (lent s′ (own .at)) (own .count) → itemsIn text (back s′ (own .at) t) n ≡ itemsIn text s₀ n
-      own-kept i = o .kept t k i ∙ e
-
-      pub own-length : length (back s′ (own .at) t) ≡ length s₀
-      own-length = simp (length-append, length-take, length-drop) (omega (arith, k, o .same-length, o .inside, l))
+    -- once it is written, scratch is as long and has the items that it had
+    pub own-kept : (t : List ℕ) → itemsIn text t (own .count) ≡ itemsIn text (lent s′ (own .at)) (own .count) → length t ≡ length (lent s′ (own .at))
+        → (length (back s′ (own .at) t) ≡ length s₀) × (itemsIn text (back s′ (own .at) t) n ≡ itemsIn text s₀ n)
+    own-kept t i k =
+        (simp (length-append, length-take, length-drop) (omega (arith, k, lent-length, o .same-length, o .inside, l)), o .kept t k i ∙ e)
 
 -- THE PARTS so far
 pub parts-none : (k : Key) (a : Items) → partsOf k a 0 ≡ []

@@ -11,7 +11,7 @@ use Rattle.store_sections.proofs.Writes.{told, in-store, start}
 use Rattle.field_keys.specs.Passed.{keyAs}
 use Rattle.scan_table.specs.Rows.{itemsIn}
 use Rattle.abc_answers.specs.Parts.{partsOf}
-use Rattle.abc_text.proofs.Room.{room-kept, parts-none, one-part, no-part}
+use Rattle.abc_text.proofs.Room.{second-fits, own-inside, own-items, own-room, own-kept, parts-none, one-part, no-part}
 use Rattle.abc_text.proofs.append_parts.Statement.{statement}
 use Rattle.abc_text.proofs.append_parts.Tie as tie
 
@@ -26,44 +26,68 @@ abbrev μ-loop : tie.MeasureT-loop
 loop-holds : tie.Need-loop-holds Inv-loop μ-loop
 loop-holds c = (search needs, refl, refl, refl, rw parts-none (start _))
 
+own-items-requires : tie.Need-own-items-requires Inv-loop μ-loop
+own-items-requires c κs =
+    let p = c .before .before .before .before .before .before .pre in
+    let v = c .before .before .loop .inv in
+    (second-fits _ _ _ p _ (v .3) (v .2), p .short)
+
+-- a part's own items are lent
 sub-write-part : tie.Need-sub-write-part Inv-loop μ-loop
-sub-write-part c = in-store (c .before .before .loop .inv .4) .0
+sub-write-part c =
+    let v = c .before .before .before .before .before .loop .inv in
+    own-inside _ _ _ (c .before .before .before .before .before .before .before .before .before .pre) _ (v .3) (v .2) _ _ _ (c .before .before .own-items .ensures)
 
 part-write-part-start : tie.Need-part-write-part-start Inv-loop μ-loop
-part-write-part-start c = in-store (c .before .before .loop .inv .4) .0
+part-write-part-start c =
+    let v = c .before .before .before .before .before .loop .inv in
+    own-inside _ _ _ (c .before .before .before .before .before .before .before .before .before .pre) _ (v .3) (v .2) _ _ _ (c .before .before .own-items .ensures)
+
+-- and the reading store from where the last part ended
+sub-write-part-2 : tie.Need-sub-write-part-2 Inv-loop μ-loop
+sub-write-part-2 c = in-store (c .before .before .before .before .before .before .loop .inv .4) .0
+
+part-write-part-start-2 : tie.Need-part-write-part-start-2 Inv-loop μ-loop
+part-write-part-start-2 c = in-store (c .before .before .before .before .before .before .loop .inv .4) .0
 
 write-part-requires : tie.Need-write-part-requires Inv-loop μ-loop
 write-part-requires c κs =
-    let l = c .before .before .before .loop in
-    let a = c .before .before .before .before .before .before .before .args in
-    room-kept (a .text .now) (a .scratch .now) (l .scratch) (a .n) (l .part) (l .inv .3) (l .inv .2) (c .before .before .before .before .before .before .before .pre .room (l .part))
+    let v = c .before .before .before .before .before .before .before .loop .inv in
+    own-room _ _ _ (c .before .before .before .before .before .before .before .before .before .before .before .pre) _ (v .3) (v .2) _ _ _ (c .before .before .before .before .own-items .ensures)
 
 -- a part more has no room: all have none
 returns : tie.Need-returns Inv-loop μ-loop
 returns c =
-    let l = c .before .before .before .before .before .before .before .before .before .before .loop in
-    let a = c .before .before .before .before .before .before .before .before .before .before .before .before .before .before .args in
-    no-part (keyAs (a .key)) (itemsIn (a .text .now) (a .scratch .now) (a .n)) _ (l .part) (a .count) (c .before .before .before .before .before .before .before .before .before .loop-test .taken) (l .inv .4) (l .inv .3)
+    let l = c .before .before .before .before .before .before .before .before .before .before .before .before .before .before .loop in
+    let a = c .before .before .before .before .before .before .before .before .before .before .before .before .before .before .before .before .before .before .args in
+    let mine = own-items _ _ _ (c .before .before .before .before .before .before .before .before .before .before .before .before .before .before .before .before .before .before .pre) _ (l .inv .3) (l .inv .2) _ _ _ (c .before .before .before .before .before .before .before .before .before .before .before .own-items .ensures) in
+    no-part (keyAs (a .key)) (itemsIn (a .text .now) (a .scratch .now) (a .n)) _ (l .part) (a .count) (c .before .before .before .before .before .before .before .before .before .before .before .before .before .loop-test .taken) (l .inv .4) mine
     (told (c .before .before .before .before .before .before .write-part .ensures .0) (c .enum-told .given .1))
 
 add-at : tie.Need-add-at Inv-loop μ-loop
 add-at c =
-    let l = c .before .before .before .before .before .before .before .before .before .before .before .loop in
-    let a = c .before .before .before .before .before .before .before .before .before .before .before .before .before .before .before .args in
+    let l = c .before .before .before .before .before .before .before .before .before .before .before .before .before .before .before .loop in
+    let a = c .before .before .before .before .before .before .before .before .before .before .before .before .before .before .before .before .before .before .before .args in
+    let mine = own-items _ _ _ (c .before .before .before .before .before .before .before .before .before .before .before .before .before .before .before .before .before .before .before .pre) _ (l .inv .3) (l .inv .2) _ _ _ (c .before .before .before .before .before .before .before .before .before .before .before .before .own-items .ensures) in
     omega (
       arith,
-      one-part (keyAs (a .key)) (itemsIn (a .text .now) (a .scratch .now) (a .n)) _ (l .part) (l .inv .4) (l .inv .3)
+      one-part (keyAs (a .key)) (itemsIn (a .text .now) (a .scratch .now) (a .n)) _ (l .part) (l .inv .4) mine
           (told (c .before .before .before .before .before .before .before .write-part .ensures .0) (c .before .m .given .1)) .says .1,
-      c .before .before .before .before .before .before .before .before .before .before .before .before .before .before .before .good,
+      c .before .before .before .before .before .before .before .before .before .before .before .before .before .before .before .before .before .before .before .good,
     )
 
 loop-again : tie.Need-loop-again Inv-loop μ-loop
 loop-again c =
-    let l = c .before .before .before .before .before .before .before .before .before .before .before .loop in
-    let a = c .before .before .before .before .before .before .before .before .before .before .before .before .before .before .before .args in
-    let w = one-part (keyAs (a .key)) (itemsIn (a .text .now) (a .scratch .now) (a .n)) _ (l .part) (l .inv .4) (l .inv .3)
+    let l = c .before .before .before .before .before .before .before .before .before .before .before .before .before .before .before .loop in
+    let a = c .before .before .before .before .before .before .before .before .before .before .before .before .before .before .before .before .before .before .before .args in
+    let p = c .before .before .before .before .before .before .before .before .before .before .before .before .before .before .before .before .before .before .before .pre in
+    let o = c .before .before .before .before .before .before .before .before .before .before .before .before .own-items .ensures in
+    let kept = c .before .before .before .before .before .before .before .write-part .ensures .1 in
+    let mine = own-items _ _ _ p _ (l .inv .3) (l .inv .2) _ _ _ o in
+    let w = one-part (keyAs (a .key)) (itemsIn (a .text .now) (a .scratch .now) (a .n)) _ (l .part) (l .inv .4) mine
     (told (c .before .before .before .before .before .before .before .write-part .ensures .0) (c .before .m .given .1)) in
-    (search needs, in-store w .1, search needs, c .before .before .before .before .before .before .before .write-part .ensures .1 .0 ∙ l .inv .3, w)
+    let after = own-kept _ _ _ p _ (l .inv .3) (l .inv .2) _ _ _ o _ (kept .0) (kept .1) in
+    (search needs, in-store w .1, after .0, after .1, w)
 
 returns-2 : tie.Need-returns-2 Inv-loop μ-loop
 returns-2 c =
@@ -77,8 +101,12 @@ append-parts-spec =
     Inv-loop
     μ-loop
     loop-holds
+    own-items-requires
     sub-write-part
     part-write-part-start
+    (λ c. search needs)
+    sub-write-part-2
+    part-write-part-start-2
     (λ c. search needs)
     write-part-requires
     (λ c. search needs)
