@@ -1,17 +1,20 @@
 -- Words between white space, by position.
 use Prim.Native.Nat.{ℕ, zero, suc, _+_, _≤_, _<_}
 use mathlib.Core.Path.{_≡_, refl, sym, ap, _∙_}
-use mathlib.Core.Bool.{Bool, true, false}
+use mathlib.Core.Bool.{Bool, true, false, _||_}
 use mathlib.Core.List.{List, [], _∷_}
 use native.Mathlib.Omega.{arith}
 use lib.ListN.{length, getD, take, drop}
+use lib.Dec.{eqb}
+use Rattle.laws.specs.Lists.{foldl}
 use Rattle.laws.specs.Bytes.{between}
+use Rattle.laws.proofs.Bools.{or-no-left, or-no-right}
 use Rattle.laws.proofs.Parts.{length-between, between-none, between-first, take-between, drop-between}
-use Rattle.reader.specs.Text.{isSpace, isBlank}
+use Rattle.reader.specs.Text.{isSpace, White, white, other, whiteStep, isAllWhite, isBlank}
 use Rattle.reader.specs.Pieces.{words, whiteAt}
 use Rattle.reader.proofs.WordLaws.{stretch, words-separator, words-word}
 use Rattle.text_white.proofs.Whites.{widthBy, width-space, width-plain}
-use Rattle.lyric_spans.specs.Spans.{WordStart, WordEnd}
+use Rattle.lyric_spans.specs.Spans.{mayBeWhite, WordStart, WordEnd}
 
 -- a white character is within the text
 pub white-le : (s : List ℕ) → 0 < length s → whiteAt s ≤ length s
@@ -35,6 +38,35 @@ white-le (a ∷ b ∷ c ∷ s) h = three (isBlank (a ∷ [])) (isBlank (a ∷ b 
     three false true z = omega arith
     three false false true = omega arith
     three false false false = omega arith
+
+-- behind a byte that no white character has, nothing is white
+other-stays : (s : List ℕ) → foldl whiteStep other s ≡ other
+unfolding whiteStep
+other-stays [] = refl
+other-stays (c ∷ s) = other-stays s
+
+-- a byte with which no white character begins
+no-white-first : (c : ℕ) → mayBeWhite c ≡ false → whiteStep white c ≡ other
+unfolding whiteStep
+no-white-first c e =
+    let a = or-no-right (isSpace c) (eqb c 0xc2 || (eqb c 0xe1 || (eqb c 0xe2 || eqb c 0xe3))) e in
+    let b = or-no-right (eqb c 0xc2) (eqb c 0xe1 || (eqb c 0xe2 || eqb c 0xe3)) a in
+    let d = or-no-right (eqb c 0xe1) (eqb c 0xe2 || eqb c 0xe3) b in
+    rw (
+      or-no-left (isSpace c) (eqb c 0xc2 || (eqb c 0xe1 || (eqb c 0xe2 || eqb c 0xe3))) e,
+      or-no-left (eqb c 0xc2) (eqb c 0xe1 || (eqb c 0xe2 || eqb c 0xe3)) a,
+      or-no-left (eqb c 0xe1) (eqb c 0xe2 || eqb c 0xe3) b,
+      or-no-left (eqb c 0xe2) (eqb c 0xe3) d,
+      or-no-right (eqb c 0xe2) (eqb c 0xe3) d,
+    )
+
+not-blank : (c : ℕ) (s : List ℕ) → mayBeWhite c ≡ false → isBlank (c ∷ s) ≡ false
+unfolding isBlank
+not-blank c s e = ap (λ (q : White). isAllWhite (foldl whiteStep q s)) (no-white-first c e) ∙ ap isAllWhite (other-stays s)
+
+pub no-white-at : (c : ℕ) (s : List ℕ) → mayBeWhite c ≡ false → whiteAt (c ∷ s) ≡ 0
+unfolding whiteAt
+no-white-at c s e = rw (not-blank c [] e, whiteAt) (rw (not-blank c (take 1 s) e, whiteAt) (rw (not-blank c (take 2 s) e)))
 
 module _ (text : List ℕ) (i end : ℕ) (h : i < end) (l : end ≤ length text) where
   -- nor past the line's end
@@ -64,6 +96,10 @@ module _ (text : List ℕ) (i end : ℕ) (h : i < end) (l : end ≤ length text)
 
   pub plain-here : getD text i 0 ≤ 127 → isSpace (getD text i 0) ≡ false → whiteAt (between text i end) ≡ 0
   plain-here k e = sym (width-plain (getD text i 0) (between text (i + 1) end) k e ∙ ap whiteAt (sym here))
+
+  -- one with which no white character begins
+  pub no-white-here : mayBeWhite (getD text i 0) ≡ false → whiteAt (between text i end) ≡ 0
+  no-white-here e = ap whiteAt here ∙ no-white-at (getD text i 0) (between text (i + 1) end) e
 
   -- a byte that begins no white space belongs to the word
   pub stretch-on : whiteAt (between text i end) ≡ 0 → stretch whiteAt (between text i end) ≡ suc (stretch whiteAt (between text (i + 1) end))

@@ -1,11 +1,12 @@
 -- Spans of a lyric line: words between white space, and the bytes of which a plain word is made.
 use Prim.Native.Nat.{ℕ, _<_, _≤_}
 use mathlib.Core.Path.{_≡_}
-use mathlib.Core.Bool.{Bool, not, _&&_}
+use mathlib.Core.Bool.{Bool, not, _&&_, _||_}
 use mathlib.Core.List.{List, _∷_}
+use lib.Dec.{eqb}
 use Rattle.laws.specs.Bytes.{between}
 use Rattle.standard.specs.Bytes.{is}
-use Rattle.reader.specs.Text.{within}
+use Rattle.reader.specs.Text.{within, isSpace}
 use Rattle.reader.specs.Pieces.{words, whiteAt}
 
 abbrev pub isHyphen : ℕ → Bool
@@ -13,6 +14,10 @@ isHyphen c = is "-" c
 
 abbrev pub noHyphen : ℕ → Bool
 noHyphen c = not (isHyphen c)
+
+-- a byte with which a white character may begin
+abbrev pub mayBeWhite : ℕ → Bool
+mayBeWhite c = isSpace c || (eqb c 0xc2 || (eqb c 0xe1 || (eqb c 0xe2 || eqb c 0xe3)))
 
 -- a byte of a word, and no hyphen, whatever stands behind it: ASCII from `!` to `~`
 abbrev pub isPlain : ℕ → Bool

@@ -5,7 +5,7 @@ ghost use lib.ListN.{length};
 ghost use Rattle.laws.specs.Bytes.{between};
 ghost use Rattle.laws.specs.Spans.{endIn};
 ghost use Rattle.reader.specs.Pieces.{whiteAt};
-ghost use Rattle.lyric_spans.specs.Spans.{isHyphen, noHyphen, isPlain, WordStart, WordEnd};
+ghost use Rattle.lyric_spans.specs.Spans.{isHyphen, noHyphen, isPlain, mayBeWhite, WordStart, WordEnd};
 
 // The first byte at or behind `at` that is no white space, or `end`.
 fn past_white(text: &[u8], at: usize, end: usize) -> usize
@@ -42,6 +42,25 @@ pub fn word_start(text: &[u8], at: usize, end: usize) -> usize
     i
 }
 
+// A byte with which white space may begin.
+fn may_be_white(b: u8) -> bool
+    ensures { λ r. ⌜ r ≡ mayBeWhite b ⌝ }
+{
+    if text_bytes::is_space(b) {
+        return true;
+    }
+    if b == 0xc2 {
+        return true;
+    }
+    if b == 0xe1 {
+        return true;
+    }
+    if b == 0xe2 {
+        return true;
+    }
+    b == 0xe3
+}
+
 // The end of the word that begins at `at`.
 pub fn word_end(text: &[u8], at: usize, end: usize) -> usize
     requires { ⌜ (at < end) × (end ≤ length (now text)) × (whiteAt (between (now text) at end) ≡ 0) ⌝ }
@@ -49,6 +68,10 @@ pub fn word_end(text: &[u8], at: usize, end: usize) -> usize
 {
     let mut i = at;
     while i < end {
+        if !may_be_white(text[i]) {
+            i += 1;
+            continue;
+        }
         let w = text_white::white_at(text, i, end);
         if 0 < w {
             return i;

@@ -4,9 +4,10 @@ use mathlib.Core.Path.{_≡_, refl, sym, ap, _∙_}
 use Prim.Native.Nat.{ℕ, _+_, _-_, _≤_, _<_}
 use native.Mathlib.Omega.{arith}
 use Rattle.laws.specs.Bytes.{between}
+use Rattle.laws.proofs.Bools.{not-true}
 use Rattle.reader.specs.Pieces.{whiteAt}
 use Rattle.reader.proofs.WordLaws.{stretch}
-use Rattle.lyric_spans.proofs.Whites.{stretch-on, stretch-off, stretch-over, end-here}
+use Rattle.lyric_spans.proofs.Whites.{no-white-here, stretch-on, stretch-off, stretch-over, end-here}
 use Rattle.lyric_spans.proofs.word_end.Statement.{statement}
 use Rattle.lyric_spans.proofs.word_end.Tie as tie
 
@@ -19,29 +20,40 @@ abbrev μ-loop : tie.MeasureT-loop
 loop-holds : tie.Need-loop-holds Inv-loop μ-loop
 loop-holds c = (search needs, refl)
 
-returns : tie.Need-returns Inv-loop μ-loop
-returns c =
-    let a = c .before .before .before .before .before .args in
-    let p = c .before .before .before .before .before .pre in
-    let l = c .before .before .before .loop in
-    let s = a .text .now in
-    let some : 0 < whiteAt (between s (l .i) (a .end)) = omega (arith, c .before .white-at .ensures, c .if1 .taken) in
-    let z = stretch-off s (l .i) (a .end) (c .before .before .loop-test .taken) (p .1) some in
-    end-here s (a .at) (a .end) (l .i) (p .0) (p .1) (p .2) (ap (λ (k : ℕ). l .i + k) (sym z) ∙ l .inv .1) (l .inv .0) (λ h. some)
-
-add-i : tie.Need-add-i Inv-loop μ-loop
-add-i c = omega (arith, c .before .before .before .before .before .fits .end)
-
-loop-less : tie.Need-loop-less Inv-loop μ-loop
-loop-less c = omega arith
+-- a byte with which no white character begins
 
 loop-again : tie.Need-loop-again Inv-loop μ-loop
 loop-again c =
-    let a = c .before .before .before .before .before .args in
-    let l = c .before .before .before .loop in
+    let a = c .before .before .before .before .before .before .args in
+    let p = c .before .before .before .before .before .before .pre in
+    let l = c .before .before .before .before .loop in
+    let more = c .before .before .before .loop-test .taken in
     let s = a .text .now in
-    let none : whiteAt (between s (l .i) (a .end)) ≡ 0 = omega (arith, c .before .white-at .ensures, c .if1 .left) in
-    (omega arith, omega (arith, stretch-on s (l .i) (a .end) (c .before .before .loop-test .taken) (c .before .before .before .before .before .pre .1) none, l .inv .1))
+    let none = no-white-here s (l .i) (a .end) more (p .1) (sym (c .before .may-be-white .ensures) ∙ not-true (c .before .may-be-white .result) (c .if1 .taken)) in
+    (omega (arith, more), omega (arith, stretch-on s (l .i) (a .end) more (p .1) none, l .inv .1))
+
+-- white space
+
+returns : tie.Need-returns Inv-loop μ-loop
+returns c =
+    let a = c .before .before .before .before .before .before .before .before .args in
+    let p = c .before .before .before .before .before .before .before .before .pre in
+    let l = c .before .before .before .before .before .before .loop in
+    let s = a .text .now in
+    let some : 0 < whiteAt (between s (l .i) (a .end)) = omega (arith, c .before .white-at .ensures, c .if2 .taken) in
+    let z = stretch-off s (l .i) (a .end) (c .before .before .before .before .before .loop-test .taken) (p .1) some in
+    end-here s (a .at) (a .end) (l .i) (p .0) (p .1) (p .2) (ap (λ (k : ℕ). l .i + k) (sym z) ∙ l .inv .1) (l .inv .0) (λ h. some)
+
+-- none
+
+loop-again-2 : tie.Need-loop-again-2 Inv-loop μ-loop
+loop-again-2 c =
+    let a = c .before .before .before .before .before .before .before .before .args in
+    let l = c .before .before .before .before .before .before .loop in
+    let more = c .before .before .before .before .before .loop-test .taken in
+    let s = a .text .now in
+    let none : whiteAt (between s (l .i) (a .end)) ≡ 0 = omega (arith, c .before .white-at .ensures, c .if2 .left) in
+    (omega (arith, more), omega (arith, stretch-on s (l .i) (a .end) more (c .before .before .before .before .before .before .before .before .pre .1) none, l .inv .1))
 
 returns-2 : tie.Need-returns-2 Inv-loop μ-loop
 returns-2 c =
@@ -59,9 +71,14 @@ word-end-spec =
     Inv-loop
     μ-loop
     loop-holds
+    (λ c. search needs)
+    (λ c κs. search needs)
+    (λ c. search needs)
+    (λ c. search needs)
+    loop-again
     (λ c κs. search needs)
     returns
-    add-i
-    loop-less
-    loop-again
+    (λ c. search needs)
+    (λ c. search needs)
+    loop-again-2
     returns-2)
