@@ -4,10 +4,9 @@ use mathlib.Core.Path.{_≡_, refl, sym, ap, _∙_}
 use mathlib.Core.Bool.{Bool, true, false, cond, not, _&&_, _||_}
 use mathlib.Core.List.{List}
 use native.Mathlib.Omega.{arith}
-use lib.Dec.{eqb, leb}
+use lib.Dec.{eqb}
 use lib.ListN.{length, getD}
 use borrow.Author.Tests.{eq-eqb, eqb-true, eqb-false, lt-leb}
-use Rattle.laws.specs.Bytes.{between}
 use Rattle.laws.specs.Spans.{endIn}
 use Rattle.laws.proofs.Bools.{by-test, not-true, and-left, and-right, or-no-left, or-no-right}
 use Rattle.laws.proofs.Parts.{endIn-ge, endIn-stop, endIn-over}
@@ -15,7 +14,7 @@ use Rattle.standard.specs.Bytes.{is}
 use Rattle.standard.specs.Lyrics.{syllabicOf}
 use Rattle.reader.specs.Text.{isSpace}
 use Rattle.reader.specs.Codes.{syllabicCode}
-use Rattle.lyric_spans.specs.Spans.{isHyphen, noHyphen, isPlain, WordStart, Closed, WordEnd}
+use Rattle.lyric_spans.specs.Spans.{isHyphen, isPlain, WordStart, Closed, WordEnd}
 use Rattle.lyric_spans.proofs.Plain.{closed-here, plain-le, plain-word, plain-piece, plain-first, plain-last}
 use Rattle.lyric_words.specs.declared.Token.the-variants as T
 use Rattle.lyric_words.specs.declared.Cursor.{Cursor}

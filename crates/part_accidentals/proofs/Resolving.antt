@@ -1,7 +1,7 @@
 -- A PITCH RESOLVED, one law for each way: by its own accidental; without one, as remembered or by the key.
 use Prim.Native.Nat.{ℕ, _+_, _-_, _*_, _^_, _≤_, _<_}
 use mathlib.Core.Path.{_≡_, refl, sym, ap, subst, _∙_}
-use mathlib.Core.Bool.{Bool, true, false}
+use mathlib.Core.Bool.{true, false}
 use mathlib.Core.Option.{Option, none, some}
 use mathlib.Core.List.{List, [], _∷_}
 use native.Mathlib.Omega.{arith}
@@ -11,11 +11,9 @@ use lib.ListN.{length, getD, set}
 use Rattle.laws.specs.Lists.{alterAt}
 use Rattle.laws.specs.Bytes.{splice, little, le32, u32At}
 use Rattle.laws.proofs.Bools.{by-test, both-true, cond-true, cond-false}
-use Rattle.laws.proofs.Splices.{length-spliced}
 use Rattle.standard.specs.Keys.{Key, keyAlter}
 use Rattle.standard.specs.Pitches.{Accidental, Written, Pitch, altered}
 use Rattle.reader.specs.Pitches.{Scope, remembered, orKey, soundBy, soundOf, scopeBy, scopeAfter}
-use Rattle.token_pitches.specs.declared.Sign.{Sign}
 use Rattle.token_pitches.specs.declared.Sign.the-variants as sign
 use Rattle.token_pitches.specs.declared.Pitch as code
 use Rattle.token_pitches.specs.Pitches.{signOf}
@@ -28,7 +26,6 @@ use Rattle.part_scopes.proofs.Places.{place-is, place-none, place-inside, recal
 use Rattle.part_scopes.proofs.Scopes.{scoped-same, scoped-row, scoped-given}
 use Rattle.part_accidentals.specs.declared.AbcPartParseState.{AbcPartParseState}
 use Rattle.part_accidentals.specs.declared.Row.{Row}
-use Rattle.part_accidentals.specs.declared.Resolved.{Resolved}
 use Rattle.part_accidentals.specs.Resolving.{signs, writtenOf, entered, storeWith, rowWith, ResolvedAs}
 
 -- A ROW FOUND, or none: what stands at the entry and in the row that it names

@@ -1,41 +1,37 @@
 -- THE OPEN MEASURE CHANGED, and what a barline does, from the code's writes to the definition.
-use Prim.Native.Nat.{ℕ, zero, suc, _+_, _-_, _*_, _^_, _≤_, _<_, min}
+use Prim.Native.Nat.{ℕ, zero, suc, _+_, _-_, _*_, _≤_, _<_}
 use mathlib.Core.Path.{_≡_, refl, sym, ap, subst, _∙_}
-use mathlib.Core.Bool.{Bool, true, false, cond}
+use mathlib.Core.Bool.{Bool, true, false}
 use mathlib.Core.List.{List, [], _∷_, _++_}
-use native.Mathlib.Nat.{not-suc-le-zero, le-of-suc-le-suc}
+use native.Mathlib.Nat.{not-suc-le-zero}
 use native.Mathlib.Omega.{arith}
 use lib.ListN.{length, getD, length-append}
-use Rattle.laws.specs.Bytes.{splice, part, le32, little}
+use Rattle.laws.specs.Bytes.{splice, le32, little}
 use Rattle.laws.specs.Lists.{alterAt}
-use Rattle.laws.proofs.Lists.{length-alterAt}
-use Rattle.laws.proofs.Splices.{length-spliced, splice-nil}
+use Rattle.laws.proofs.Splices.{splice-nil}
 use Rattle.standard.specs.Bars as standard
 use Rattle.standard.specs.Bars.{normal, repeatStart, repeatEnd, repeatBoth, double, final}
-use Rattle.standard.specs.Fields.{Meter}
 use Rattle.reader.specs.Barlines.{leftOf}
 use Rattle.reader.specs.Codes.{barlineCode}
 use Rattle.reader.specs.Records.{passBits, measureWidth}
 use Rattle.reader.specs.Token as token
 use Rattle.reader.specs.State as State
 use Rattle.reader.specs.State.{voltaBegins, noScopes, withTime}
-use Rattle.part_layout.specs.Log.{Head, LogState, withLeft, withRight, withMeter, withVolta, newHead, onLastHead, onOpen, openIsEmpty, isEmptyHead, leftSet, endedHeads, endedLast, onBarline, onToken, setLine, setScopes, setLast, setHeads, noCounts}
+use Rattle.part_layout.specs.Log.{Head, LogState, withRight, withMeter, withVolta, newHead, onLastHead, onOpen, openIsEmpty, isEmptyHead, leftSet, endedHeads, endedLast, onBarline, onToken, setLine}
 use Rattle.part_layout.specs.Lines.{Standing}
 use Rattle.token_symbols.specs.declared.Barline.{Barline}
-use Rattle.token_symbols.specs.declared.Barline.the-variants.{Normal, RepeatStart, RepeatEnd, RepeatBoth, Double, Final}
 use Rattle.token_symbols.specs.Bars.{barlineFor}
-use Rattle.part_rows.specs.Table.{Table, Only}
+use Rattle.part_rows.specs.Table.{Only}
 use Rattle.part_rows.proofs.Tables.{table-row, only-splice, only-then}
 use Rattle.part_measures.specs.Heads.{headRow, newRow, noNotes, leftAt, rightAt, meterAt, voltaAt}
 use Rattle.part_measures.proofs.Heads.{length-head, new-row, head-left, head-right, head-meter, head-volta, head-empty}
 use Rattle.part_scopes.specs.Scopes.{Scoped}
 use Rattle.part_scopes.proofs.Scopes.{scoped-none, scoped-behind}
-use Rattle.part_registers.specs.declared.Line.{Line}
 use Rattle.part_registers.specs.declared.Counts.{Counts}
 use Rattle.part_registers.specs.declared.Tables.{Tables}
 use Rattle.part_registers.specs.declared.Registers.{Registers}
 use Rattle.part_invariant.specs.Invariant.{Room, Stored, Represents, RepresentedInLine, pitchesIn, Grows, Simulates}
-use Rattle.part_invariant.proofs.Stores.{withHeads, head-altered, head-only, head-pushed, head-pushed-only}
+use Rattle.part_invariant.proofs.Stores.{head-altered, head-pushed, head-pushed-only}
 use Rattle.part_invariant.proofs.Logs.{last-head, count-most, counts-4}
 use Rattle.part_invariant.proofs.Appending.{someHead, room-same}
 use Rattle.part_bars.specs.Bars.{codeOf, leftStore, nowhere, ended, opened, timed}

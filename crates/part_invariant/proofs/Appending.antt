@@ -2,19 +2,18 @@
 use Prim.Native.Nat.{ℕ, zero, suc, _+_, _-_, _*_, _^_, _≤_, _<_, min}
 use mathlib.Core.Path.{_≡_, refl, sym, ap, subst, _∙_}
 use mathlib.Core.Bool.{Bool, true, false, cond, _&&_}
-use mathlib.Core.Option.{Option, none, some}
+use mathlib.Core.Option.{none}
 use mathlib.Core.List.{List, [], _∷_, _++_, append-nil}
-use native.Mathlib.Nat.{add-zero}
 use native.Mathlib.Numerals.{add-one}
 use native.Mathlib.Omega.{arith}
 use lib.Dec.{eqb}
-use borrow.Author.Tests.{eq-eqb, ne-eqb}
+use borrow.Author.Tests.{ne-eqb}
 use lib.ListN.{length, getD, set, length-append}
 use Rattle.laws.specs.Bytes.{splice, le32, little, u32At}
 use Rattle.laws.specs.Lists.{alterAt}
 use Rattle.laws.proofs.Bools.{by-test}
-use Rattle.laws.proofs.Lists.{alterAt-set, length-alterAt}
-use Rattle.laws.proofs.Splices.{length-splice, length-spliced, splice-nil}
+use Rattle.laws.proofs.Lists.{alterAt-set}
+use Rattle.laws.proofs.Splices.{length-spliced, splice-nil}
 use Rattle.standard.specs.Pitches.{Pitch}
 use Rattle.standard.specs.Bars.{normal}
 use Rattle.standard.specs.Notes as Notes
@@ -22,12 +21,12 @@ use Rattle.standard.specs.Notes.{NoteKind, isSounded}
 use Rattle.reader.specs.Codes.{kindCode, beamCode}
 use Rattle.reader.specs.State as State
 use Rattle.reader.specs.State.{Note, Verses, withBeam}
-use Rattle.reader.specs.Part.{canBeam, runAfter, grouped, oneFewer, afterHalf, countedIn, restWith}
+use Rattle.reader.specs.Part.{canBeam, grouped, afterHalf, countedIn, restWith}
 use Rattle.reader.specs.Records.{measureWidth}
 use Rattle.part_layout.specs.Log.{Head, LogState, newHead, withCounts, onLastHead, onOpen, lastPlace, atPlace, beamedNew, beamedBefore, append}
 use Rattle.part_layout.specs.Lines.{Standing}
 use Rattle.part_rows.specs.declared.NoteRow.{NoteRow}
-use Rattle.part_rows.specs.Table.{Table, Only}
+use Rattle.part_rows.specs.Table.{Only}
 use Rattle.part_rows.specs.Encoded.{rowFor, rowBytes, noteRow, noteRowWidth, beamAt}
 use Rattle.part_rows.proofs.Bytes.{length-note, note-set-beam}
 use Rattle.part_rows.proofs.Tables.{table-u32, only-splice, only-then}
@@ -38,12 +37,12 @@ use Rattle.part_registers.specs.declared.Tables.{Tables}
 use Rattle.part_registers.specs.declared.Counts.{Counts}
 use Rattle.part_registers.specs.declared.Line.{Line}
 use Rattle.part_registers.specs.declared.Registers.{Registers}
-use Rattle.part_registers.specs.Notes.{beams, runAgain, fewer, groupedRow, beamedRow, halvedRow}
-use Rattle.part_registers.specs.States.{halfFor, runningFor, lineFor}
+use Rattle.part_registers.specs.Notes.{runAgain, fewer, groupedRow, beamedRow, halvedRow}
+use Rattle.part_registers.specs.States.{halfFor, lineFor}
 use Rattle.part_registers.proofs.Notes.{beams-is, run-is, fewer-is, grouped-is, beamed-is, half-is}
-use Rattle.part_invariant.specs.Invariant.{Room, Stored, pitchesIn, Represents, Grows, Appendable, Appends}
+use Rattle.part_invariant.specs.Invariant.{Room, Stored, pitchesIn, Represents, Appendable, Appends}
 use Rattle.part_invariant.specs.Appended.{beforeStore, ranOn, soundedOn, appended}
-use Rattle.part_invariant.proofs.Stores.{withNotes, head-altered, head-only, note-altered, note-pushed, note-pushed-only}
+use Rattle.part_invariant.proofs.Stores.{withNotes, head-altered, note-altered, note-pushed, note-pushed-only}
 use Rattle.part_invariant.proofs.Logs.{last-head, count-most, counts-4, place-same, place-at, place-pitches, more-pitches, before-pitches, final-pitches}
 
 abbrev pub someNote : ℕ × Note

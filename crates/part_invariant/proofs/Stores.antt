@@ -1,6 +1,6 @@
 -- WRITES INTO ONE TABLE leave the others: one law for each kind of write, over heads, notes, pitches and scopes.
-use Prim.Native.Nat.{ℕ, suc, _+_, _-_, _*_, _^_, _≤_, _<_}
-use mathlib.Core.Path.{_≡_, refl, sym, ap, subst, _∙_}
+use Prim.Native.Nat.{ℕ, _+_, _-_, _*_, _≤_, _<_}
+use mathlib.Core.Path.{_≡_, sym, ap, _∙_}
 use mathlib.Core.List.{List, [], _∷_, _++_}
 use native.Mathlib.Omega.{arith}
 use lib.ListN.{length, getD, length-append}
@@ -11,10 +11,10 @@ use Rattle.standard.specs.Pitches.{Pitch}
 use Rattle.reader.specs.State.{Note}
 use Rattle.reader.specs.Records.{pitchBytes, measureWidth}
 use Rattle.part_layout.specs.Log.{Head}
-use Rattle.part_rows.specs.Table.{Table, Only}
+use Rattle.part_rows.specs.Table.{Only}
 use Rattle.part_rows.specs.Encoded.{noteRow, noteRowWidth, pitchRowWidth}
 use Rattle.part_rows.proofs.Bytes.{length-note, length-pitch}
-use Rattle.part_rows.proofs.Tables.{table-before, table-behind, table-back, table-push, table-alter, only-splice}
+use Rattle.part_rows.proofs.Tables.{table-before, table-behind, table-push, table-alter, only-splice}
 use Rattle.part_measures.specs.Heads.{headRow}
 use Rattle.part_measures.proofs.Heads.{length-head}
 use Rattle.part_registers.specs.declared.Tables.{Tables}

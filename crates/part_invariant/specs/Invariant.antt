@@ -1,7 +1,7 @@
 -- SCRATCH AND REGISTERS REPRESENT A PART: what it means that they are a LogState, and what a step does to them.
 use Prim.Native.Nat.{ℕ, _+_, _*_, _^_, _≤_, _<_}
 use mathlib.Core.Path.{_≡_}
-use mathlib.Core.List.{List, [], _∷_, _++_, map}
+use mathlib.Core.List.{List, [], _++_, map}
 use lib.ListN.{length}
 use Rattle.laws.specs.Lists.{concat}
 use Rattle.standard.specs.Pitches.{Pitch}

@@ -1,23 +1,20 @@
 -- WHAT EACH KIND OF ITEM DOES, from the code's registers and writes to the definition.
 use Prim.Native.Nat.{ℕ, zero, suc, _+_, _-_, _*_, _≤_, _<_}
 use mathlib.Core.Path.{_≡_, refl, sym, ap, subst, _∙_}
-use mathlib.Core.Bool.{Bool, true, false, _&&_}
+use mathlib.Core.Bool.{Bool, true, false}
 use mathlib.Core.Option.{Option, none, some}
 use mathlib.Core.List.{List, [], _∷_, _++_}
 use native.Mathlib.Nat.{not-suc-le-zero}
 use native.Mathlib.Omega.{arith}
-use lib.Dec.{eqb}
 use lib.ListN.{length, getD}
 use Rattle.laws.specs.Bytes.{splice}
 use Rattle.laws.specs.Lists.{foldl}
-use Rattle.laws.proofs.Bools.{by-test}
 use Rattle.standard.specs.Keys.{Key, plainKey}
-use Rattle.standard.specs.Notes.{isSounded}
 use Rattle.reader.specs.Codes.{modeCode}
 use Rattle.reader.specs.Records.{signed8, measureWidth}
 use Rattle.reader.specs.Scan.{Item, voiceDeclared, reset, keyInHeader, keyChange, meterChange, lyricLine, musicLine}
-use Rattle.reader.specs.Part.{firstKey, countedIn}
-use Rattle.reader.specs.State.{Note, Sung, Verses, newLine}
+use Rattle.reader.specs.Part.{firstKey}
+use Rattle.reader.specs.State.{Note, Sung, newLine}
 use Rattle.reader.specs.Token.{Token, space, overlay, quoted, broken, tuplet, slur, graceOpen, graceClose, decoration, barline, volta, unit, meter, key, field, chord, rest, note, nothing, skipped, refused}
 use Rattle.reader.specs.Tokens.{tokens}
 use Rattle.reader.proofs.PartLaws.{counted-lines}
@@ -29,7 +26,6 @@ use Rattle.part_rows.proofs.Tables.{table-none, only-none}
 use Rattle.part_measures.specs.Heads.{headRow, meterAt, keyMarkAt}
 use Rattle.part_measures.proofs.Heads.{head-mark, head-meter}
 use Rattle.part_registers.specs.declared.Tables.{Tables}
-use Rattle.part_registers.specs.declared.Counts.{Counts}
 use Rattle.part_registers.specs.declared.Registers.{Registers}
 use Rattle.part_invariant.specs.Invariant.{Represents}
 use Rattle.part_invariant.specs.Lines.{RoomForBytes, RepresentedBetween, GrowsBy, SimulatesItem}

@@ -1,7 +1,7 @@
 -- THE ROOM FOR MUSIC that is to come, item by item.
 use Prim.Native.Nat.{ℕ, _+_}
-use mathlib.Core.Path.{_≡_, refl, ap, _∙_}
-use mathlib.Core.List.{List, [], _∷_, _++_, map}
+use mathlib.Core.Path.{_≡_, ap, _∙_}
+use mathlib.Core.List.{List, _++_, map}
 use native.Mathlib.Omega.{arith}
 use Rattle.laws.specs.Lists.{concat}
 use Rattle.laws.proofs.Lists.{map-append, concat-append}

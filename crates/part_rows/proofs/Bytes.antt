@@ -1,9 +1,9 @@
 -- THE BYTES OF EACH KIND OF ROW: its width, and what a write into it makes of it.
-use Prim.Native.Nat.{ℕ, _+_}
-use mathlib.Core.Path.{_≡_, refl, sym, ap, _∙_}
-use mathlib.Core.List.{List, [], _∷_, _++_}
+use Prim.Native.Nat.{ℕ}
+use mathlib.Core.Path.{_≡_, refl}
+use mathlib.Core.List.{[], _∷_}
 use lib.ListN.{length, getD}
-use Rattle.laws.specs.Bytes.{splice, over, little}
+use Rattle.laws.specs.Bytes.{splice, little}
 use Rattle.standard.specs.Pitches.{Pitch}
 use Rattle.standard.specs.Notes.{Beam}
 use Rattle.reader.specs.Codes.{kindCode, beamCode}

@@ -1,10 +1,10 @@
 -- PLACES BY THE INDEX: what is believed, and what each write leaves of it.
 use Prim.Native.Nat.{ℕ, zero, suc, _+_, _-_, _*_, _^_, _≤_, _<_}
 use mathlib.Core.Path.{_≡_, refl, sym, ap, subst, _∙_}
-use mathlib.Core.Bool.{Bool, true, false, cond, _&&_}
+use mathlib.Core.Bool.{Bool, true, cond, _&&_}
 use mathlib.Core.Logic.{_⊎_, inl, inr}
-use mathlib.Core.Option.{Option, none, some}
-use mathlib.Core.List.{List, [], _∷_}
+use mathlib.Core.Option.{none, some}
+use mathlib.Core.List.{List}
 use native.Mathlib.Nat.{add-zero}
 use native.Mathlib.Omega.{arith}
 use lib.Dec.{eqb, leb, ltb}
@@ -14,7 +14,6 @@ use Rattle.laws.specs.Bytes.{splice, little, littleAt, le32, u32At}
 use Rattle.laws.proofs.Bools.{by-test, never-true, and-left, and-right, and-both, same-test, cond-true, cond-false}
 use Rattle.laws.proofs.Numbers.{littleAt-same, littleAt-below, littleAt-above}
 use Rattle.laws.proofs.Splices.{length-splice, byte-same, byte-below, byte-above}
-use Rattle.standard.specs.Pitches.{Pitch}
 use Rattle.part_rows.specs.Encoded.{scopeRow, scopeSlot, scopeRowWidth, scopeIndexWidth, scopeOctaveAt, scopeSlotsAt, scopeSlotWidth, slotAlterAt, slotCentsAt}
 use Rattle.part_scopes.specs.Scopes.{entryAt, rowAt, slotAt, believed, placeIn, heldAt, recalledAt, withRow}
 

@@ -2,22 +2,22 @@
 use Prim.Native.Nat.{ℕ, zero, suc, _+_, _-_, _*_, _^_, _≤_, _<_}
 use mathlib.Core.Path.{_≡_, refl, sym, ap, subst, _∙_}
 use mathlib.Core.Bool.{Bool, true, false, _&&_}
-use mathlib.Core.Option.{Option, none, some}
+use mathlib.Core.Option.{none, some}
 use mathlib.Core.List.{List, [], _∷_}
 use native.Mathlib.Omega.{arith}
 use lib.Dec.{eqb}
-use borrow.Author.Tests.{eq-eqb, ne-eqb, eqb-true, eqb-false}
+use borrow.Author.Tests.{eq-eqb, eqb-true, eqb-false}
 use lib.ListN.{length, getD, set, length-set}
 use lib.Seq.{getD-set-same, getD-set-other}
 use Rattle.laws.specs.Bytes.{splice}
 use Rattle.laws.specs.Lists.{alterAt}
-use Rattle.laws.proofs.Bools.{by-test, and-both, and-left, and-right, never-true, both-true}
+use Rattle.laws.proofs.Bools.{by-test, and-both, and-left, and-right, never-true}
 use Rattle.laws.proofs.Lists.{length-alterAt, getD-alterAt, getD-alterAt-other}
 use Rattle.laws.proofs.Splices.{byte-above}
 use Rattle.standard.specs.Pitches.{Accidental, Written, Pitch, altered}
 use Rattle.reader.specs.Pitches.{Scope, remembered}
 use Rattle.reader.specs.State.{noScopes}
-use Rattle.part_rows.specs.Encoded.{scopeSlot, scopeRowWidth, scopeIndexWidth, scopeSlotWidth}
+use Rattle.part_rows.specs.Encoded.{scopeSlot, scopeRowWidth, scopeIndexWidth}
 use Rattle.part_scopes.specs.Scopes.{slotAt, placeIn, recalledAt, recalled, withRow, Newest, Scoped}
 use Rattle.part_scopes.proofs.Places.{Borne, place-borne, place-inside, place-over, recalled-none, kept-place, kept-recalled, slot-place, slot-other, slot-own, row-place, other-place, row-other, row-empty}
 

@@ -1,7 +1,7 @@
 -- ACCIDENTALS IN FORCE, IN SCRATCH: an index with an entry for each step and octave, and behind it a row for each of those that had an accidental in the measure, with a slot for each
 -- overlay voice. An entry is the place of a row, from 1. It is believed only if there is a row at that place and the row is of the entry's step and octave: what older measures left in the
 -- index does no harm, and nothing is cleared.
-use Prim.Native.Nat.{ℕ, _+_, _-_, _*_, _≤_, _<_}
+use Prim.Native.Nat.{ℕ, _+_, _-_, _*_, _<_}
 use mathlib.Core.Path.{_≡_}
 use mathlib.Core.Bool.{Bool, false, cond, _&&_}
 use mathlib.Core.Option.{Option, none, some}

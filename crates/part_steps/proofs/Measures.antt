@@ -9,7 +9,7 @@ use Rattle.laws.specs.Bytes.{splice}
 use Rattle.standard.specs.Keys.{Key}
 use Rattle.standard.specs.Bars.{normal}
 use Rattle.standard.specs.Fields.{Meter}
-use Rattle.reader.specs.Codes.{modeCode, barlineCode}
+use Rattle.reader.specs.Codes.{modeCode}
 use Rattle.reader.specs.Records.{signed8, measureWidth}
 use Rattle.reader.specs.Token as token
 use Rattle.reader.specs.State.{newLine}

@@ -13,13 +13,12 @@ use Rattle.laws.proofs.Lists.{map-append}
 use Rattle.laws.proofs.Parts.{part-cut}
 use Rattle.laws.proofs.Rows.{rows-none, rows-push, rows-part}
 use Rattle.laws.proofs.Splices.{length-splice}
-use Rattle.reader.specs.Scan.{Item, Items}
+use Rattle.reader.specs.Scan.{Item}
 use Rattle.reader.specs.Steps.{itemsOf}
 use Rattle.blocks.proofs.Runs.{mine-append}
 use Rattle.scan_table.specs.declared.Row.{Row}
 use Rattle.scan_table.specs.Rows.{itemsFrom, itemRowWidth, rowFrom, tableEnd, decItem, encItem, itemAt, itemIn, itemsIn, RowIs}
 use Rattle.scan_table.proofs.Rows.{length-item, item-back, items-none, items-more, items-front, items-below}
-use Rattle.scan_parts.specs.declared.Own.{Own}
 use Rattle.scan_parts.specs.Own.{itemsFromPlace, Gathered, lent, back, OwnItems}
 
 -- ITEM BY ITEM: of the first i items, those of the part are gathered; m rows are written

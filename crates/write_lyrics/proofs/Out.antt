@@ -25,7 +25,7 @@ use Rattle.part_layout.specs.Log.{Head}
 use Rattle.part_layout.specs.Sections.{notesIn, ofVoice, inOrder}
 use Rattle.reading_records.specs.Widths.{countWidth}
 use Rattle.part_rows.specs.Table.{Table}
-use Rattle.part_rows.specs.Encoded.{noteRow, noteRowWidth, voiceAt}
+use Rattle.part_rows.specs.Encoded.{noteRow, noteRowWidth}
 use Rattle.part_rows.proofs.Bytes.{length-note}
 use Rattle.part_measures.specs.Heads.{headRow, noteCount}
 use Rattle.part_measures.proofs.Heads.{length-head}

@@ -10,11 +10,11 @@ use lib.ListN.{length, getD, take, drop, length-append, length-take, length-drop
 use Rattle.laws.specs.Lists.{All, filter, sum}
 use Rattle.laws.specs.Bytes.{part, splice, encAll, little, le32, u32At}
 use Rattle.laws.proofs.Lists.{sum-append, getD-sum, All-left, All-right}
-use Rattle.laws.proofs.Parts.{length-part, getD-part, part-none, part-cons, part-add, part-part}
+use Rattle.laws.proofs.Parts.{length-part, getD-part, part-part}
 use Rattle.laws.proofs.Splices.{spliced-next}
 use Rattle.laws.proofs.Numbers.{length-little, littleAt-part}
 use Rattle.laws.proofs.Rows.{encAll-none, encAll-cons, encAll-append}
-use Rattle.standard.specs.Notes.{NoteKind, sounded, rest, invisibleRest, barRest, invisibleBarRest, isSounded, beamable, Flags}
+use Rattle.standard.specs.Notes.{beamable, Flags}
 use Rattle.reader.specs.State.{Note}
 use Rattle.reader.specs.Codes.{kindCode, bit}
 use Rattle.reader.specs.Records.{isUnbeamed, flagByte, noteBytes, section, measureWidth, noteWidth}

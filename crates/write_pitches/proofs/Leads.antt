@@ -4,10 +4,9 @@ use mathlib.Core.Path.{_≡_, refl, sym, ap, _∙_}
 use mathlib.Core.Bool.{true}
 use mathlib.Core.List.{List, [], _++_, append-nil}
 use native.Mathlib.Omega.{arith}
-use lib.ListN.{getD}
 use Rattle.laws.specs.Bytes.{part}
 use Rattle.laws.proofs.Parts.{part-none, part-add}
-use Rattle.part_rows.specs.Encoded.{noteRowWidth, pitchRowWidth, voiceAt}
+use Rattle.part_rows.specs.Encoded.{noteRowWidth, pitchRowWidth}
 use Rattle.write_notes.specs.Out.{leads}
 use Rattle.write_notes.proofs.Leads.{lead-first, lead-rest, lead-only, leads-cut}
 use Rattle.part_rows.specs.Read.{pitchCount}

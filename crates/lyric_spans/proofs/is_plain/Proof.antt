@@ -1,6 +1,4 @@
 -- `lyric_spans::is_plain` meets its contract.
-use mathlib.Core.Path.{ap, sym, _∙_}
-use mathlib.Core.Bool.{not}
 use borrow.Author.Needs.{needs}
 use borrow.Author.Tests.{eq-eqb, ne-eqb}
 use Rattle.lyric_spans.proofs.is_plain.Statement.{statement}

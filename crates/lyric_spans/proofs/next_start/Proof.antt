@@ -1,5 +1,5 @@
 -- `lyric_spans::next_start` meets its contract: behind a space where a plain byte stands, else as `word_start` has it.
-use mathlib.Core.Path.{refl, sym, ap, _∙_}
+use mathlib.Core.Path.{sym, ap, _∙_}
 use native.Mathlib.Omega.{arith}
 use borrow.Author.Needs.{needs}
 use Rattle.laws.proofs.Bools.{not-false}

@@ -1,6 +1,5 @@
 -- `part_accidentals::put_row` meets its contract: the row by four writes, each where the one before it ended; then its entry.
 use mathlib.Core.Path.{refl, ap, _∙_}
-use mathlib.Core.List.{List}
 use Prim.Native.Nat.{ℕ, _+_}
 use Rattle.laws.specs.Bytes.{splice, le32}
 use Rattle.laws.proofs.Splices.{spliced-next}

@@ -1,7 +1,6 @@
 -- `part_accidentals::row_for` meets its contract: there is one, or it is new.
 use Rattle.part_accidentals.proofs.Resolving.{row-found, row-put}
 use borrow.Author.Needs.{needs}
-use native.Mathlib.Omega.{arith}
 use Rattle.part_accidentals.proofs.row_for.Statement.{statement}
 use Rattle.part_accidentals.proofs.row_for.Tie as tie
 

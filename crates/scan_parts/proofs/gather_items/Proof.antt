@@ -1,5 +1,5 @@
 -- `scan_parts::gather_items` meets its contract: so far those of the part among the first i items are gathered.
-use Prim.Native.Nat.{ℕ, _-_}
+use Prim.Native.Nat.{_-_}
 use mathlib.Core.Path.{_∙_}
 use native.Mathlib.Omega.{arith}
 use borrow.Author.Needs.{needs}

@@ -1,5 +1,5 @@
 -- `write_notes::flags_of` meets its contract.
-use mathlib.Core.Path.{_≡_, refl}
+use mathlib.Core.Path.{refl}
 use borrow.Author.Needs.{needs}
 use Rattle.reader.specs.Codes.{bit}
 use Rattle.write_notes.specs.Out.{isLone}

@@ -1,7 +1,6 @@
 -- `write_pitches::write_all` meets its contract: one run where all rows are of voice 0.
 use Prim.Native.Nat.{ℕ, _*_}
 use mathlib.Core.Path.{_≡_, sym, ap, _∙_}
-use native.Mathlib.Omega.{arith}
 use Rattle.laws.specs.Bytes.{part}
 use Rattle.part_rows.specs.Encoded.{pitchRowWidth}
 use Rattle.write_notes.proofs.Out.{wrote-as}
