@@ -375,7 +375,7 @@ fn note_effect(line: &[u8], at: usize) -> Effected
     }
 }
 
-// What the scan wants of the token at `at`: no written value is sought, and of a note or white space no lexeme is made.
+// What the scan wants of the token at `at`: no written value is sought, and of a note, white space or a byte that means nothing no lexeme is made.
 pub fn effect_at(line: &[u8], at: usize, classes: &[u8; 128]) -> Effected
     requires { ⌜ (at < length (now line)) × (now classes ≡ classTable) ⌝ }
     ensures { λ r. ⌜ r ≡ effectedFor at (tokenOf (drop at (now (line .entry)))) ⌝ }
@@ -385,6 +385,12 @@ pub fn effect_at(line: &[u8], at: usize, classes: &[u8; 128]) -> Effected
         return note_effect(line, at);
     }
     if class == token_symbols::WHITE {
+        return Effected {
+            effect: Effect::NoEffect,
+            next: at + 1,
+        };
+    }
+    if class == token_symbols::SKIP {
         return Effected {
             effect: Effect::NoEffect,
             next: at + 1,

@@ -23,8 +23,15 @@ returns-2 c =
     ap (effectedFor (a .at)) (sym (classed (a .line .now) (a .at) (k .class-of .result) 1 (k .class-of .ensures) (c .if2 .taken)))
 
 returns-3 : tie.Need-returns-3
+unfolding byCode tokenAs effectOf effectFor
 returns-3 c =
-    let a = c .before .before .before .before .before .before .before .args in
+    let k = c .before .before .before in
+    let a = k .before .before .before .args in
+    ap (effectedFor (a .at)) (sym (classed (a .line .now) (a .at) (k .class-of .result) 0 (k .class-of .ensures) (c .if3 .taken)))
+
+returns-4 : tie.Need-returns-4
+returns-4 c =
+    let a = c .before .before .before .before .before .before .before .before .args in
     rw (c .effect-of .ensures, c .before .lexeme-at .ensures, effect-token (a .at) (tokenOf (drop (a .at) (a .line .now)) .token))
 
 pub effect-at-spec : {M : Type 1} → statement M
@@ -37,6 +44,8 @@ effect-at-spec =
     returns
     (λ c. search needs)
     returns-2
+    (λ c. search needs)
+    returns-3
     (λ c κs. search needs)
     (λ c κs. search needs)
-    returns-3)
+    returns-4)
