@@ -1,6 +1,7 @@
 -- WHAT A MUSIC LINE IS REFUSED FOR: a token is refused by a number just where it meets that number's condition, and a line by the first that is met.
 use Prim.Native.Nat.{ℕ, zero, suc, _+_, _≤_, _<_, pred}
 use mathlib.Core.Path.{_≡_, refl, sym, ap, subst, _∙_}
+use mathlib.Core.Logic.{_⊎_, inl, inr}
 use mathlib.Core.Bool.{Bool, true, false, cond, not, _&&_, _||_, false≢true}
 use mathlib.Core.Option.{Option, none, some}
 use mathlib.Core.List.{List, [], _∷_, _++_, map}
@@ -9,21 +10,21 @@ use native.Mathlib.Nat.{add-zero}
 use lib.Dec.{eqb, leb, ltb}
 use lib.ListN.{length, take, drop}
 use borrow.Author.Tests.{eqb-true, ltb-true, ltb-false, lt-ltb, le-ltb}
-use Rattle.laws.specs.Lists.{countWhile, any}
+use Rattle.laws.specs.Lists.{countWhile, any, all}
 use Rattle.laws.proofs.Bools.{by-test, both-true, and-left, and-right, and-both}
 use Rattle.laws.proofs.Lists.{map-append}
 use Rattle.laws.proofs.Spans.{count-while-no, count-while-yes}
 use Rattle.standard.specs.Bytes.{is, isDigit, first}
 use Rattle.standard.specs.Fields.{Meter}
 use Rattle.standard.specs.Pitches.{Written, Accidental, isLetter}
+use Rattle.standard.specs.Passes.{Item}
 use Rattle.standard.specs.Bars.{Symbol, barSymbols, symbolAt}
-use Rattle.reader.specs.Pieces.{pieces, separator}
 use Rattle.reader.specs.Fields.{meterOf, unitInline, middleWord}
 use Rattle.reader.specs.Pitches.{Before, octaveOf, accidentalOf, isQuarter, quarterTone, added, natural, consPitch, chordOf}
 use Rattle.reader.specs.Token.{Token, quoted, decoration, skipped, tuplet, Taken, taken, refused}
 use Rattle.reader.specs.Tuplets.{positive, normalFor, counted, withCount, withNormal, withActual, tupletOf, orSlur}
 use Rattle.reader.specs.Barlines.{barlineAs, barlineOf}
-use Rattle.reader.specs.PassLists.{listItems, numbersIn, isPass, rise, tested, isPassByte, voltaAs, voltaOf}
+use Rattle.reader.specs.PassLists.{numbersIn, isPass, rise, tested, isPassByte, voltaAs, voltaOf}
 use Rattle.reader.specs.Inline.{unitToken, keyToken, fieldToken, isInline, inlineAt}
 use Rattle.reader.specs.Sounds.{chordTaken, chordAt, restAs, noteAs, noteAfter, noteOf}
 use Rattle.reader.specs.Tokens.{closedBy, brokenOf, bracketOf, Class, white, ampersand, quote, more, less, paren, braceOpen, braceClose, bang, plus, bars, bracket, pitched, none-of-these, resting, classOf, tokenAs, tokenOf, tokens, Effect, counts, refuses, setsUnit, setsMeter, noEffect, effectOf, effects}
@@ -32,7 +33,7 @@ use Rattle.reader.specs.Scan.{mostNotes, noteCount, firstRefusal}
 use Rattle.reader.proofs.TokenLaws.{tokens-at}
 use Rattle.bounds.specs.Ranges.{TokenFits}
 use Rattle.bounds.proofs.TokenRanges.{token-fits}
-use Rattle.promises.specs.Refusals.{bracketed, passText, TokenMeets, middle-inline, octave-note, octave-chord, many-more, many-less, no-list, Here, token, note, InMusic}
+use Rattle.promises.specs.Refusals.{bracketed, passItems, TokenMeets, middle-inline, octave-note, octave-chord, many-more, many-less, list-shape, list-range, list-rise, Here, token, note, InMusic}
 
 -- A TOKEN THAT IS REFUSED MEETS ITS NUMBER'S CONDITION
 -- what an effect of a token at the front of s says: of a refusal, that its condition is met

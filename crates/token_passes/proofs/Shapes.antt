@@ -10,7 +10,7 @@ use lib.ListN.{length, getD, drop}
 use borrow.Author.Tests.{le-leb, eq-eqb, ne-eqb, eqb-true}
 use Rattle.laws.specs.Lists.{all, isNil}
 use Rattle.laws.specs.Spans.{run, endOf}
-use Rattle.laws.proofs.Bools.{by-test, and-true, and-left}
+use Rattle.laws.proofs.Bools.{by-test, and-true, and-left, and-assoc}
 use Rattle.standard.specs.Bytes.{is, isDigit, first, decimal}
 use Rattle.standard.specs.Passes.{Item, pass, passes}
 use Rattle.reader.specs.Pieces.{pieces, separator}
@@ -21,7 +21,7 @@ use Rattle.text_numbers.specs.declared.Digits.{Digits}
 use Rattle.text_numbers.specs.declared.Digits.the-variants.{Nothing, Value, Past}
 use Rattle.text_numbers.specs.Digits.{written}
 use Rattle.token_passes.specs.Passes.{isItemByte}
-use Rattle.token_passes.specs.Faults.{numberFor, writtenAt, writtenFor, listAt, faultAfter}
+use Rattle.token_passes.specs.Faults.{numberFor, writtenAt, writtenFor, listAt}
 use Rattle.token_passes.specs.declared.Written.{Written}
 use Rattle.token_passes.specs.declared.Written.the-variants.{Shaped, Misshapen}
 use Rattle.token_passes.proofs.Cuts.{pieces-on, pieces-last}
@@ -151,53 +151,57 @@ module _ (line : List ℕ) (i e : ℕ) (k : e ≡ endOf isItemByte line i) where
   unfolding consItem
   no-list n = by-test (is "," (getD line e 0)) (λ m. list-on m ∙ rw n) (λ m. list-last m ∙ rw n)
 
--- THE LOOP of `list_fault`: the refusal so far, with the list to come
-unfoldable pub faultWith : ℕ → Option (List Item) → ℕ
-faultWith fault none = 14
-faultWith fault (some is) = cond (all isPass (numbersIn is)) fault 17
+-- THE LOOP of `list_fault`
+abbrev pub rangeOrRise : Bool → ℕ
+rangeOrRise r = cond r 18 17
 
-pub record Faulting (line : List ℕ) (at fault i : ℕ) : Type 0 where
-  pub same : faultWith fault (listAt line i) ≡ listFault (listAt line at)
+-- whether the numbers so far are in range, with the list to come
+unfoldable pub faultWith : Bool → Option (List Item) → ℕ
+faultWith r none = 14
+faultWith r (some is) = rangeOrRise (r && all isPass (numbersIn is))
 
-fault-18 : (o : Option (List Item)) → faultWith 18 o ≡ listFault o
+pub record Faulting (line : List ℕ) (at : ℕ) (r : Bool) (i : ℕ) : Type 0 where
+  pub same : faultWith r (listAt line i) ≡ listFault (listAt line at)
+
+fault-start : (o : Option (List Item)) → faultWith true o ≡ listFault o
 unfolding faultWith listFault
-fault-18 none = refl
-fault-18 (some is) = refl
+fault-start none = refl
+fault-start (some is) = refl
 
-pub faulting-start : (line : List ℕ) (at : ℕ) → Faulting line at 18 at
-faulting-start line at = record { same = fault-18 (listAt line at) }
+pub faulting-start : (line : List ℕ) (at : ℕ) → Faulting line at true at
+faulting-start line at = record { same = fault-start (listAt line at) }
 
 -- an item in front
-three : (x y A : Bool) (f : ℕ) → cond (x && (y && A)) f 17 ≡ cond A (cond (x && (y && true)) f 17) 17
-three true true A f = refl
-three true false true f = refl
-three true false false f = refl
-three false y true f = refl
-three false y false f = refl
+item-first : (i : Item) (ts : List Item) → all isPass (numbersIn (i ∷ ts)) ≡ (all isPass (numbersIn (i ∷ [])) && all isPass (numbersIn ts))
+unfolding numbersIn
+item-first (pass a) ts = rw (and-true (isPass a))
+item-first (passes a b) ts = rw (and-true (isPass b)) (sym (and-assoc (isPass a) (isPass b) (all isPass (numbersIn ts))))
 
-fault-item : (f : ℕ) (i : Item) (o : Option (List Item)) → faultWith f (consItem (some i) o) ≡ faultWith (faultAfter f (all isPass (numbersIn (i ∷ [])))) o
-unfolding faultWith consItem numbersIn
-fault-item f i none = refl
-fault-item f (pass a) (some ts) = three true (isPass a) (all isPass (numbersIn ts)) f
-fault-item f (passes a b) (some ts) = three (isPass a) (isPass b) (all isPass (numbersIn ts)) f
+fault-item : (r : Bool) (i : Item) (o : Option (List Item)) → faultWith r (consItem (some i) o) ≡ faultWith (r && all isPass (numbersIn (i ∷ []))) o
+unfolding faultWith consItem
+fault-item r i none = refl
+fault-item r i (some ts) = ap rangeOrRise (ap (λ b. r && b) (item-first i ts) ∙ sym (and-assoc r (all isPass (numbersIn (i ∷ []))) (all isPass (numbersIn ts))))
 
-module _ (line : List ℕ) (at fault i : ℕ) (g : Faulting line at fault i) where
+module _ (line : List ℕ) (at : ℕ) (r : Bool) (i : ℕ) (g : Faulting line at r i) where
   pub faulting-none : writtenAt line i ≡ none → 14 ≡ listFault (listAt line at)
   unfolding faultWith
-  faulting-none n = sym (ap (faultWith fault) (no-list line i (endOf isItemByte line i) refl n)) ∙ g .same
+  faulting-none n = sym (ap (faultWith r) (no-list line i (endOf isItemByte line i) refl n)) ∙ g .same
 
-  module _ (x : Item) (w : writtenAt line i ≡ some x) (next : ℕ) (k : next ≡ endOf isItemByte line i) (f : ℕ) (p : f ≡ faultAfter fault (all isPass (numbersIn (x ∷ [])))) where
-    pub faulting-last : (getD line next 0 ≡ 44 → ⊥) → f ≡ listFault (listAt line at)
+  module _ (x : Item) (w : writtenAt line i ≡ some x) (next : ℕ) (k : next ≡ endOf isItemByte line i) (q : Bool) (p : q ≡ (r && all isPass (numbersIn (x ∷ [])))) where
+    -- the last item
+    pub faulting-last : (getD line next 0 ≡ 44 → ⊥) → rangeOrRise q ≡ listFault (listAt line at)
     unfolding faultWith numbersIn
     faulting-last n =
         let m : is "," (getD line next 0) ≡ false = ne-eqb _ 44 n in
-        p ∙ sym (fault-item fault x (some [])) ∙ ap (λ o. faultWith fault (consItem o (some []))) (sym w) ∙ ap (faultWith fault) (sym (list-last line i next k m)) ∙ g .same
+        ap rangeOrRise (p ∙ sym (and-true (r && all isPass (numbersIn (x ∷ []))))) ∙ sym (fault-item r x (some [])) ∙ ap (λ o. faultWith r (consItem o (some []))) (sym w)
+        ∙ ap (faultWith r) (sym (list-last line i next k m)) ∙ g .same
 
-    pub faulting-on : getD line next 0 ≡ 44 → Faulting line at f (next + 1)
+    -- another item
+    pub faulting-on : getD line next 0 ≡ 44 → Faulting line at q (next + 1)
     faulting-on n =
         let m : is "," (getD line next 0) ≡ true = eq-eqb _ 44 n in
         record {
           same =
-              ap (λ y. faultWith y (listAt line (next + 1))) p ∙ sym (fault-item fault x (listAt line (next + 1)))
-              ∙ ap (λ o. faultWith fault (consItem o (listAt line (next + 1)))) (sym w) ∙ ap (faultWith fault) (sym (list-on line i next k m)) ∙ g .same;
+              ap (λ y. faultWith y (listAt line (next + 1))) p ∙ sym (fault-item r x (listAt line (next + 1)))
+              ∙ ap (λ o. faultWith r (consItem o (listAt line (next + 1)))) (sym w) ∙ ap (faultWith r) (sym (list-on line i next k m)) ∙ g .same;
         }

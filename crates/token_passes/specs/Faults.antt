@@ -1,6 +1,5 @@
 -- What is well shaped, and a list's refusal, as the code has them.
 use Prim.Native.Nat.{ℕ}
-use mathlib.Core.Bool.{Bool, cond}
 use mathlib.Core.Option.{Option, none, some}
 use mathlib.Core.List.{List, [], _∷_}
 use lib.ListN.{drop}
@@ -31,7 +30,3 @@ writtenFor next (some i) = Shaped (all isPass (numbersIn (i ∷ []))) next
 -- the list at a position
 unfoldable pub listAt : List ℕ → ℕ → Option (List Item)
 listAt line at = listItems (pieces (separator (is ",")) 0 (run isPassByte (drop at line)))
-
--- the refusal so far with another item
-abbrev pub faultAfter : ℕ → Bool → ℕ
-faultAfter fault inRange = cond inRange fault 17

@@ -1,7 +1,7 @@
 -- `token_passes::written_item` meets its contract.
 use Prim.Native.Nat.{ℕ, _+_}
-use mathlib.Core.Path.{_≡_, refl, sym, ap, ap₂, _∙_}
-use mathlib.Core.Bool.{Bool, true, false, _&&_}
+use mathlib.Core.Path.{_≡_, refl, sym, ap₂, _∙_}
+use mathlib.Core.Bool.{_&&_}
 use mathlib.Core.Option.{some}
 use mathlib.Core.List.{List}
 use native.Mathlib.Omega.{arith}
@@ -12,9 +12,6 @@ use Rattle.laws.specs.Spans.{run, endOf}
 use Rattle.laws.proofs.Spans.{run-within}
 use Rattle.standard.specs.Bytes.{isDigit}
 use Rattle.reader.specs.PassLists.{listNumber, isPass}
-use Rattle.token_passes.specs.Passes.{isItemByte}
-use Rattle.token_passes.specs.Faults.{writtenAt, writtenFor}
-use Rattle.token_passes.specs.declared.Written.the-variants.{Shaped}
 use Rattle.token_passes.proofs.Shapes.{number-none, number-some, shaped-not-first, shaped-one, shaped-not-second, shaped-no-third, shaped-two}
 use borrow.Author.Needs.{needs}
 use Rattle.token_passes.proofs.written_item.Statement.{statement}
@@ -75,22 +72,13 @@ returns-4 c =
     let q = first p in
     shaped-no-third (text p) (place p) _ (q .3) _ (q .1) (hyphen e) _ (second s .3) _ (sym (c .before .byte-at2 .ensures) ∙ c .if2 .taken)
 
--- two numbers, whatever they say of the range
-two : (c : tie.Else2) (r : Bool) → r ≡ (of-second (c .before .before .before) .first-in-range .given .0 .0 && c .before .before .before .second-in-range .given .0 .0)
-    → Shaped r (c .before .before .before .second-in-range .given .0 .1 .0)
-    ≡ writtenFor (endOf isItemByte (text (of-second (c .before .before .before))) (place (of-second (c .before .before .before)))) (writtenAt (text (of-second (c .before .before .before))) (place (of-second (c .before .before .before))))
-two c r h =
-    let s = c .before .before .before in
+returns-5 : tie.Need-returns-5
+returns-5 c =
+    let s = c .before .before .before .before in
     let p = of-second s in
     let q = first p in
     let w = second s in
-    shaped-two (text p) (place p) _ (q .3) _ (q .1) (hyphen (s .before .before .before)) _ (w .3) _ (w .1) r (h ∙ ap₂ _&&_ (q .2) (w .2)) (λ k. c .if2 .left (c .before .byte-at2 .ensures ∙ k))
-
-returns-5 : tie.Need-returns-5
-returns-5 c = two (c .before) _ (sym (ap (λ b. b && c .before .before .before .before .second-in-range .given .0 .0) (c .if3 .taken)))
-
-returns-6 : tie.Need-returns-6
-returns-6 c = two (c .before) _ (c .if3 .left ∙ sym (ap (λ b. b && c .before .before .before .before .second-in-range .given .0 .0) (c .if3 .left)))
+    shaped-two (text p) (place p) _ (q .3) _ (q .1) (hyphen (s .before .before .before)) _ (w .3) _ (w .1) _ (c .both .ensures ∙ ap₂ _&&_ (q .2) (w .2)) (λ k. c .before .if2 .left (c .before .before .byte-at2 .ensures ∙ k))
 
 pub written-item-spec : {M : Type 1} → statement M
 written-item-spec =
@@ -109,5 +97,5 @@ written-item-spec =
     returns-3
     (λ c κs. search needs)
     returns-4
-    returns-5
-    returns-6)
+    (λ c κs. search needs)
+    returns-5)
