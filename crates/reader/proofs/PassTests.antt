@@ -7,14 +7,15 @@ use mathlib.Core.Option.{Option, none, some}
 use mathlib.Core.List.{List, [], _∷_, _++_}
 use native.Mathlib.Omega.{arith}
 use lib.Dec.{leb, ltb, eqb}
-use lib.ListN.{length}
+use lib.ListN.{length, take}
 use borrow.Author.Tests.{leb-true, leb-false, le-leb, ne-eqb, eqb-true, eqb-false}
-use Rattle.laws.specs.Lists.{all, isNil}
+use Rattle.laws.specs.Lists.{all, isNil, countWhile}
 use Rattle.laws.proofs.Bools.{by-test, and-left, and-right, and-assoc}
 use Rattle.standard.specs.Bytes.{is, isDigit, first, decimal, digits}
 use Rattle.standard.specs.Passes.{Item, pass, passes, passesOf}
 use Rattle.reader.specs.Pieces.{pieces, separator}
-use Rattle.reader.specs.PassLists.{isNumber, listNumber, oneNumber, twoNumbers, listItem, consItem, listItems, numbersIn, isPass, riseAbove, rise, passesIn, Listed, listed, faulty, tested}
+use Rattle.reader.specs.Token.{Taken, taken, refused}
+use Rattle.reader.specs.PassLists.{isNumber, listNumber, oneNumber, twoNumbers, listItem, consItem, listItems, numbersIn, isPass, riseAbove, rise, passesIn, Listed, listed, faulty, tested, isPassByte, voltaAs, voltaOf}
 use Rattle.reader.specs.PassesInTurn.{passNumber, single, range, itemOf, lastPass, inTurn, passList, listFault, orFaulty}
 
 -- A NUMBER is read in turn if it is well shaped and in range
@@ -190,3 +191,26 @@ pub still-refused : (xs : List (List ℕ)) → passList 0 xs ≡ none → (k : �
 unfolding orFaulty
 still-refused xs e =
     (listFault (listItems xs), (tests-in-turn xs ∙ ap (λ o. orFaulty o (listFault (listItems xs))) e, three-faults (listItems xs)))
+
+-- THE TOKEN: an ending is read as it was; or it was refused with 14 and is refused with 17 or 18, and takes the rest of the line as it did
+abbrev pub voltaInTurn : List ℕ → Taken
+voltaInTurn s = let n = countWhile isPassByte s in voltaAs n s (orFaulty (passList 0 (pieces (separator (is ",")) 0 (take n s))) 14)
+
+abbrev pub Refused : List ℕ → ℕ → Taken → Type 0
+Refused s k t = t ≡ taken (refused k) (suc (length s))
+
+module _ (n : ℕ) (s : List ℕ) where
+  ending-stays : (o : Option (List ℕ)) (k : ℕ) → (k ≡ 14) ⊎ ((k ≡ 17) ⊎ (k ≡ 18))
+      → (voltaAs n s (orFaulty o k) ≡ voltaAs n s (orFaulty o 14)) ⊎ (Refused s 14 (voltaAs n s (orFaulty o 14)) × (Refused s 17 (voltaAs n s (orFaulty o k)) ⊎ Refused s 18 (voltaAs n s (orFaulty o k))))
+  unfolding orFaulty voltaAs
+  ending-stays (some ps) k h = inl refl
+  ending-stays none k (inl e) = inl (rw e)
+  ending-stays none k (inr (inl e)) = inr (refl, inl (rw e))
+  ending-stays none k (inr (inr e)) = inr (refl, inr (rw e))
+
+pub endings-stay : (s : List ℕ) → (voltaOf s ≡ voltaInTurn s) ⊎ (Refused s 14 (voltaInTurn s) × (Refused s 17 (voltaOf s) ⊎ Refused s 18 (voltaOf s)))
+unfolding voltaOf
+endings-stay s =
+    let n = countWhile isPassByte s in
+    let xs = pieces (separator (is ",")) 0 (take n s) in
+    rw (tests-in-turn xs) (ending-stays n s (passList 0 xs) (listFault (listItems xs)) (three-faults (listItems xs)))
