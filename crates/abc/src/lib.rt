@@ -41,5 +41,5 @@ pub extern "C" fn abc_parse(text: &[u8], reading: &mut [u8], scratch: &mut [u8])
 pub extern "C" fn abc_version() -> u64
     ensures { λ r. ⌜ r ≡ version ⌝ }
 {
-    1000
+    2000
 }

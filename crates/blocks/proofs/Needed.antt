@@ -254,7 +254,7 @@ pub ended-needed : Differ open-end (rebuilt open-end open-end-moved)
 unfolding all
 ended-needed = differ open-end (rebuilt open-end open-end-moved) refl
 
--- A TEXT THAT IS NOT ACCEPTED: what is refused first, the pass list (14) or the X: line (7), is the order's
+-- A TEXT THAT IS NOT ACCEPTED: what is refused first, the pass list (17) or the X: line (7), is the order's
 abbrev pub refused : List ℕ
 refused = ascii "V:1\nV:2\nK:\nV:1\n[0\nV:2\nX:1\n"
 
@@ -282,7 +282,7 @@ number (reading ps) = 0
 
 pub accepted-needed : parseAbc refused 200 10000 .verdict ≡ parseAbc (rebuilt refused refused-moved) 200 10000 .verdict → ⊥
 unfolding all
-accepted-needed h = let z : _≡_ {A = ℕ} 14 7 = ap number h in omega (arith, z)
+accepted-needed h = let z : _≡_ {A = ℕ} 17 7 = ap number h in omega (arith, z)
 
 -- A VOICE'S OWN BLOCKS NOT KEPT IN ORDER: all that is supposed of the text holds, and the new blocks are the old ones in another order
 abbrev pub own-order : List ℕ

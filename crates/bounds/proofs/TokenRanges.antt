@@ -23,11 +23,13 @@ use Rattle.reader.specs.Pitches.{octaveFrom, octaveOf, Before, signs, accidenta
 use Rattle.reader.specs.Token.{Token, quoted, decoration, skipped, Taken, taken}
 use Rattle.reader.specs.Tuplets.{notZero, positive, orOneLess, normalFor, counted, withCount, withNormal, withActual, tupletOf, orSlur}
 use Rattle.reader.specs.Barlines.{barlineAs, barlineOf}
-use Rattle.reader.specs.PassLists.{passNumber, single, range, itemOf, lastPass, inTurn, isPassByte, passList, voltaAs, voltaOf}
+use Rattle.reader.specs.PassLists.{listItems, numbersIn, isPass, Listed, listed, faulty, tested, isPassByte, voltaAs, voltaOf}
+use Rattle.reader.specs.PassesInTurn.{passNumber, single, range, itemOf, lastPass, inTurn, passList, listFault, orFaulty}
+use Rattle.reader.proofs.PassTests.{tests-in-turn}
 use Rattle.reader.specs.Inline.{unitToken, keyToken, fieldToken, isInline, inlineAt}
 use Rattle.reader.specs.Sounds.{chordTaken, chordAt, restAs, noteAs, noteAfter, noteOf}
 use Rattle.reader.specs.Tokens.{closedBy, brokenOf, bracketOf, Class, white, ampersand, quote, more, less, paren, braceOpen, braceClose, bang, plus, bars, bracket, pitched, none-of-these, resting, classOf, tokenAs, tokenOf, tokens}
-use Rattle.bounds.specs.Ranges.{MeterFits, PassesFit, SignFits, WrittenFits, TokenFits}
+use Rattle.bounds.specs.Ranges.{MeterFits, PassesFit, SignFits, WrittenFits, LineRefusal, TokenFits}
 
 -- NUMBERS
 -- a number that is read is at most what may be read
@@ -156,6 +158,24 @@ list-fits low [] = tt
 list-fits low (x ∷ xs) =
     let i = itemOf low (pieces (separator (is "-")) 0 x) in
     turn-fits low i (passList (lastPass low i) xs) (item-above low (pieces (separator (is "-")) 0 x)) (list-fits (lastPass low i) xs)
+
+-- a list that is read, or the number of its refusal
+unfoldable ListedFits : Listed → Type 0
+ListedFits (listed ps) = PassesFit 0 ps
+ListedFits (faulty k) = LineRefusal k
+
+listed-by : (o : Option (List ℕ)) (k : ℕ) → ListFits 0 o → LineRefusal k → ListedFits (orFaulty o k)
+unfolding orFaulty ListFits ListedFits
+listed-by none k h f = f
+listed-by (some ps) k h f = h
+
+fault-fits : (os : Option (List Item)) → LineRefusal (listFault os)
+unfolding listFault
+fault-fits none = tt
+fault-fits (some ts) = by-test (all isPass (numbersIn ts)) (λ h. rw h tt) (λ h. rw h tt)
+
+listed-fits : (xs : List (List ℕ)) → ListedFits (tested (listItems xs))
+listed-fits xs = rw (tests-in-turn xs) (listed-by (passList 0 xs) (listFault (listItems xs)) (list-fits 0 xs) (fault-fits (listItems xs)))
 
 -- TUPLETS
 zero-most : (top : ℕ) (o : Option ℕ) → Most top o → Most top (notZero o)
@@ -376,10 +396,10 @@ barline-fits s none = tt
 barline-fits s (some x) = tt
 
 -- an ending
-volta-fits : (n : ℕ) (s : List ℕ) (o : Option (List ℕ)) → ListFits 0 o → TokenFits (voltaAs n s o .token)
-unfolding voltaAs ListFits TokenFits
-volta-fits n s none h = tt
-volta-fits n s (some ps) h = h
+volta-fits : (n : ℕ) (s : List ℕ) (o : Listed) → ListedFits o → TokenFits (voltaAs n s o .token)
+unfolding voltaAs ListedFits TokenFits
+volta-fits n s (faulty k) h = h
+volta-fits n s (listed ps) h = h
 
 -- an inline L
 unit-fits : (o : Option ℕ) → TokenFits (unitToken o)
@@ -411,7 +431,7 @@ bracket-fits s =
     let n = countWhile isPassByte s in
     let xs = pieces (separator (is ",")) 0 (take n s) in
     by-test (isDigit (first s))
-    (λ e. rw (e, bracketOf) (volta-fits n s (passList 0 xs) (list-fits 0 xs)))
+    (λ e. rw (e, bracketOf) (volta-fits n s (tested (listItems xs)) (listed-fits xs)))
     (λ e. rw (e, bracketOf)
     (by-test (isInline s) (λ f. rw (f, bracketOf) (field-fits (take (countWhile (λ c. not (is "]" c)) s) s))) (λ f. rw (f, bracketOf) (chordAt-fits s))))
 

@@ -11,7 +11,7 @@ use Rattle.laws.proofs.Bools.{by-test}
 use Rattle.standard.specs.Bytes.{is, isDigit, first}
 use Rattle.reader.specs.Token.{Token, Taken}
 use Rattle.reader.specs.Tuplets.{positive, counted, withCount, withNormal, withActual, tupletOf, orSlur}
-use Rattle.reader.specs.PassLists.{voltaAs}
+use Rattle.reader.specs.PassLists.{Listed, listed, faulty, voltaAs}
 use Rattle.reader.specs.Inline.{unitToken, keyToken, fieldToken}
 use Rattle.reader.specs.Fields.{unitInline, middleWord}
 use Rattle.reader.specs.Tokens.{closedBy, brokenOf}
@@ -72,10 +72,10 @@ unfolding tupletOf
 tuplet-free s = slur-free (tupletOf s) (actual-free (1 + countWhile isDigit s) (drop (countWhile isDigit s) s) (positive 255 s))
 
 -- an ending
-pub volta-free : (n : ℕ) (s : List ℕ) (o : Option (List ℕ)) → Makes-nothing (voltaAs n s o)
+pub volta-free : (n : ℕ) (s : List ℕ) (o : Listed) → Makes-nothing (voltaAs n s o)
 unfolding voltaAs
-volta-free n s none = refl
-volta-free n s (some ps) = refl
+volta-free n s (faulty k) = refl
+volta-free n s (listed ps) = refl
 
 unit-free : (o : Option ℕ) → makes (unitToken o) ≡ none-made
 unfolding unitToken

@@ -19,11 +19,10 @@ use Rattle.standard.specs.Bytes.{is, isDigit, first}
 use Rattle.standard.specs.Bars.{Symbol, barSymbols, symbolAt}
 use Rattle.standard.specs.Pitches.{Accidental, Written, isLetter}
 use Rattle.reader.specs.Lengths.{lengthOf}
-use Rattle.reader.specs.Pieces.{pieces, separator}
 use Rattle.reader.specs.Pitches.{Octave, octaveOf, Before, signs, accidentalOf, natural, quarterTone, added, isQuarter, consPitch, chordOf}
 use Rattle.reader.specs.Token.{quoted, decoration, skipped, Taken, taken}
 use Rattle.reader.specs.Barlines.{barlineAs, barlineOf}
-use Rattle.reader.specs.PassLists.{isPassByte, passList, voltaAs, voltaOf}
+use Rattle.reader.specs.PassLists.{isPassByte, listOf, voltaAs, voltaOf}
 use Rattle.reader.specs.Inline.{isInline, inlineAt}
 use Rattle.reader.specs.Sounds.{behind, chordTaken, chordAt, restAs, noteAs, noteAfter, noteOf}
 use Rattle.reader.specs.Tokens.{bracketOf, Class, white, ampersand, quote, more, less, paren, braceOpen, braceClose, bang, plus, bars, bracket, pitched, none-of-these, resting, classes, classIn, classOf, tokenAs, tokenOf}
@@ -263,7 +262,7 @@ module _ (p : Weights) (enough : Covered p) where
   unfolding bracketOf voltaOf inlineAt
   bracket-covered c s =
       let n = countWhile isPassByte s in
-      let ps = passList 0 (pieces (separator (is ",")) 0 (take n s)) in
+      let ps = listOf (take n s) in
       by-test (isDigit (first s))
       (λ e. rw (e, bracketOf) (free (voltaAs n s ps) (c ∷ s) (volta-free n s ps)))
       (λ e. rw (e, bracketOf)

@@ -41,6 +41,14 @@ pub refused-13 : answered (ascii "L:1/8\nK:C\nA>>>>>>>>>>>>>>>>>>>>>>>>>>>>>>>>>
 unfolding all
 refused-13 = refl
 
-pub refused-14 : answered (ascii "L:1/8\nK:C\nA|[1,3-2B") 1000 ≡ 0 ∷ 14 ∷ 3 ∷ []
+pub refused-14 : answered (ascii "L:1/8\nK:C\nA|[1,02B") 1000 ≡ 0 ∷ 14 ∷ 3 ∷ []
 unfolding all
 refused-14 = refl
+
+pub refused-17 : answered (ascii "L:1/8\nK:C\nA|[1,33B") 1000 ≡ 0 ∷ 17 ∷ 3 ∷ []
+unfolding all
+refused-17 = refl
+
+pub refused-18 : answered (ascii "L:1/8\nK:C\nA|[1,3-2B") 1000 ≡ 0 ∷ 18 ∷ 3 ∷ []
+unfolding all
+refused-18 = refl

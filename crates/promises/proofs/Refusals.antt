@@ -26,7 +26,7 @@ use Rattle.blocks.proofs.Instance.{reader}
 use Rattle.blocks.proofs.Runs.{run-of, run-lines}
 use Rattle.blocks.specs.Demand.{IsReading}
 use Rattle.promises.specs.Refusals.{partsAfter, InMusic, MusicLine, Why, many-lines, long-line, high-field, high-music, second-tune, no-identifier, many-voices, middle-V, middle-K, in-music, First, At, Begins, Reason, long-text, not-utf8, blank-text, short-scratch, at-line, no-measure, short-reading}
-use Rattle.promises.proofs.TokenRefusals.{first-why, music-meets, music-range}
+use Rattle.promises.proofs.TokenRefusals.{first-why, music-meets, To14Or17Or18, music-range}
 
 -- a refusal is told by its number and line
 number-of : Out → ℕ
@@ -535,21 +535,21 @@ pub read-meets-none : (text : List ℕ) (rl sl : ℕ) → IsReading (parseAbc te
 unfolding refusedWith
 read-meets-none text rl sl h n l r = subst (λ (w : Outcome). IsReading (w .verdict)) (under-its-condition text rl sl n l r) h
 
--- "a line from 1 (0 for 1, 2, 3, 15, 16 ..)": 4 to 14 have a line, the others none; and there is no other number
-condition-range : (s : ScanState) (l : List ℕ) (n : ℕ) → Why s l n → (4 ≤ n) × (n ≤ 14)
-condition-range s l n (many-lines h) = (omega arith, omega arith)
-condition-range s l n (long-line h) = (omega arith, omega arith)
-condition-range s l n (high-field f h) = (omega arith, omega arith)
-condition-range s l n (high-music f h) = (omega arith, omega arith)
-condition-range s l n (second-tune b x) = (omega arith, omega arith)
-condition-range s l n (no-identifier v i) = (omega arith, omega arith)
-condition-range s l n (many-voices v e h) = (omega arith, omega arith)
-condition-range s l n (middle-V v m) = (omega arith, omega arith)
-condition-range s l n (middle-K v m) = (omega arith, omega arith)
+-- "a line from 1 (0 for 1, 2, 3, 15, 16 ..)": 4 to 14, 17 and 18 have a line, the others none; and there is no other number
+condition-range : (s : ScanState) (l : List ℕ) (n : ℕ) → Why s l n → (4 ≤ n) × To14Or17Or18 n
+condition-range s l n (many-lines h) = (omega arith, inl (omega arith))
+condition-range s l n (long-line h) = (omega arith, inl (omega arith))
+condition-range s l n (high-field f h) = (omega arith, inl (omega arith))
+condition-range s l n (high-music f h) = (omega arith, inl (omega arith))
+condition-range s l n (second-tune b x) = (omega arith, inl (omega arith))
+condition-range s l n (no-identifier v i) = (omega arith, inl (omega arith))
+condition-range s l n (many-voices v e h) = (omega arith, inl (omega arith))
+condition-range s l n (middle-V v m) = (omega arith, inl (omega arith))
+condition-range s l n (middle-K v m) = (omega arith, inl (omega arith))
 condition-range s l n (in-music f q) = let r = music-range (s .notes) n l q in (omega (arith, r .0), r .1)
 
 abbrev pub NumberAndLine : ℕ → ℕ → Type 0
-NumberAndLine n l = ((4 ≤ n) × ((n ≤ 14) × (1 ≤ l))) ⊎ ((l ≡ 0) × ((n ≡ 1) ⊎ ((n ≡ 2) ⊎ ((n ≡ 3) ⊎ ((n ≡ 15) ⊎ (n ≡ 16))))))
+NumberAndLine n l = ((4 ≤ n) × (To14Or17Or18 n × (1 ≤ l))) ⊎ ((l ≡ 0) × ((n ≡ 1) ⊎ ((n ≡ 2) ⊎ ((n ≡ 3) ⊎ ((n ≡ 15) ⊎ (n ≡ 16))))))
 
 reason-line : (text : List ℕ) (rl sl n l : ℕ) → Reason text rl sl n l → NumberAndLine n l
 reason-line text rl sl n l (long-text h) = inr (refl, inr (inl refl))

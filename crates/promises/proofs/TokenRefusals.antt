@@ -1,6 +1,7 @@
 -- WHAT A MUSIC LINE IS REFUSED FOR: a token is refused by a number just where it meets that number's condition, and a line by the first that is met.
 use Prim.Native.Nat.{ℕ, zero, suc, _+_, _≤_, _<_, pred}
 use mathlib.Core.Path.{_≡_, refl, sym, ap, subst, _∙_}
+use mathlib.Core.Logic.{_⊎_, inl, inr}
 use mathlib.Core.Bool.{Bool, true, false, cond, not, _&&_, _||_, false≢true}
 use mathlib.Core.Option.{Option, none, some}
 use mathlib.Core.List.{List, [], _∷_, _++_, map}
@@ -9,21 +10,21 @@ use native.Mathlib.Nat.{add-zero}
 use lib.Dec.{eqb, leb, ltb}
 use lib.ListN.{length, take, drop}
 use borrow.Author.Tests.{eqb-true, ltb-true, ltb-false, lt-ltb, le-ltb}
-use Rattle.laws.specs.Lists.{countWhile, any}
+use Rattle.laws.specs.Lists.{countWhile, any, all}
 use Rattle.laws.proofs.Bools.{by-test, both-true, and-left, and-right, and-both}
 use Rattle.laws.proofs.Lists.{map-append}
 use Rattle.laws.proofs.Spans.{count-while-no, count-while-yes}
 use Rattle.standard.specs.Bytes.{is, isDigit, first}
 use Rattle.standard.specs.Fields.{Meter}
 use Rattle.standard.specs.Pitches.{Written, Accidental, isLetter}
+use Rattle.standard.specs.Passes.{Item}
 use Rattle.standard.specs.Bars.{Symbol, barSymbols, symbolAt}
-use Rattle.reader.specs.Pieces.{pieces, separator}
 use Rattle.reader.specs.Fields.{meterOf, unitInline, middleWord}
 use Rattle.reader.specs.Pitches.{Before, octaveOf, accidentalOf, isQuarter, quarterTone, added, natural, consPitch, chordOf}
 use Rattle.reader.specs.Token.{Token, quoted, decoration, skipped, tuplet, Taken, taken, refused}
 use Rattle.reader.specs.Tuplets.{positive, normalFor, counted, withCount, withNormal, withActual, tupletOf, orSlur}
 use Rattle.reader.specs.Barlines.{barlineAs, barlineOf}
-use Rattle.reader.specs.PassLists.{isPassByte, passList, voltaAs, voltaOf}
+use Rattle.reader.specs.PassLists.{numbersIn, isPass, rise, tested, isPassByte, voltaAs, voltaOf}
 use Rattle.reader.specs.Inline.{unitToken, keyToken, fieldToken, isInline, inlineAt}
 use Rattle.reader.specs.Sounds.{chordTaken, chordAt, restAs, noteAs, noteAfter, noteOf}
 use Rattle.reader.specs.Tokens.{closedBy, brokenOf, bracketOf, Class, white, ampersand, quote, more, less, paren, braceOpen, braceClose, bang, plus, bars, bracket, pitched, none-of-these, resting, classOf, tokenAs, tokenOf, tokens, Effect, counts, refuses, setsUnit, setsMeter, noEffect, effectOf, effects}
@@ -32,7 +33,7 @@ use Rattle.reader.specs.Scan.{mostNotes, noteCount, firstRefusal}
 use Rattle.reader.proofs.TokenLaws.{tokens-at}
 use Rattle.bounds.specs.Ranges.{TokenFits}
 use Rattle.bounds.proofs.TokenRanges.{token-fits}
-use Rattle.promises.specs.Refusals.{bracketed, passText, TokenMeets, middle-inline, octave-note, octave-chord, many-more, many-less, no-list, Here, token, note, InMusic}
+use Rattle.promises.specs.Refusals.{bracketed, passItems, TokenMeets, middle-inline, octave-note, octave-chord, many-more, many-less, list-shape, list-range, list-rise, Here, token, note, InMusic}
 
 -- A TOKEN THAT IS REFUSED MEETS ITS NUMBER'S CONDITION
 -- what an effect of a token at the front of s says: of a refusal, that its condition is met
@@ -141,17 +142,21 @@ chord-told s n r (some []) h = tt
 chord-told s n r (some (w ∷ ws)) h = tt
 
 -- an ending
-list-told : (s : List ℕ) (n : ℕ) (r : List ℕ) (o : Option (List ℕ)) → (o ≡ none → TokenMeets s 14) → Told s (effectOf (voltaAs n r o .token))
-unfolding voltaAs Told effectOf
-list-told s n r none h = h refl
-list-told s n r (some ps) h = tt
+list-told : (s : List ℕ) (n : ℕ) (r : List ℕ) (o : Option (List Item)) → (o ≡ none → TokenMeets s 14)
+    → ((is : List Item) → o ≡ some is → all isPass (numbersIn is) ≡ false → TokenMeets s 17)
+    → ((is : List Item) → o ≡ some is → all isPass (numbersIn is) ≡ true → rise (numbersIn is) ≡ false → TokenMeets s 18) → Told s (effectOf (voltaAs n r (tested o) .token))
+unfolding tested voltaAs Told effectOf
+list-told s n r none h g f = h refl
+list-told s n r (some is) h g f =
+    by-test (all isPass (numbersIn is)) (λ a. rw (a, tested) (by-test (rise (numbersIn is)) (λ b. rw (b, tested) tt) (λ b. rw (b, tested) (f is refl a b))))
+    (λ a. rw (a, tested) (g is refl a))
 
 -- what a `[` begins; r stands behind it
 bracket-told : (s : List ℕ) → classOf (first s) ≡ bracket → Told s (effectOf (bracketOf (drop 1 s) .token))
 unfolding bracketOf voltaOf inlineAt chordAt
 bracket-told s k =
     by-test (isDigit (first (drop 1 s)))
-    (λ e. rw (e, bracketOf) (list-told s (countWhile isPassByte (drop 1 s)) (drop 1 s) (passList 0 (pieces (separator (is ",")) 0 (passText (drop 1 s)))) (no-list k e)))
+    (λ e. rw (e, bracketOf) (list-told s (countWhile isPassByte (drop 1 s)) (drop 1 s) (passItems (drop 1 s)) (list-shape k e) (λ ts. list-range ts k e) (λ ts. list-rise ts k e)))
     (λ e. rw (e, bracketOf)
     (by-test (isInline (drop 1 s)) (λ f. rw (f, bracketOf) (field-told s (bracketed (drop 1 s)) (middle-inline k f)))
     (λ f. rw (f, bracketOf)
@@ -213,14 +218,16 @@ field-refused (x ∷ (y ∷ r)) k m =
     rw (e, g) (rw (m, keyToken))
 
 pub token-meets : (s : List ℕ) (n : ℕ) → TokenMeets s n → effectOf (tokenOf s .token) ≡ refuses n
-unfolding tokenOf tokenAs bracketOf inlineAt chordAt chordTaken noteOf noteAfter noteAs brokenOf voltaOf voltaAs effectOf
+unfolding tokenOf tokenAs bracketOf inlineAt chordAt chordTaken noteOf noteAfter noteAs brokenOf voltaOf voltaAs tested effectOf
 token-meets s n (middle-inline k f i m) =
     rw (k, tokenAs) (rw (no-digit (drop 1 s) i, bracketOf) (rw (f, bracketOf) (rw (field-refused (bracketed (drop 1 s)) i m))))
 token-meets s n (octave-note c t k d l o) = rw (k, tokenAs) (rw (d, noteAfter) (rw (l, noteAfter) (rw (o, noteAs))))
 token-meets s n (octave-chord k d i e) = rw (k, tokenAs) (rw (d, bracketOf) (rw (i, bracketOf) (rw (e, chordTaken))))
 token-meets s n (many-more k h) = rw (k, tokenAs) (rw (lt-ltb 255 (suc (countWhile (is ">") (drop 1 s))) h, brokenOf))
 token-meets s n (many-less k h) = rw (k, tokenAs) (rw (lt-ltb 255 (suc (countWhile (is "<") (drop 1 s))) h, brokenOf))
-token-meets s n (no-list k d e) = rw (k, tokenAs) (rw (d, bracketOf) (rw (e, voltaAs)))
+token-meets s n (list-shape k d e) = rw (k, tokenAs) (rw (d, bracketOf) (rw (e, voltaAs)))
+token-meets s n (list-range ts k d e a) = rw (k, tokenAs) (rw (d, bracketOf) (rw (e, voltaAs) (rw (a, tested))))
+token-meets s n (list-rise ts k d e a b) = rw (k, tokenAs) (rw (d, bracketOf) (rw (e, voltaAs) (rw (a, tested) (rw (b, tested)))))
 
 -- of a chord, in document 01's words: a letter of it whose octave marks leave the range
 abbrev pub Out : List ℕ → Type 0
@@ -362,15 +369,20 @@ unfolding effects
 first-why m n l e =
     let q = found 0 l m n e in record { place = q .place; before = q .before; are = q .are; inside = q .inside; fine = q .fine; here = q .here }
 
--- and n is one of 10 to 14
-here-range : (m n : ℕ) (s : List ℕ) → Here m s n → (10 ≤ n) × (n ≤ 14)
-here-range m n s (token (middle-inline k f i h)) = (omega arith, omega arith)
-here-range m n s (token (octave-note c t k d l o)) = (omega arith, omega arith)
-here-range m n s (token (octave-chord k d i e)) = (omega arith, omega arith)
-here-range m n s (token (many-more k h)) = (omega arith, omega arith)
-here-range m n s (token (many-less k h)) = (omega arith, omega arith)
-here-range m n s (token (no-list k d e)) = (omega arith, omega arith)
-here-range m n s (note c h) = (omega arith, omega arith)
+-- and n is one of 10 to 14, 17 and 18
+abbrev pub To14Or17Or18 : ℕ → Type 0
+To14Or17Or18 n = (n ≤ 14) ⊎ ((n ≡ 17) ⊎ (n ≡ 18))
 
-pub music-range : (m n : ℕ) (l : List ℕ) → InMusic m l n → (10 ≤ n) × (n ≤ 14)
+here-range : (m n : ℕ) (s : List ℕ) → Here m s n → (10 ≤ n) × To14Or17Or18 n
+here-range m n s (token (middle-inline k f i h)) = (omega arith, inl (omega arith))
+here-range m n s (token (octave-note c t k d l o)) = (omega arith, inl (omega arith))
+here-range m n s (token (octave-chord k d i e)) = (omega arith, inl (omega arith))
+here-range m n s (token (many-more k h)) = (omega arith, inl (omega arith))
+here-range m n s (token (many-less k h)) = (omega arith, inl (omega arith))
+here-range m n s (token (list-shape k d e)) = (omega arith, inl (omega arith))
+here-range m n s (token (list-range ts k d e a)) = (omega arith, inr (inl refl))
+here-range m n s (token (list-rise ts k d e a b)) = (omega arith, inr (inr refl))
+here-range m n s (note c h) = (omega arith, inl (omega arith))
+
+pub music-range : (m n : ℕ) (l : List ℕ) → InMusic m l n → (10 ≤ n) × To14Or17Or18 n
 music-range m n l q = here-range (m + noteCount (map effectOf (q .before))) n (drop (q .place) l) (q .here)

@@ -1,18 +1,19 @@
--- EACH REFUSAL UNDER ITS CONDITION (document 01, "Who can be refused"): the sixteen conditions by their numbers, and the order in which they are met.
+-- EACH REFUSAL UNDER ITS CONDITION (document 01, "Who can be refused": and document 02, T-01): the eighteen conditions by their numbers, and the order in which they are met.
 use Prim.Native.Nat.{ℕ, suc, _+_, _≤_, _<_, max}
 use mathlib.Core.Path.{_≡_}
 use mathlib.Core.Bool.{true, false, not, _||_}
-use mathlib.Core.Option.{none, some}
+use mathlib.Core.Option.{Option, none, some}
 use mathlib.Core.List.{List, [], _∷_, _++_, map}
 use lib.ListN.{length, take, drop}
-use Rattle.laws.specs.Lists.{elem, isNil, sum, countWhile}
+use Rattle.laws.specs.Lists.{elem, isNil, all, sum, countWhile}
 use Rattle.standard.specs.Bytes.{is, isDigit, first}
 use Rattle.standard.specs.Pitches.{isLetter}
 use Rattle.reader.specs.Text.{isUtf8, isBlank, textLines, clean, hasHigh}
 use Rattle.reader.specs.Pieces.{pieces, separator}
 use Rattle.reader.specs.Fields.{identifier, middleWord}
 use Rattle.reader.specs.Pitches.{octaveOf, accidentalOf, chordOf}
-use Rattle.reader.specs.PassLists.{isPassByte, passList}
+use Rattle.standard.specs.Passes.{Item}
+use Rattle.reader.specs.PassLists.{listItems, numbersIn, isPass, rise, isPassByte}
 use Rattle.reader.specs.Inline.{isInline}
 use Rattle.reader.specs.Token.{Token}
 use Rattle.reader.specs.Tokens.{Effect, counts, refuses, effectOf, more, less, bracket, pitched, classOf, tokenOf, tokens}
@@ -35,6 +36,10 @@ bracketed s = take (countWhile (λ c. not (is "]" c)) s) s
 abbrev pub passText : List ℕ → List ℕ
 passText s = take (countWhile isPassByte s) s
 
+-- the items of that run, cut at its commas, if all of them are well shaped
+abbrev pub passItems : List ℕ → Option (List Item)
+passItems s = listItems (pieces (separator (is ",")) 0 (passText s))
+
 pub data TokenMeets (s : List ℕ) : ℕ → Type 0 where
   -- "10 a `middle=` word in a K or V field, also inline K"
   middle-inline : classOf (first s) ≡ bracket → isInline (drop 1 s) ≡ true → isK (bracketed (drop 1 s)) ≡ true → middleWord (drop 2 (bracketed (drop 1 s))) ≡ true → TokenMeets s 10
@@ -44,8 +49,12 @@ pub data TokenMeets (s : List ℕ) : ℕ → Type 0 where
   -- "13 more than 255 equal `>` or `<` together"
   many-more : classOf (first s) ≡ more → 255 < suc (countWhile (is ">") (drop 1 s)) → TokenMeets s 13
   many-less : classOf (first s) ≡ less → 255 < suc (countWhile (is "<") (drop 1 s)) → TokenMeets s 13
-  -- "14 `[` and a digit whose run of digits, commas and hyphens is no pass list"
-  no-list : classOf (first s) ≡ bracket → isDigit (first (drop 1 s)) ≡ true → passList 0 (pieces (separator (is ",")) 0 (passText (drop 1 s))) ≡ none → TokenMeets s 14
+  -- "14 `[` and a digit whose run of digits, commas and hyphens is no pass list", by its shape: "a leading zero included, keeps 14; a 0 by itself is well shaped"
+  list-shape : classOf (first s) ≡ bracket → isDigit (first (drop 1 s)) ≡ true → passItems (drop 1 s) ≡ none → TokenMeets s 14
+  -- "17 out of 1 to 32": a well-shaped list with a number 0 or above 32
+  list-range : (is : List Item) → classOf (first s) ≡ bracket → isDigit (first (drop 1 s)) ≡ true → passItems (drop 1 s) ≡ some is → all isPass (numbersIn is) ≡ false → TokenMeets s 17
+  -- "18 not rising": a well-shaped list of numbers from 1 to 32 that do not rise
+  list-rise : (is : List Item) → classOf (first s) ≡ bracket → isDigit (first (drop 1 s)) ≡ true → passItems (drop 1 s) ≡ some is → all isPass (numbersIn is) ≡ true → rise (numbersIn is) ≡ false → TokenMeets s 18
 
 -- where a token begins, with m notes before it
 pub data Here (m : ℕ) (s : List ℕ) : ℕ → Type 0 where
@@ -84,10 +93,10 @@ pub data Why (s : ScanState) (l : List ℕ) : ℕ → Type 0 where
   -- "10 a `middle=` word in a K or V field"
   middle-V : isV l ≡ true → middleWord (drop 2 l) ≡ true → Why s l 10
   middle-K : isK l ≡ true → middleWord (drop 2 l) ≡ true → Why s l 10
-  -- 10 inline, 11, 12, 13, 14
+  -- 10 inline, 11, 12, 13, 14, 17, 18
   in-music : {n : ℕ} → MusicLine s l → InMusic (s .notes) l n → Why s l n
 
--- "line by line 4, 5, 6 and 7 to 14 ..; at one place the smaller number comes first": the line has the condition of n, and of no smaller number
+-- "line by line 4, 5, 6 and 7 to 14 ..", 17 and 18 "where 14 stood"; "at one place the smaller number comes first": the line has the condition of n, and of no smaller number
 abbrev pub First : ScanState → List ℕ → ℕ → Type 0
 First s l n = Why s l n × ((m : ℕ) → m < n → Why s l m → ⊥)
 
@@ -110,7 +119,7 @@ pub record Begins (text : List ℕ) (sl : ℕ) : Type 0 where
   pub not-blank : isBlank text ≡ false
   pub scratch : scratchNeeded (length text) ≤ sl
 
--- THE SIXTEEN REFUSALS, each with its line
+-- THE EIGHTEEN REFUSALS, each with its line
 pub data Reason (text : List ℕ) (rl sl : ℕ) : ℕ → ℕ → Type 0 where
   -- "2 over 67,108,864 bytes"
   long-text : mostBytes < length text → Reason text rl sl 2 0
@@ -120,7 +129,7 @@ pub data Reason (text : List ℕ) (rl sl : ℕ) : ℕ → ℕ → Type 0 where
   blank-text : length text ≤ mostBytes → isUtf8 text ≡ true → isBlank text ≡ true → Reason text rl sl 1 0
   -- "15 scratch below 32 × (text length + 256) bytes"
   short-scratch : length text ≤ mostBytes → isUtf8 text ≡ true → isBlank text ≡ false → sl < scratchNeeded (length text) → Reason text rl sl 15 0
-  -- 4 to 14
+  -- 4 to 14, 17 and 18
   at-line : {n k : ℕ} → Begins text sl → At begin (textLines text) n k → Reason text rl sl n k
   -- "or no measure at the end"
   no-measure : (t : ScanState) (a : Items) → Begins text sl → scan (textLines text) ≡ on t a → sum measureCount (partsAfter t a) ≡ 0 → Reason text rl sl 1 0

@@ -16,4 +16,5 @@ pub mod MoreStandard
 pub mod Texts
 pub mod Marks
 pub mod HeaderLaws
+pub mod PassTests
 pub mod PassTexts

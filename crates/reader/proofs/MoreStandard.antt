@@ -26,8 +26,8 @@ use Rattle.reader.specs.Lengths.{Length, number, denominator, lengthOf}
 use Rattle.reader.specs.Pitches.{Scope, remembered, orKey, soundBy, soundOf, scopeBy, scopeAfter}
 use Rattle.reader.specs.Token.{taken, tuplet, volta}
 use Rattle.reader.specs.Tuplets.{notZero, positive, normalFor, counted, withCount, withNormal, withActual, tupletOf, tupletToken}
-use Rattle.reader.specs.PassLists.{passNumber, itemOf, lastPass, inTurn, passList}
-use Rattle.reader.specs.PassLists as lists
+use Rattle.reader.specs.PassesInTurn.{passNumber, itemOf, lastPass, inTurn, passList}
+use Rattle.reader.specs.PassesInTurn as lists
 use Rattle.reader.specs.Lyrics.{wordOf, orSkip}
 use Rattle.reader.proofs.Digits.{digit-not, count-while-front, digits-some, pieces-digits}
 

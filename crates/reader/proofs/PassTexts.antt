@@ -16,9 +16,11 @@ use Rattle.standard.specs.Passes.{pass, passes, passesOf}
 use Rattle.standard.specs.Texts.{Number, commaed, PassesText, ended, number, range}
 use Rattle.reader.specs.Token.{taken, volta}
 use Rattle.reader.specs.Pieces.{pieces, separator}
-use Rattle.reader.specs.PassLists as lists
-use Rattle.reader.specs.PassLists.{passNumber, itemOf, lastPass, inTurn, passList, isPassByte, voltaAs, voltaOf}
+use Rattle.reader.specs.PassLists.{listItems, tested, isPassByte, voltaAs, voltaOf}
+use Rattle.reader.specs.PassesInTurn as lists
+use Rattle.reader.specs.PassesInTurn.{passNumber, itemOf, lastPass, inTurn, passList}
 use Rattle.reader.proofs.Digits.{digit-not, count-while-front, digits-some, pieces-digits, pieces-two}
+use Rattle.reader.proofs.PassTests.{still-read}
 use Rattle.reader.proofs.MoreStandard.{list-meets, pieces-one, pieces-first}
 
 -- a number
@@ -100,4 +102,4 @@ unfolding voltaOf voltaAs
 ending-text-meets x xs qs s q z =
     let t : List ℕ = commaed (x ∷ xs) in
     let h = items-plain 0 (x ∷ xs) qs q in
-    rw (count-while-front isPassByte t s (commaed-bytes xs x h) z, take-append-seam t s, commaed-pieces xs x h, passes-meet 0 (x ∷ xs) qs q)
+    rw (count-while-front isPassByte t s (commaed-bytes xs x h) z, take-append-seam t s, commaed-pieces xs x h, still-read (x ∷ xs) qs (passes-meet 0 (x ∷ xs) qs q))

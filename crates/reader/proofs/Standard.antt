@@ -33,10 +33,12 @@ use Rattle.reader.specs.Pitches.{octaveFrom, Before, accidentalOf, signs
 use Rattle.reader.specs.Token.{taken, barline, tuplet, volta}
 use Rattle.reader.specs.Tuplets.{notZero, positive, normalFor, orOneLess, counted, withCount, withNormal, withActual, tupletOf}
 use Rattle.reader.specs.Barlines.{barlineOf}
-use Rattle.reader.specs.PassLists.{passNumber, itemOf, single, range, inTurn, passList, isPassByte, voltaAs, voltaOf}
+use Rattle.reader.specs.PassLists.{listItems, tested, isPassByte, voltaAs, voltaOf}
+use Rattle.reader.specs.PassesInTurn.{passNumber, itemOf, single, range, inTurn, passList}
 use Rattle.reader.specs.State.{Note}
 use Rattle.reader.specs.Part.{canBeam, beamed, runAfter}
 use Rattle.reader.specs.All.{all as everything}
+use Rattle.reader.proofs.PassTests.{still-read}
 use Rattle.reader.proofs.ValueLaws.{written}
 use Rattle.reader.proofs.Digits.{digit-not, digit-solid, count-while-front, digits-some, numeral-some, solid-trimmed, digits-solid, before-digits, before-all, after-digits, pieces-digits, pieces-two}
 
@@ -234,7 +236,7 @@ pub ending-meets : (d s : List ℕ) → 0 < length d → all isDigit d ≡ true 
     → voltaOf (d ++ s) ≡ taken (volta (passesOf (pass (decimal 0 d)))) (suc (length d))
 unfolding voltaOf voltaAs
 ending-meets d s n a z low high r =
-    rw (count-while-front isPassByte d s (digit-pass d a) r, take-append-seam d s, pieces-digits 44 refl d a, single-meets d n a z low high)
+    rw (count-while-front isPassByte d s (digit-pass d a) r, take-append-seam d s, pieces-digits 44 refl d a, still-read (d ∷ []) _ (single-meets d n a z low high))
 
 -- so are two numbers and a hyphen
 range-bytes : (d e : List ℕ) → all isDigit d ≡ true → all isDigit e ≡ true → all isPassByte (d ++ (45 ∷ e)) ≡ true
@@ -254,7 +256,7 @@ pub endings-meet : (d e s : List ℕ) → 0 < length d → 0 < length e → all 
 unfolding voltaOf voltaAs
 endings-meet d e s nd ne ad ae zd ze low less high r =
     let t : List ℕ = d ++ (45 ∷ e) in
-    rw (count-while-front isPassByte t s (range-bytes d e ad ae) r, take-append-seam t s, range-piece d e ad ae, range-meets d e nd ne ad ae zd ze low less high)
+    rw (count-while-front isPassByte t s (range-bytes d e ad ae) r, take-append-seam t s, range-piece d e ad ae, still-read (t ∷ []) _ (range-meets d e nd ne ad ae zd ze low less high))
 
 -- BROKEN RHYTHM: two notes of equal length without dots keep their sum, where neither dots nor halving come to their end
 sums : ℕ → ℕ → Bool

@@ -22,7 +22,7 @@ use Rattle.reader.specs.Pitches.{octaveFrom, octaveOf, Before, signs, ac
 use Rattle.reader.specs.Token.{Token, Taken}
 use Rattle.reader.specs.Tuplets.{positive, counted, withCount, withNormal, withActual, tupletOf, orSlur}
 use Rattle.reader.specs.Barlines.{barlineAs, barlineOf}
-use Rattle.reader.specs.PassLists.{isPassByte, passList, voltaAs, voltaOf}
+use Rattle.reader.specs.PassLists.{Listed, listed, faulty, isPassByte, listOf, voltaAs, voltaOf}
 use Rattle.reader.specs.Inline.{isInline, inlineAt}
 use Rattle.reader.specs.Sounds.{behind, chordTaken, chordAt, restAs, noteAs, noteAfter, noteOf}
 use Rattle.reader.specs.Tokens.{closedBy, brokenOf, bracketOf, Class, white, ampersand, quote, more, less, paren, braceOpen, braceClose, bang, plus, bars, bracket, pitched, none-of-these, resting, classOf, tokenAs, tokenOf}
@@ -194,10 +194,10 @@ unfolding barlineOf
 barline-in c s = barlineAs-in c s (symbolAt barSymbols (c ∷ s)) (symbol-in barSymbols (c ∷ s))
 
 -- an ending
-volta-in : (n : ℕ) (s : List ℕ) (o : Option (List ℕ)) → n ≤ length s → voltaAs n s o .used ≤ suc (length s)
+volta-in : (n : ℕ) (s : List ℕ) (o : Listed) → n ≤ length s → voltaAs n s o .used ≤ suc (length s)
 unfolding voltaAs
-volta-in n s none h = omega arith
-volta-in n s (some ps) h = omega arith
+volta-in n s (faulty k) h = omega arith
+volta-in n s (listed ps) h = omega arith
 
 -- a chord by its pitches
 chord-in : (n : ℕ) (s : List ℕ) (o : Option (List Written)) → chordTaken n s o .used ≤ n + length s
@@ -228,7 +228,7 @@ unfolding bracketOf voltaOf inlineAt
 bracket-in s =
     let n = countWhile (λ c. not (is "]" c)) s in
     by-test (isDigit (first s))
-    (λ e. rw (e, bracketOf) (volta-in (countWhile isPassByte s) s (passList 0 (pieces (separator (is ",")) 0 (take (countWhile isPassByte s) s))) (count-while-le isPassByte s)))
+    (λ e. rw (e, bracketOf) (volta-in (countWhile isPassByte s) s (listOf (take (countWhile isPassByte s) s)) (count-while-le isPassByte s)))
     (λ e. rw (e, bracketOf) (by-test (isInline s)
     (λ f. rw (f, bracketOf) (omega (arith, ltb-true n (length s) (inline-in s f))))
     (λ f. rw (f, bracketOf) (chordAt-in s))))

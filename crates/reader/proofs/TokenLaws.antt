@@ -19,7 +19,7 @@ use Rattle.reader.specs.Pitches.{octaveOf, Before, accidentalOf, chordOf
 use Rattle.reader.specs.Token.{Token, Taken}
 use Rattle.reader.specs.Tuplets.{positive, counted, withCount, withNormal, withActual, tupletOf, orSlur}
 use Rattle.reader.specs.Barlines.{barlineAs, barlineOf}
-use Rattle.reader.specs.PassLists.{isPassByte, passList, voltaAs, voltaOf}
+use Rattle.reader.specs.PassLists.{Listed, listed, faulty, isPassByte, listOf, voltaAs, voltaOf}
 use Rattle.reader.specs.Inline.{isInline, inlineAt}
 use Rattle.reader.specs.Sounds.{chordTaken, chordAt, restAs, noteAs, noteAfter, noteOf}
 use Rattle.reader.specs.Tokens.{closedBy, brokenOf, bracketOf, Class, white, ampersand, quote, more, less, paren, braceOpen, braceClose, bang, plus, bars, bracket, pitched, none-of-these, resting, classOf, tokenAs, tokenOf, tokens}
@@ -111,10 +111,10 @@ unfolding barlineOf
 barline-takes s = barlineAs-takes s (symbolAt barSymbols s) (symbol-long barSymbols symbols-long s)
 
 -- an ending
-volta-takes : (n : ℕ) (s : List ℕ) (o : Option (List ℕ)) → 0 < voltaAs n s o .used
+volta-takes : (n : ℕ) (s : List ℕ) (o : Listed) → 0 < voltaAs n s o .used
 unfolding voltaAs
-volta-takes n s none = omega arith
-volta-takes n s (some ps) = omega arith
+volta-takes n s (faulty k) = omega arith
+volta-takes n s (listed ps) = omega arith
 
 -- a chord by its pitches
 chord-takes : (n : ℕ) (s : List ℕ) (o : Option (List Written)) → 0 < n → 0 < chordTaken n s o .used
@@ -140,7 +140,7 @@ bracket-takes : (s : List ℕ) → 0 < bracketOf s .used
 unfolding bracketOf voltaOf inlineAt
 bracket-takes s =
     by-test (isDigit (first s))
-    (λ e. rw (e, bracketOf) (volta-takes (countWhile isPassByte s) s (passList 0 (pieces (separator (is ",")) 0 (take (countWhile isPassByte s) s)))))
+    (λ e. rw (e, bracketOf) (volta-takes (countWhile isPassByte s) s (listOf (take (countWhile isPassByte s) s))))
     (λ e. rw (e, bracketOf) (by-test (isInline s) (λ f. rw (f, bracketOf) (omega arith)) (λ f. rw (f, bracketOf) (chordAt-takes s))))
 
 -- a note from its letter on

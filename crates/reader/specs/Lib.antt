@@ -8,6 +8,7 @@ pub mod Token
 pub mod Tuplets
 pub mod Barlines
 pub mod PassLists
+pub mod PassesInTurn
 pub mod Inline
 pub mod Sounds
 pub mod Tokens

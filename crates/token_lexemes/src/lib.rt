@@ -187,7 +187,7 @@ pub fn bar_line(line: &[u8], at: usize) -> Cut
     }
 }
 
-// An ending with its passes, or refusal 14.
+// An ending with its passes, or refusal 14, 17 or 18.
 pub fn volta(line: &[u8], at: usize) -> Cut
     requires { ⌜ at < length (now line) ⌝ }
     ensures { λ r. ⌜ r ≡ cutFor at (voltaOf (drop (at + 1) (now (line .entry)))) ⌝ }
@@ -195,7 +195,7 @@ pub fn volta(line: &[u8], at: usize) -> Cut
     let token_passes::Passes::Read { first, bits, next } = token_passes::parse_passes(line, at + 1)
     else {
         return Cut {
-            lexeme: Lexeme::Refused(14),
+            lexeme: Lexeme::Refused(token_passes::list_fault(line, at + 1)),
             next: line.len(),
         };
     };

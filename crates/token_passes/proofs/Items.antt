@@ -15,7 +15,7 @@ use Rattle.laws.proofs.Lists.{first-at}
 use Rattle.standard.specs.Bytes.{is, isDigit, first}
 use Rattle.standard.specs.Passes.{Item, pass, passes, passesOf, rising}
 use Rattle.reader.specs.Pieces.{pieces, separator}
-use Rattle.reader.specs.PassLists.{passNumber, single, range, itemOf, lastPass}
+use Rattle.reader.specs.PassesInTurn.{passNumber, single, range, itemOf, lastPass}
 use Rattle.text_numbers.specs.declared.Digits.{Digits}
 use Rattle.text_numbers.specs.Digits.{written, option}
 use Rattle.text_numbers.proofs.Numbers.{option-run}
@@ -27,7 +27,7 @@ use Rattle.token_passes.proofs.Cuts.{pieces-on, pieces-last, ends-on, e
 
 -- NUMBERS
 -- the digits begin with 0 where the text does
-zero-first : (t : List ℕ) → is "0" (first (run isDigit t)) ≡ is "0" (first t)
+pub zero-first : (t : List ℕ) → is "0" (first (run isDigit t)) ≡ is "0" (first t)
 zero-first [] = refl
 zero-first (c ∷ s) =
     by-test (isDigit c)
@@ -98,11 +98,14 @@ range-some low a b o u e f h k = rw (e, f, lt-ltb low a h, lt-ltb a b k)
 module _ (line : List ℕ) (i low h : ℕ) (k : h ≡ endOf isDigit line i) where
   -- no hyphen behind the first number
   module _ (m : is "-" (getD line h 0) ≡ false) where
+    pub one-piece : pieces (separator (is "-")) 0 (run isItemByte (drop i line)) ≡ run isDigit (drop i line) ∷ []
+    one-piece = pieces-last isItemByte isDigit (is "-") (λ c. refl) hyphen-apart refl line i h k m
+
     alone : itemAt low line i ≡ single low (passNumber (run isDigit (drop i line)))
     unfolding itemAt itemOf
-    alone = rw (pieces-last isItemByte isDigit (is "-") (λ c. refl) hyphen-apart refl line i h k m)
+    alone = rw one-piece
 
-    alone-ends : endOf isItemByte line i ≡ h
+    pub alone-ends : endOf isItemByte line i ≡ h
     alone-ends = ends-here isItemByte isDigit (is "-") (λ c. refl) hyphen-apart refl line i h k m
 
   -- a hyphen, and a second number up to e
@@ -111,23 +114,36 @@ module _ (line : List ℕ) (i low h : ℕ) (k : h ≡ endOf isDigit line i) wher
     cut-second = pieces-on isItemByte isDigit (is "-") (λ c. refl) hyphen-apart refl line i h k m
 
     module _ (n : is "-" (getD line e 0) ≡ false) where
+      pub two-pieces : pieces (separator (is "-")) 0 (run isItemByte (drop i line)) ≡ run isDigit (drop i line) ∷ run isDigit (drop (h + 1) line) ∷ []
+      two-pieces = cut-second ∙ ap (λ l. run isDigit (drop i line) ∷ l) (pieces-last isItemByte isDigit (is "-") (λ c. refl) hyphen-apart refl line (h + 1) e j n)
+
       both : itemAt low line i ≡ range low (passNumber (run isDigit (drop i line))) (passNumber (run isDigit (drop (h + 1) line)))
       unfolding itemAt itemOf
-      both = rw (cut-second, pieces-last isItemByte isDigit (is "-") (λ c. refl) hyphen-apart refl line (h + 1) e j n)
+      both = rw two-pieces
 
-      both-ends : endOf isItemByte line i ≡ e
+      pub both-ends : endOf isItemByte line i ≡ e
       both-ends =
           ends-on isItemByte isDigit (is "-") (λ c. refl) hyphen-apart refl line i h k m
           ∙ ends-here isItemByte isDigit (is "-") (λ c. refl) hyphen-apart refl line (h + 1) e j n
 
+    -- a second hyphen, and a third piece
+    third-piece : (x : List ℕ) × (xs : List (List ℕ)) × (pieces (separator (is "-")) 0 (run isItemByte (drop (e + 1) line)) ≡ x ∷ xs)
+    third-piece =
+        let f = endOf isDigit line (e + 1) in
+        by-test (is "-" (getD line f 0))
+        (λ y. (_, _, pieces-on isItemByte isDigit (is "-") (λ c. refl) hyphen-apart refl line (e + 1) f refl y))
+        (λ y. (_, _, pieces-last isItemByte isDigit (is "-") (λ c. refl) hyphen-apart refl line (e + 1) f refl y))
+
+    pub more-pieces : is "-" (getD line e 0) ≡ true
+        → (x : List ℕ) × (xs : List (List ℕ)) × (pieces (separator (is "-")) 0 (run isItemByte (drop i line)) ≡ run isDigit (drop i line) ∷ run isDigit (drop (h + 1) line) ∷ x ∷ xs)
+    more-pieces n =
+        let q = third-piece in
+        let cut = pieces-on isItemByte isDigit (is "-") (λ c. refl) hyphen-apart refl line (h + 1) e j n in
+        (q .0, q .1, cut-second ∙ ap (λ l. run isDigit (drop i line) ∷ l) (cut ∙ ap (λ l. run isDigit (drop (h + 1) line) ∷ l) (q .2)))
+
     third : is "-" (getD line e 0) ≡ true → itemAt low line i ≡ none
     unfolding itemAt itemOf
-    third n =
-        let f = endOf isDigit line (e + 1) in
-        rw (cut-second, pieces-on isItemByte isDigit (is "-") (λ c. refl) hyphen-apart refl line (h + 1) e j n)
-        (by-test (is "-" (getD line f 0))
-        (λ y. rw (pieces-on isItemByte isDigit (is "-") (λ c. refl) hyphen-apart refl line (e + 1) f refl y))
-        (λ y. rw (pieces-last isItemByte isDigit (is "-") (λ c. refl) hyphen-apart refl line (e + 1) f refl y)))
+    third n = rw (more-pieces n .2)
 
   -- what holds of a single number and of two holds of the item
   by-form : {o : Option Item} → single low (passNumber (run isDigit (drop i line))) ≡ o

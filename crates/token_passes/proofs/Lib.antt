@@ -2,3 +2,4 @@ mod Cuts
 mod Items
 mod Bits
 mod Reading
+mod Shapes

@@ -14,7 +14,8 @@ use Rattle.laws.specs.Spans.{endOf}
 use Rattle.laws.proofs.Bools.{by-test}
 use Rattle.standard.specs.Bytes.{is, isDigit}
 use Rattle.standard.specs.Passes.{Item, passesOf, rising}
-use Rattle.reader.specs.PassLists.{lastPass, inTurn, passList, isPassByte}
+use Rattle.reader.specs.PassLists.{isPassByte}
+use Rattle.reader.specs.PassesInTurn.{lastPass, inTurn, passList}
 use Rattle.reader.specs.Records.{passBits}
 use Rattle.token_passes.specs.Passes.{isItemByte, itemAt, passesAt, passesFor, firstFor}
 use Rattle.token_passes.specs.declared.Passes.{Passes}
@@ -31,10 +32,10 @@ swapped false true false = refl
 swapped false false true = refl
 swapped false false false = refl
 
-comma-agree : (c : ℕ) → isPassByte c ≡ (isItemByte c || is "," c)
+pub comma-agree : (c : ℕ) → isPassByte c ≡ (isItemByte c || is "," c)
 comma-agree c = swapped (isDigit c) (is "," c) (is "-" c)
 
-comma-apart : (c : ℕ) → is "," c ≡ true → isItemByte c ≡ false
+pub comma-apart : (c : ℕ) → is "," c ≡ true → isItemByte c ≡ false
 comma-apart c e = rw (eqb-true c 44 e)
 
 module _ (line : List ℕ) (i low e : ℕ) (k : e ≡ endOf isItemByte line i) where

@@ -10,7 +10,8 @@ use Rattle.standard.specs.Bytes.{is, isDigit}
 use Rattle.standard.specs.Passes as standard
 use Rattle.standard.specs.Passes.{pass, passes}
 use Rattle.reader.specs.Pieces.{pieces, separator}
-use Rattle.reader.specs.PassLists.{itemOf, passList, isPassByte}
+use Rattle.reader.specs.PassLists.{isPassByte}
+use Rattle.reader.specs.PassesInTurn.{itemOf, passList}
 use Rattle.reader.specs.Records.{passBits}
 use Rattle.token_passes.specs.declared.Number as number
 use Rattle.token_passes.specs.declared.Number.the-variants as number-as

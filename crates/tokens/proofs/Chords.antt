@@ -14,13 +14,12 @@ use Rattle.standard.specs.Bytes.{is, isDigit, first}
 use Rattle.standard.specs.Bars.{Symbol, barSymbols, symbolAt}
 use Rattle.standard.specs.Pitches.{Written, isLetter}
 use Rattle.reader.specs.Lengths.{Length}
-use Rattle.reader.specs.Pieces.{pieces, separator}
 use Rattle.reader.specs.Fields.{unitInline, middleWord}
 use Rattle.reader.specs.Pitches.{Before, octaveOf, accidentalOf, chordOf}
 use Rattle.reader.specs.Token.{Token, space, overlay, quoted, broken, tuplet, slur, graceOpen, graceClose, decoration, barline, volta, unit, meter, key, field, chord, rest, note, nothing, skipped, refused, Taken, taken}
 use Rattle.reader.specs.Tuplets.{tupletOf, orSlur}
 use Rattle.reader.specs.Barlines.{barlineAs, barlineOf}
-use Rattle.reader.specs.PassLists.{isPassByte, passList, voltaAs, voltaOf}
+use Rattle.reader.specs.PassLists.{Listed, listed, faulty, isPassByte, listOf, voltaAs, voltaOf}
 use Rattle.reader.specs.Inline.{unitToken, keyToken, fieldToken, isInline, inlineAt}
 use Rattle.reader.specs.Sounds.{chordTaken, chordAt, restAs, noteAs, noteAfter, noteOf}
 use Rattle.reader.specs.Tokens.{closedBy, brokenOf, bracketOf, Class, white, ampersand, quote, more, less, paren, braceOpen, braceClose, bang, plus, bars, bracket, pitched, none-of-these, resting, classOf, tokenAs, tokenOf}
@@ -70,10 +69,10 @@ unfolding barlineAs pitchesIn
 bar-none s none = refl
 bar-none s (some x) = refl
 
-volta-none : (n : ℕ) (s : List ℕ) (o : Option (List ℕ)) → pitchesIn (voltaAs n s o .token) ≡ none
+volta-none : (n : ℕ) (s : List ℕ) (o : Listed) → pitchesIn (voltaAs n s o .token) ≡ none
 unfolding voltaAs pitchesIn
-volta-none n s none = refl
-volta-none n s (some ps) = refl
+volta-none n s (faulty k) = refl
+volta-none n s (listed ps) = refl
 
 unit-none : (o : Option ℕ) → pitchesIn (unitToken o) ≡ none
 unfolding unitToken pitchesIn
@@ -116,7 +115,7 @@ of-bracket : (s : List ℕ) (ps : List Written) → pitchesIn (bracketOf s .toke
 unfolding bracketOf voltaOf inlineAt chordAt
 of-bracket s ps e =
     by-test (isDigit (first s))
-    (λ d. never (voltaOf s .token) ps (volta-none (countWhile isPassByte s) s (passList 0 (pieces (separator (is ",")) 0 (take (countWhile isPassByte s) s)))) (rw (d, bracketOf) at e))
+    (λ d. never (voltaOf s .token) ps (volta-none (countWhile isPassByte s) s (listOf (take (countWhile isPassByte s) s))) (rw (d, bracketOf) at e))
     (λ d. by-test (isInline s)
     (λ i. never (inlineAt s .token) ps (field-none (take (countWhile (λ c. not (is "]" c)) s) s)) (rw i at (rw (d, bracketOf) at e)))
     (λ i. chord-some _ _ (chordOf 0 none s) ps (rw i at (rw (d, bracketOf) at e))))

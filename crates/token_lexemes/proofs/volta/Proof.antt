@@ -7,8 +7,8 @@ use Rattle.token_lexemes.proofs.volta.Tie as tie
 
 returns : tie.Need-returns
 returns c =
-    let s = c .before .before .before .before in
-    no-passes (s .args .line .now) (s .args .at) (s .pre) (sym (c .before .before .parse-passes .ensures) ∙ c .enum-told .given .1)
+    let s = c .before .before .before .before .before in
+    no-passes (s .args .line .now) (s .args .at) (s .pre) _ (c .list-fault .ensures) (sym (c .before .before .before .parse-passes .ensures) ∙ c .before .enum-told .given .1)
 
 returns-2 : tie.Need-returns-2
 returns-2 c =
@@ -18,4 +18,12 @@ returns-2 c =
 pub volta-spec : {M : Type 1} → statement M
 volta-spec =
     tie.close
-    (tie.spec (λ c. search needs) (λ c κs. search needs) (λ c. search needs) (λ c. search needs) returns returns-2)
+    (tie.spec
+    (λ c. search needs)
+    (λ c κs. search needs)
+    (λ c. search needs)
+    (λ c. search needs)
+    (λ c. search needs)
+    (λ c κs. search needs)
+    returns
+    returns-2)

@@ -10,7 +10,7 @@ use borrow.Author.Tests.{eq-eqb}
 use Rattle.laws.specs.Spans.{run, endOf}
 use Rattle.laws.proofs.Spans.{run-within}
 use Rattle.standard.specs.Bytes.{isDigit}
-use Rattle.reader.specs.PassLists.{passNumber}
+use Rattle.reader.specs.PassesInTurn.{passNumber}
 use Rattle.token_passes.proofs.Items.{pass-none, pass-some, no-first, low-first, one-pass, no-second, low-second, a-third, two-passes}
 use borrow.Author.Needs.{needs}
 use Rattle.token_passes.proofs.pass_item.Statement.{statement}
