@@ -15,7 +15,7 @@ extern "C" {
 /* The version of this header, 1,000,000 * major + 1,000 * minor + patch. abc_version answers that of the linked library: where the two are unlike, one of them is
  * stale. The version changes with what the calls promise; the commit to put under a quote is the repository's (in Rust, sindvaelo::COMMIT). */
 #define ABC_VERSION_MAJOR 0
-#define ABC_VERSION_MINOR 1
+#define ABC_VERSION_MINOR 2
 #define ABC_VERSION_PATCH 0
 #define ABC_VERSION ((uint64_t)(1000000 * ABC_VERSION_MAJOR + 1000 * ABC_VERSION_MINOR + ABC_VERSION_PATCH))
 uint64_t abc_version(void);
@@ -56,7 +56,10 @@ uint64_t abc_parse(const uint8_t *text, size_t text_len, uint8_t *reading, size_
 #define ABC_TOO_MANY_NOTES 11 /* the 100,001st note, rest or non-empty chord */
 #define ABC_OCTAVE 12         /* octave marks that leave -128 to 127 */
 #define ABC_BROKEN_RHYTHM 13  /* more than 255 equal > or < together */
-#define ABC_PASSES 14         /* [ and a digit that begin no pass list: numbers 1 to 32, rising, as 1,3 or 1-4 */
+/* those of the pass list behind a [ and a digit, tested as a whole and in this order */
+#define ABC_PASSES 14         /* its shape: numbers without a leading zero, or two with one hyphen between, single commas between them: 1 for 01, 1,2 for 1,,2 */
+#define ABC_PASS_RANGE 17     /* a number that is 0 or above 32: number the passes 1 to 32 */
+#define ABC_PASS_ORDER 18     /* numbers that do not rise: write 1-3 for 3-1, 1,2 for 2,1 */
 /* and those that the calling program can mend */
 #define ABC_SCRATCH_SHORT 15  /* scratch below ABC_SCRATCH_BYTES(text_len) */
 #define ABC_READING_SHORT 16  /* the reading store is shorter than the reading */

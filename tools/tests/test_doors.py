@@ -101,12 +101,15 @@ def specified(t):
         facts['end of a ' + name] = facts[name].pop('end')
     facts['most lines'], facts['most notes'], facts['most voices'] = [number(t['scan'], r'\n%s = (\d+)\n' % name) for name in ('mostLines', 'mostNotes', 'mostVoices')]
     facts['longest line'] = number(t['lines'], r'ltb (\d+) \(length l\)\) \(refused 5\)')
-    facts['last pass'] = number(t['passes'], r'\npassNumber s = [^\n]*digits (\d+) s')
+    facts['last pass'] = number(t['passes'], r'\nisPass n = leb 1 n && leb n (\d+)\n')
+    shape, out, falls = [number(t['passes'], pattern) for pattern in (
+        r'\ntested none = faulty (\d+)\n', r'elim \(all isPass \(numbersIn is\)\) \[\s*\| false ↦ faulty (\d+)\n', r'elim \(rise \(numbersIn is\)\) \[ false ↦ faulty (\d+) \|')]
+    facts['refusals of a pass list'] = {shape: 'passes', out: 'passrange', falls: 'passorder'}
     first, last = re.findall(r'\nbeamable k value = [^\n]*leb (\d+) value && leb value (\d+)', t['notes'])[0]
     facts['beamable'] = {int(first): 'eighth', int(last): 'hundredtwentyeighth'}
     told = set()
     for name in ('answer', 'scan', 'lines', 'inline', 'passes', 'tokens', 'sounds'):
-        told |= {int(n) for n in re.findall(r'\b(?:refusedWith|refused|refuses|refuse|some) (\d+)\b', t[name])}
+        told |= {int(n) for n in re.findall(r'\b(?:refusedWith|refused|refuses|refuse|faulty|some) (\d+)\b', t[name])}
     facts['refused numbers'] = told
     return facts
 
@@ -213,6 +216,7 @@ def differences(t):
         for what in sorted(set(spec) & set(door)):
             same('%s, %s' % (name, what), spec[what], door[what])
         same(name + ', numbers of refusals', spec['refused numbers'], set(door['refusals']))
+        same(name + ', refusals of a pass list', spec['refusals of a pass list'], {at: door['refusals'].get(at) for at in spec['refusals of a pass list']})
         for value, word in spec['beamable'].items():
             same('%s, value %d' % (name, value), word, door['value'].get(value))
     for what in ('refusals', 'value', 'version'):
@@ -240,15 +244,17 @@ def differences(t):
 SPOILED = [
     ('records', 'noteWidth = 12', 'noteWidth = 13'), ('records', 'm .left) ∷ barlineCode (m .right)', 'm .right) ∷ barlineCode (m .left)'),
     ('records', 'bit (f .slurStart) 4', 'bit (f .slurStart) 64'), ('codes', 'kindCode barRest = 3', 'kindCode barRest = 5'), ('answer', '32 * (n + 256)', '32 * (n + 128)'),
-    ('answer', 'mostBytes = 67108864', 'mostBytes = 67108865'), ('scan', 'mostVoices = 32', 'mostVoices = 16'), ('answer', 'refusedWith 16 0', 'refusedWith 17 0'),
-    ('bound', '→ 23 * length text ≤ rl', '→ 24 * length text ≤ rl'), ('packed', 'numberUnit = 4294967296', 'numberUnit = 65536'),
-    ('header', 'ABC_PITCH_BYTES 5', 'ABC_PITCH_BYTES 6'), ('header', '#define ABC_MIDDLE 10', '#define ABC_MIDDLE 17'),
+    ('answer', 'mostBytes = 67108864', 'mostBytes = 67108865'), ('scan', 'mostVoices = 32', 'mostVoices = 16'), ('answer', 'refusedWith 16 0', 'refusedWith 19 0'),
+    ('passes', 'leb n 32', 'leb n 33'), ('passes', 'tested none = faulty 14', 'tested none = faulty 18'),
+    ('passes', '| false ↦ faulty 17', '| false ↦ faulty 18'), ('bound', '→ 23 * length text ≤ rl', '→ 24 * length text ≤ rl'), ('packed', 'numberUnit = 4294967296', 'numberUnit = 65536'),
+    ('header', 'ABC_PITCH_BYTES 5', 'ABC_PITCH_BYTES 6'), ('header', '#define ABC_MIDDLE 10', '#define ABC_MIDDLE 19'),
     ('header', 'ABC_BAR_DOUBLE, ABC_BAR_FINAL', 'ABC_BAR_FINAL, ABC_BAR_DOUBLE'), ('header', 'ABC_GRACE = 16', 'ABC_GRACE = 64'), ('header', '10,000th', '1,000th'),
-    ('header', 'ABC_VERSION_MINOR 1', 'ABC_VERSION_MINOR 2'), ('rust', '67_108_864', '67_108_863'), ('rust', 'saturating_mul(23)', 'saturating_mul(22)'),
+    ('header', 'ABC_VERSION_MINOR 2', 'ABC_VERSION_MINOR 3'), ('header', 'ABC_PASS_RANGE 17', 'ABC_PASS_RANGE 14'), ('rust', '67_108_864', '67_108_863'), ('rust', 'saturating_mul(23)', 'saturating_mul(22)'),
     ('rust', 'answer >> 32', 'answer >> 33'), ('views', 'const LYRIC: usize = 11', 'const LYRIC: usize = 12'), ('views', 'self.byte(3) & 8', 'self.byte(3) & 4'),
     ('views', 'verse: record[4]', 'verse: record[5]'), ('views', '2 Minor "', '3 Minor "'), ('views', 'Barline::of(self.record[17])', 'Barline::of(self.record[16])'),
-    ('refusals', '            9 => Self::TooManyVoices { line }', '            9 => Self::Middle { line }'), ('refusals', '1,048,576', '1,048,575'),
-    ('cargo', 'version = "0.1.0"', 'version = "0.1.1"'), ('c', 'ABC_NOTE_BYTES', '12'),
+    ('refusals', '            9 => Self::TooManyVoices { line }', '            9 => Self::Middle { line }'), ('refusals', '17 => Self::PassRange', '17 => Self::PassOrder'),
+    ('refusals', 'Self::PassOrder { .. } => 18', 'Self::PassOrder { .. } => 17'), ('refusals', '1,048,576', '1,048,575'),
+    ('cargo', 'version = "0.2.0"', 'version = "0.2.1"'), ('c', 'ABC_NOTE_BYTES', '12'),
 ]
 
 
@@ -271,12 +277,12 @@ class Doors(unittest.TestCase):
     def test_a_library_that_answers_its_version(self):
         texts = dict(self.texts, library=self.texts['library'] + '\npub extern "C" fn abc_version() -> u64 {}\n')
         if '\nversion = ' not in texts['packed']:
-            texts['packed'] += '\nversion = 1000\n'
+            texts['packed'] += '\nversion = 2000\n'
         self.assertEqual(differences(texts), [])
         self.assertTrue(differences(dict(texts, packed=texts['packed'].replace('\nversion = ', '\nversion = 9'))))
 
-    def test_sixteen_refusals(self):
-        self.assertEqual(specified(self.texts)['refused numbers'], set(range(1, 17)))
+    def test_eighteen_refusals(self):
+        self.assertEqual(specified(self.texts)['refused numbers'], set(range(1, 19)))
 
 
 if __name__ == '__main__':

@@ -169,6 +169,14 @@ class Answers(Case):
         self.assertEqual(self.tally('tune.abc', answer='refused 3 0\n')[:3],
                          ('refused 3 0\n', UNPROVED + 'tally: refused (3): not UTF-8. Convert the file to UTF-8\n', 1))
 
+    def test_refusals_of_a_pass_list(self):
+        for number, words in ((14, 'an ending whose passes are no list. Write numbers without a leading zero, or two with one hyphen between, and single commas between them: '
+                                   '[1 for [01 or [1-, [1,2 for [1,,2'),
+                              (17, 'an ending with a pass that is 0 or above 32. Number the passes from 1 to 32: [1 for [0'),
+                              (18, 'an ending whose passes do not rise. Write each above the one before it: [1-3 for [3-1, [1,2 for [2,1')):
+            answer = 'refused %d 2\n' % number
+            self.assertEqual(self.tally('tune.abc', answer=answer)[:3], (answer, UNPROVED + 'tally: refused (%d) at line 2: %s\n' % (number, words), 1))
+
     def test_too_long(self):
         self.assertEqual(self.tally('tune.abc', answer='too long\n')[:3],
                          ('too long\n', UNPROVED + 'tally: over 1,792 bytes, which is all that this program takes. For a longer text run sindvaelo tally '

@@ -38,7 +38,7 @@ mod ffi {
     }
 }
 
-/// The crate's version, as in `0.1.0`.
+/// The crate's version, as in `0.2.0`.
 pub const VERSION: &str = env!("CARGO_PKG_VERSION");
 
 /// The commit that this crate and its library were built from, for a quote to bear: `-dirty` behind it where sources differed from that commit, `-stale`

@@ -1,7 +1,7 @@
 //! Why a text is not read.
 use std::fmt;
 
-/// A refusal; `line` counts from 1. `Display` says what the sender of the tune, or for the last two the calling program, can do.
+/// A refusal; `line` counts from 1. `Display` says what the sender of the tune, or for 15 and 16 the calling program, can do.
 #[derive(Debug, Clone, Copy, PartialEq, Eq, Hash)]
 #[non_exhaustive]
 pub enum Refusal {
@@ -61,7 +61,7 @@ pub enum Refusal {
         /// The line, from 1.
         line: u32,
     },
-    /// 14: `[` and a digit that begin no pass list.
+    /// 14: `[` and a digit that begin a pass list of the wrong shape, as `[01`, `[1,` or `[1--2`. A list is tested as a whole, for 14, then 17, then 18.
     Passes {
         /// The line, from 1.
         line: u32,
@@ -70,6 +70,16 @@ pub enum Refusal {
     ScratchShort,
     /// 16: the reading store is shorter than the reading.
     ReadingShort,
+    /// 17: a pass list with a number that is 0 or above 32, as `[0` or `[33`.
+    PassRange {
+        /// The line, from 1.
+        line: u32,
+    },
+    /// 18: a pass list whose numbers do not rise, as `[3-1`, `[2,1` or `[1,1`.
+    PassOrder {
+        /// The line, from 1.
+        line: u32,
+    },
     /// No number of the contract: the text is longer than the limit of a [`Reader`](crate::Reader).
     OverLimit {
         /// The reader's limit.
@@ -103,11 +113,13 @@ impl Refusal {
             14 => Self::Passes { line },
             15 => Self::ScratchShort,
             16 => Self::ReadingShort,
+            17 => Self::PassRange { line },
+            18 => Self::PassOrder { line },
             _ => Self::Other { number, line },
         }
     }
 
-    /// Its number in the contract, 1 to 16; 0 for a reader's own limit.
+    /// Its number in the contract, 1 to 18; 0 for a reader's own limit.
     pub fn number(&self) -> u8 {
         match self {
             Self::NoMusic => 1,
@@ -126,6 +138,8 @@ impl Refusal {
             Self::Passes { .. } => 14,
             Self::ScratchShort => 15,
             Self::ReadingShort => 16,
+            Self::PassRange { .. } => 17,
+            Self::PassOrder { .. } => 18,
             Self::OverLimit { .. } => 0,
             Self::Other { number, .. } => *number,
         }
@@ -156,6 +170,8 @@ impl Refusal {
             | Self::Octave { line }
             | Self::BrokenRhythm { line }
             | Self::Passes { line }
+            | Self::PassRange { line }
+            | Self::PassOrder { line }
             | Self::Other { line, .. } => (*line > 0).then_some(*line),
         }
     }
@@ -184,9 +200,11 @@ impl fmt::Display for Refusal {
             Self::TooManyNotes { .. } => ": the 100,001st note, rest or chord. Split the tune",
             Self::Octave { .. } => ": octave marks beyond what a pitch can have. Take some of the , or ' away",
             Self::BrokenRhythm { .. } => ": more than 255 equal > or < together. Take some away",
-            Self::Passes { .. } => ": an ending whose passes are no list. Write numbers from 1 to 32, rising, as in [1 or [1,3 or [1-4",
+            Self::Passes { .. } => ": an ending whose passes are no list. Write numbers without a leading zero, or two with one hyphen between, and single commas between them: [1 for [01 or [1-, [1,2 for [1,,2",
             Self::ScratchShort => ": the scratch store is too short. Lend one of scratch_bytes(text length) bytes",
             Self::ReadingShort => ": the reading store is too short. Lend one of reading_bytes(text length) bytes",
+            Self::PassRange { .. } => ": an ending with a pass that is 0 or above 32. Number the passes from 1 to 32: [1 for [0",
+            Self::PassOrder { .. } => ": an ending whose passes do not rise. Write each above the one before it: [1-3 for [3-1, [1,2 for [2,1",
             Self::OverLimit { .. } => unreachable!("said above"),
             Self::Other { .. } => ": this version of the crate has no name for it",
         })

@@ -64,6 +64,23 @@ fn a_refusal_shows_the_line() {
 }
 
 #[test]
+fn refusals_of_a_pass_list() {
+    let says = [
+        ("[01B", 14, "an ending whose passes are no list. Write numbers without a leading zero, or two with one hyphen between, and single commas between them: [1 for [01 or [1-, [1,2 for [1,,2"),
+        ("[33B", 17, "an ending with a pass that is 0 or above 32. Number the passes from 1 to 32: [1 for [0"),
+        ("[3-1B", 18, "an ending whose passes do not rise. Write each above the one before it: [1-3 for [3-1, [1,2 for [2,1"),
+    ];
+    for (music, number, says) in says {
+        let text = format!("X:1\nK:C\nA|{music}\nc|\n");
+        let (out, told, status) = said(run(&["tally", "-"], &text));
+        assert_eq!((out, status), (format!("refused {number} 3\n"), 1));
+        assert_eq!(told, format!("standard input: refused ({number}) at line 3: {says}\n      2 | K:C\n>     3 | A|{music}\n      4 | c|\n"));
+        let (out, _, status) = said(run(&["tally", "--json", "-"], &text));
+        assert!(status == 1 && out.ends_with(&format!("\"refused\":{number},\"line\":3,\"says\":\"refused ({number}) at line 3: {says}\"}}\n")), "{out}");
+    }
+}
+
+#[test]
 fn errors() {
     for (words, says) in [
         (&["tally", "no-such-file.abc"][..], "sindvaelo: no-such-file.abc: No such file or directory"),

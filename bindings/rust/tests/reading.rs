@@ -196,6 +196,34 @@ fn refusals_say_what_to_do() {
 }
 
 #[test]
+fn three_refusals_of_a_pass_list() {
+    let cases = [
+        (Refusal::Passes { line: 3 }, 14, &["01", "00", "1,", "1-", "1--2", "1,,2", "1-2-3", "0,1-", "33,01"][..], ["no list", "[1 for [01", "[1,2 for [1,,2"]),
+        (Refusal::PassRange { line: 3 }, 17, &["0", "33", "1,0", "1-0", "2,1,33", "3-1,40", "99999999999999999999999"], ["0 or above 32", "[1 for [0", "from 1 to 32"]),
+        (Refusal::PassOrder { line: 3 }, 18, &["3-1", "2,1", "1,1", "2-2", "1-3,3"], ["do not rise", "[1-3 for [3-1", "[1,2 for [2,1"]),
+    ];
+    for (refusal, number, lists, words) in cases {
+        for list in lists {
+            assert_eq!(read(format!("X:1\nK:C\nA|[{list}B|c")), Err(refusal), "{list}");
+        }
+        assert_eq!((refusal.number(), refusal.line(), refusal.is_senders()), (number, Some(3), true));
+        let told = refusal.to_string();
+        assert!(told.starts_with(&format!("refused ({number}) at line 3: an ending ")), "{told}");
+        for word in words {
+            assert!(told.contains(word), "{word}: {told}");
+        }
+        // What is wrong and what to write: no two of them say the same.
+        for (other, _, _, words) in cases.iter().filter(|case| case.0 != refusal) {
+            assert!(!told.contains(words[0]) && !told.contains(words[2]), "{other:?}: {told}");
+        }
+    }
+    // A list that one of the three would advise is read.
+    for list in ["1", "1,2", "1-3", "32", "1,3-5,7"] {
+        assert!(read(format!("K:C\n[{list}A")).is_ok(), "{list}");
+    }
+}
+
+#[test]
 fn a_reader_is_used_again() {
     let mut reader = Reader::new();
     assert_eq!(reader.read(TUNE).unwrap().as_bytes(), tune().as_bytes());

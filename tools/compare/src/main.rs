@@ -58,9 +58,14 @@ impl Run {
         }
     }
 
-    /// A text with stores that fit and with scratch a byte short, which tells a blank text (1) from another without music (15); with `around` set with lengths around
-    /// the ones that just do.
-    fn text(&mut self, text: &[u8], around: bool) {
+    /// A text with stores that fit.
+    fn once(&mut self, text: &[u8]) {
+        let known = self.known(text);
+        self.call(text, &known, reading_len(&known), scratch_bytes(text.len()));
+    }
+
+    /// What is known of a text, counted.
+    fn known(&mut self, text: &[u8]) -> Known {
         let known = known(text);
         self.sum.texts += 1;
         let name = match &known {
@@ -70,6 +75,13 @@ impl Run {
             Known::Reading { exact: false, .. } => "read, outside the domain of equality".into(),
         };
         *self.sum.answers.entry(name).or_default() += 1;
+        known
+    }
+
+    /// A text with stores that fit and with scratch a byte short, which tells a blank text (1) from another without music (15); with `around` set with lengths around
+    /// the ones that just do.
+    fn text(&mut self, text: &[u8], around: bool) {
+        let known = self.known(text);
         let (reading, scratch) = (reading_len(&known), scratch_bytes(text.len()));
         self.call(text, &known, reading, scratch);
         self.call(text, &known, reading, scratch - 1);
@@ -372,6 +384,9 @@ fn main() {
         let seed = seed ^ (0xed6e << 16 | at as u64);
         run(&format!("random: {}", piece.name), count / 20, &|run, i| run.text(&(piece.random)(&mut Rng::of(seed, i)), i % 16 == 0));
     }
+    let passes = |run: &mut Run, text: &[u8], around: bool| if around { run.text(text, true) } else { run.once(text) };
+    run(&format!("pass lists: all of up to {} bytes", edges::passes::LONGEST), edges::passes::runs(), &|run, i| passes(run, &edges::passes::run(i), i % 64 == 0));
+    run("pass lists: longer", count, &|run, i| passes(run, &edges::passes::run_at_random(&mut Rng::of(seed ^ 0x9a55, i)), i % 64 == 0));
     let tunes = tunes::all();
     let whole: Vec<String> = TEXTS.iter().filter(|text| text.name != "tunes").flat_map(Text::texts).collect();
     let outside = edges::outside();

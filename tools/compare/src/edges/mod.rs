@@ -5,6 +5,7 @@ mod fields;
 mod lengths;
 mod marks;
 mod notes;
+pub mod passes;
 mod texts;
 mod tokens;
 

@@ -10,7 +10,7 @@
 //!   P3  six octave steps through `crate::probe` (refusal 12),
 //!   P4  the `>`/`<` counter through `crate::probe` (refusal 13),
 //!   P5  `crate::probe::refuse(10)` where a word starts with `middle=`,
-//!   P6  `parse_passes` through `crate::probe` (refusal 14),
+//!   P6  `parse_passes` through `crate::probe` (refusals 14, 17 and 18),
 //!   P7  `crate::probe::length(length_den)` in `abc_note_value` (domain of equality).
 //! Every expected text must be found exactly as often as stated, or the build fails.
 use std::path::{Path, PathBuf};
