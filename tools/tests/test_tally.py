@@ -172,7 +172,7 @@ class Answers(Case):
     def test_refusals_of_a_pass_list(self):
         for number, words in ((14, 'an ending whose passes are no list. Write numbers without a leading zero, or two with one hyphen between, and single commas between them: '
                                    '[1 for [01 or [1-, [1,2 for [1,,2'),
-                              (17, 'an ending with a pass that is 0 or above 32. Number the passes from 1 to 32: [1 for [0'),
+                              (17, 'an ending with a pass that is 0 or above 32, as in [0 or [33. Number the passes from 1 to 32'),
                               (18, 'an ending whose passes do not rise. Write each above the one before it: [1-3 for [3-1, [1,2 for [2,1')):
             answer = 'refused %d 2\n' % number
             self.assertEqual(self.tally('tune.abc', answer=answer)[:3], (answer, UNPROVED + 'tally: refused (%d) at line 2: %s\n' % (number, words), 1))

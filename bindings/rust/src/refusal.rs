@@ -203,7 +203,7 @@ impl fmt::Display for Refusal {
             Self::Passes { .. } => ": an ending whose passes are no list. Write numbers without a leading zero, or two with one hyphen between, and single commas between them: [1 for [01 or [1-, [1,2 for [1,,2",
             Self::ScratchShort => ": the scratch store is too short. Lend one of scratch_bytes(text length) bytes",
             Self::ReadingShort => ": the reading store is too short. Lend one of reading_bytes(text length) bytes",
-            Self::PassRange { .. } => ": an ending with a pass that is 0 or above 32. Number the passes from 1 to 32: [1 for [0",
+            Self::PassRange { .. } => ": an ending with a pass that is 0 or above 32, as in [0 or [33. Number the passes from 1 to 32",
             Self::PassOrder { .. } => ": an ending whose passes do not rise. Write each above the one before it: [1-3 for [3-1, [1,2 for [2,1",
             Self::OverLimit { .. } => unreachable!("said above"),
             Self::Other { .. } => ": this version of the crate has no name for it",

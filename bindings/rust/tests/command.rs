@@ -67,7 +67,7 @@ fn a_refusal_shows_the_line() {
 fn refusals_of_a_pass_list() {
     let says = [
         ("[01B", 14, "an ending whose passes are no list. Write numbers without a leading zero, or two with one hyphen between, and single commas between them: [1 for [01 or [1-, [1,2 for [1,,2"),
-        ("[33B", 17, "an ending with a pass that is 0 or above 32. Number the passes from 1 to 32: [1 for [0"),
+        ("[33B", 17, "an ending with a pass that is 0 or above 32, as in [0 or [33. Number the passes from 1 to 32"),
         ("[3-1B", 18, "an ending whose passes do not rise. Write each above the one before it: [1-3 for [3-1, [1,2 for [2,1"),
     ];
     for (music, number, says) in says {

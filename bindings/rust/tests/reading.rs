@@ -199,7 +199,7 @@ fn refusals_say_what_to_do() {
 fn three_refusals_of_a_pass_list() {
     let cases = [
         (Refusal::Passes { line: 3 }, 14, &["01", "00", "1,", "1-", "1--2", "1,,2", "1-2-3", "0,1-", "33,01"][..], ["no list", "[1 for [01", "[1,2 for [1,,2"]),
-        (Refusal::PassRange { line: 3 }, 17, &["0", "33", "1,0", "1-0", "2,1,33", "3-1,40", "99999999999999999999999"], ["0 or above 32", "[1 for [0", "from 1 to 32"]),
+        (Refusal::PassRange { line: 3 }, 17, &["0", "33", "1,0", "1-0", "2,1,33", "3-1,40", "99999999999999999999999"], ["0 or above 32", "as in [0 or [33", "from 1 to 32"]),
         (Refusal::PassOrder { line: 3 }, 18, &["3-1", "2,1", "1,1", "2-2", "1-3,3"], ["do not rise", "[1-3 for [3-1", "[1,2 for [2,1"]),
     ];
     for (refusal, number, lists, words) in cases {
