@@ -21,49 +21,49 @@ use Rattle.text_numbers.specs.declared.Digits.{Digits}
 use Rattle.text_numbers.specs.declared.Digits.the-variants.{Nothing, Value, Past}
 use Rattle.text_numbers.specs.Digits.{written}
 use Rattle.token_passes.specs.Passes.{isItemByte}
-use Rattle.token_passes.specs.Faults.{numberFor, writtenAt, writtenFor, listAt}
-use Rattle.token_passes.specs.declared.Written.{Written}
-use Rattle.token_passes.specs.declared.Written.the-variants.{Shaped, Misshapen}
+use Rattle.token_passes.specs.Faults.{numberShape, listItemAt, itemShape, listItemsAt}
+use Rattle.token_passes.specs.declared.Shape.{Shape}
+use Rattle.token_passes.specs.declared.Shape.the-variants.{Right, Wrong}
 use Rattle.token_passes.proofs.Cuts.{pieces-on, pieces-last}
 use Rattle.token_passes.proofs.Items.{one-piece, alone-ends, two-pieces, both-ends, more-pieces}
 use Rattle.token_passes.proofs.Reading.{comma-agree, comma-apart}
 
 -- NUMBERS: t are digits
 -- without a leading zero: by what the digits write, up to 32
-unfoldable pub byDigits : ℕ → Digits → Written
-byDigits next Nothing = Misshapen
-byDigits next (Value v) = Shaped true next
-byDigits next Past = Shaped false next
+unfoldable pub byDigits : ℕ → Digits → Shape
+byDigits next Nothing = Wrong
+byDigits next (Value v) = Right true next
+byDigits next Past = Right false next
 
-pub plain-number : (next : ℕ) (t : List ℕ) → all isDigit t ≡ true → is "0" (first t) ≡ false → byDigits next (written 32 t) ≡ numberFor next (listNumber t)
-unfolding byDigits written numberFor listNumber isNumber
+pub plain-number : (next : ℕ) (t : List ℕ) → all isDigit t ≡ true → is "0" (first t) ≡ false → byDigits next (written 32 t) ≡ numberShape next (listNumber t)
+unfolding byDigits written numberShape listNumber isNumber
 plain-number next [] h z = refl
 plain-number next (c ∷ s) h z =
     let p = le-leb 1 _ (lead-positive c s (and-left (isDigit c) (all isDigit s) h) z) in
     rw (h, z) (by-test (leb (decimal 0 (c ∷ s)) 32) (λ q. rw (p, q)) (λ q. rw (p, q)))
 
 -- a 0 by itself, which is no pass
-pub lone-zero : (next : ℕ) (t : List ℕ) → is "0" (first t) ≡ true → length t ≤ 1 → Shaped false next ≡ numberFor next (listNumber t)
-unfolding numberFor listNumber isNumber decimal
+pub lone-zero : (next : ℕ) (t : List ℕ) → is "0" (first t) ≡ true → length t ≤ 1 → Right false next ≡ numberShape next (listNumber t)
+unfolding numberShape listNumber isNumber decimal
 lone-zero next [] z l = absurd (false≢true z)
 lone-zero next (c ∷ []) z l = rw (eqb-true c 48 z)
 lone-zero next (c ∷ d ∷ s) z l = absurd (omega (arith, l))
 
 -- a leading zero
-pub leading-zero : (next : ℕ) (t : List ℕ) → is "0" (first t) ≡ true → 1 < length t → Misshapen ≡ numberFor next (listNumber t)
-unfolding numberFor listNumber isNumber
+pub leading-zero : (next : ℕ) (t : List ℕ) → is "0" (first t) ≡ true → 1 < length t → Wrong ≡ numberShape next (listNumber t)
+unfolding numberShape listNumber isNumber
 leading-zero next t z l =
     let n : eqb (length t) 1 ≡ false = ne-eqb (length t) 1 (λ e. omega (arith, e, l)) in
     rw (z, n) (by-test (not (isNil t) && all isDigit t) (λ h. rw h) (λ h. rw h))
 
 -- in the code's type
-pub number-none : (next : ℕ) (o : Option ℕ) → numberFor next o ≡ Misshapen → o ≡ none
-unfolding numberFor
+pub number-none : (next : ℕ) (o : Option ℕ) → numberShape next o ≡ Wrong → o ≡ none
+unfolding numberShape
 number-none next none e = refl
 number-none next (some v) e = let z : _≡_ {A = ℕ} 0 1 = cc in absurd (omega arith)
 
-pub number-some : (next : ℕ) (o : Option ℕ) (r : Bool) (n : ℕ) → numberFor next o ≡ Shaped r n → (v : ℕ) × (o ≡ some v) × (r ≡ isPass v) × (n ≡ next)
-unfolding numberFor
+pub number-some : (next : ℕ) (o : Option ℕ) (r : Bool) (n : ℕ) → numberShape next o ≡ Right r n → (v : ℕ) × (o ≡ some v) × (r ≡ isPass v) × (n ≡ next)
+unfolding numberShape
 number-some next none r n e = let z : _≡_ {A = ℕ} 0 1 = cc in absurd (omega arith)
 number-some next (some v) r n e = let p : r ≡ isPass v = cc in let q : n ≡ next = cc in (v, refl, p, q)
 
@@ -76,31 +76,31 @@ no-second (some a) q e = rw e
 module _ (line : List ℕ) (i h : ℕ) (k : h ≡ endOf isDigit line i) where
   -- the item by its numbers
   module _ (m : is "-" (getD line h 0) ≡ false) where
-    alone : writtenAt line i ≡ oneNumber (listNumber (run isDigit (drop i line)))
-    unfolding writtenAt listItem
+    alone : listItemAt line i ≡ oneNumber (listNumber (run isDigit (drop i line)))
+    unfolding listItemAt listItem
     alone = rw (one-piece line i 0 h k m)
 
   module _ (m : is "-" (getD line h 0) ≡ true) (e : ℕ) (j : e ≡ endOf isDigit line (h + 1)) where
-    both : is "-" (getD line e 0) ≡ false → writtenAt line i ≡ twoNumbers (listNumber (run isDigit (drop i line))) (listNumber (run isDigit (drop (h + 1) line)))
-    unfolding writtenAt listItem
+    both : is "-" (getD line e 0) ≡ false → listItemAt line i ≡ twoNumbers (listNumber (run isDigit (drop i line))) (listNumber (run isDigit (drop (h + 1) line)))
+    unfolding listItemAt listItem
     both n = rw (two-pieces line i 0 h k m e j n)
 
-    third : is "-" (getD line e 0) ≡ true → writtenAt line i ≡ none
-    unfolding writtenAt listItem
+    third : is "-" (getD line e 0) ≡ true → listItemAt line i ≡ none
+    unfolding listItemAt listItem
     third n = rw (more-pieces line i 0 h k m e j n .2)
 
   -- THE ANSWERS
-  pub shaped-not-first : (next : ℕ) → listNumber (run isDigit (drop i line)) ≡ none → Misshapen ≡ writtenFor next (writtenAt line i)
-  unfolding writtenFor oneNumber twoNumbers
+  pub shaped-not-first : (next : ℕ) → listNumber (run isDigit (drop i line)) ≡ none → Wrong ≡ itemShape next (listItemAt line i)
+  unfolding itemShape oneNumber twoNumbers
   shaped-not-first next a =
       let e = endOf isDigit line (h + 1) in
-      let q : writtenAt line i ≡ none =
+      let q : listItemAt line i ≡ none =
       by-test (is "-" (getD line h 0)) (λ m. by-test (is "-" (getD line e 0)) (λ y. third m e refl y) (λ y. both m e refl y ∙ rw a)) (λ m. alone m ∙ rw a) in
       rw q
 
   module _ (v : ℕ) (a : listNumber (run isDigit (drop i line)) ≡ some v) where
-    pub shaped-one : (r : Bool) → r ≡ isPass v → (getD line h 0 ≡ 45 → ⊥) → Shaped r h ≡ writtenFor (endOf isItemByte line i) (writtenAt line i)
-    unfolding writtenFor oneNumber numbersIn
+    pub shaped-one : (r : Bool) → r ≡ isPass v → (getD line h 0 ≡ 45 → ⊥) → Right r h ≡ itemShape (endOf isItemByte line i) (listItemAt line i)
+    unfolding itemShape oneNumber numbersIn
     shaped-one r p n =
         let m : is "-" (getD line h 0) ≡ false = ne-eqb _ 45 n in
         rw (alone m, a, alone-ends line i 0 h k m, and-true (isPass v), p)
@@ -109,45 +109,45 @@ module _ (line : List ℕ) (i h : ℕ) (k : h ≡ endOf isDigit line i) where
       hyphen : is "-" (getD line h 0) ≡ true
       hyphen = eq-eqb _ 45 m
 
-      pub shaped-not-second : (next : ℕ) → listNumber (run isDigit (drop (h + 1) line)) ≡ none → Misshapen ≡ writtenFor next (writtenAt line i)
-      unfolding writtenFor
+      pub shaped-not-second : (next : ℕ) → listNumber (run isDigit (drop (h + 1) line)) ≡ none → Wrong ≡ itemShape next (listItemAt line i)
+      unfolding itemShape
       shaped-not-second next b =
-          let q : writtenAt line i ≡ none = by-test (is "-" (getD line e 0)) (λ y. third hyphen e j y) (λ y. both hyphen e j y ∙ no-second _ _ b) in
+          let q : listItemAt line i ≡ none = by-test (is "-" (getD line e 0)) (λ y. third hyphen e j y) (λ y. both hyphen e j y ∙ no-second _ _ b) in
           rw q
 
-      pub shaped-no-third : (next : ℕ) → getD line e 0 ≡ 45 → Misshapen ≡ writtenFor next (writtenAt line i)
-      unfolding writtenFor
+      pub shaped-no-third : (next : ℕ) → getD line e 0 ≡ 45 → Wrong ≡ itemShape next (listItemAt line i)
+      unfolding itemShape
       shaped-no-third next y = rw (third hyphen e j (eq-eqb _ 45 y))
 
       pub shaped-two : (w : ℕ) → listNumber (run isDigit (drop (h + 1) line)) ≡ some w → (r : Bool) → r ≡ (isPass v && isPass w) → (getD line e 0 ≡ 45 → ⊥)
-          → Shaped r e ≡ writtenFor (endOf isItemByte line i) (writtenAt line i)
-      unfolding writtenFor twoNumbers numbersIn
+          → Right r e ≡ itemShape (endOf isItemByte line i) (listItemAt line i)
+      unfolding itemShape twoNumbers numbersIn
       shaped-two w b r p n =
           let y : is "-" (getD line e 0) ≡ false = ne-eqb _ 45 n in
           rw (both hyphen e j y, a, b, both-ends line i 0 h k hyphen e j y, and-true (isPass w), p)
 
 -- in the code's type
-pub item-none : (next : ℕ) (o : Option Item) → writtenFor next o ≡ Misshapen → o ≡ none
-unfolding writtenFor
+pub item-none : (next : ℕ) (o : Option Item) → itemShape next o ≡ Wrong → o ≡ none
+unfolding itemShape
 item-none next none e = refl
 item-none next (some i) e = let z : _≡_ {A = ℕ} 0 1 = cc in absurd (omega arith)
 
-pub item-some : (next : ℕ) (o : Option Item) (r : Bool) (n : ℕ) → writtenFor next o ≡ Shaped r n → (i : Item) × (o ≡ some i) × (r ≡ all isPass (numbersIn (i ∷ []))) × (n ≡ next)
-unfolding writtenFor
+pub item-some : (next : ℕ) (o : Option Item) (r : Bool) (n : ℕ) → itemShape next o ≡ Right r n → (i : Item) × (o ≡ some i) × (r ≡ all isPass (numbersIn (i ∷ []))) × (n ≡ next)
+unfolding itemShape
 item-some next none r n e = let z : _≡_ {A = ℕ} 0 1 = cc in absurd (omega arith)
 item-some next (some i) r n e = let p : r ≡ all isPass (numbersIn (i ∷ [])) = cc in let q : n ≡ next = cc in (i, refl, p, q)
 
 -- LISTS
 module _ (line : List ℕ) (i e : ℕ) (k : e ≡ endOf isItemByte line i) where
-  list-on : is "," (getD line e 0) ≡ true → listAt line i ≡ consItem (writtenAt line i) (listAt line (e + 1))
-  unfolding listAt writtenAt listItems
+  list-on : is "," (getD line e 0) ≡ true → listItemsAt line i ≡ consItem (listItemAt line i) (listItemsAt line (e + 1))
+  unfolding listItemsAt listItemAt listItems
   list-on m = rw (pieces-on isPassByte isItemByte (is ",") comma-agree comma-apart refl line i e k m)
 
-  list-last : is "," (getD line e 0) ≡ false → listAt line i ≡ consItem (writtenAt line i) (some [])
-  unfolding listAt writtenAt listItems
+  list-last : is "," (getD line e 0) ≡ false → listItemsAt line i ≡ consItem (listItemAt line i) (some [])
+  unfolding listItemsAt listItemAt listItems
   list-last m = rw (pieces-last isPassByte isItemByte (is ",") comma-agree comma-apart refl line i e k m)
 
-  no-list : writtenAt line i ≡ none → listAt line i ≡ none
+  no-list : listItemAt line i ≡ none → listItemsAt line i ≡ none
   unfolding consItem
   no-list n = by-test (is "," (getD line e 0)) (λ m. list-on m ∙ rw n) (λ m. list-last m ∙ rw n)
 
@@ -161,7 +161,7 @@ faultWith r none = 14
 faultWith r (some is) = rangeOrRise (r && all isPass (numbersIn is))
 
 pub record Faulting (line : List ℕ) (at : ℕ) (r : Bool) (i : ℕ) : Type 0 where
-  pub same : faultWith r (listAt line i) ≡ listFault (listAt line at)
+  pub same : faultWith r (listItemsAt line i) ≡ listFault (listItemsAt line at)
 
 fault-start : (o : Option (List Item)) → faultWith true o ≡ listFault o
 unfolding faultWith listFault
@@ -169,7 +169,7 @@ fault-start none = refl
 fault-start (some is) = refl
 
 pub faulting-start : (line : List ℕ) (at : ℕ) → Faulting line at true at
-faulting-start line at = record { same = fault-start (listAt line at) }
+faulting-start line at = record { same = fault-start (listItemsAt line at) }
 
 -- an item in front
 item-first : (i : Item) (ts : List Item) → all isPass (numbersIn (i ∷ ts)) ≡ (all isPass (numbersIn (i ∷ [])) && all isPass (numbersIn ts))
@@ -183,13 +183,13 @@ fault-item r i none = refl
 fault-item r i (some ts) = ap rangeOrRise (ap (λ b. r && b) (item-first i ts) ∙ sym (and-assoc r (all isPass (numbersIn (i ∷ []))) (all isPass (numbersIn ts))))
 
 module _ (line : List ℕ) (at : ℕ) (r : Bool) (i : ℕ) (g : Faulting line at r i) where
-  pub faulting-none : writtenAt line i ≡ none → 14 ≡ listFault (listAt line at)
+  pub faulting-none : listItemAt line i ≡ none → 14 ≡ listFault (listItemsAt line at)
   unfolding faultWith
   faulting-none n = sym (ap (faultWith r) (no-list line i (endOf isItemByte line i) refl n)) ∙ g .same
 
-  module _ (x : Item) (w : writtenAt line i ≡ some x) (next : ℕ) (k : next ≡ endOf isItemByte line i) (q : Bool) (p : q ≡ (r && all isPass (numbersIn (x ∷ [])))) where
+  module _ (x : Item) (w : listItemAt line i ≡ some x) (next : ℕ) (k : next ≡ endOf isItemByte line i) (q : Bool) (p : q ≡ (r && all isPass (numbersIn (x ∷ [])))) where
     -- the last item
-    pub faulting-last : (getD line next 0 ≡ 44 → ⊥) → rangeOrRise q ≡ listFault (listAt line at)
+    pub faulting-last : (getD line next 0 ≡ 44 → ⊥) → rangeOrRise q ≡ listFault (listItemsAt line at)
     unfolding faultWith numbersIn
     faulting-last n =
         let m : is "," (getD line next 0) ≡ false = ne-eqb _ 44 n in
@@ -202,6 +202,6 @@ module _ (line : List ℕ) (at : ℕ) (r : Bool) (i : ℕ) (g : Faulting line at
         let m : is "," (getD line next 0) ≡ true = eq-eqb _ 44 n in
         record {
           same =
-              ap (λ y. faultWith y (listAt line (next + 1))) p ∙ sym (fault-item r x (listAt line (next + 1)))
-              ∙ ap (λ o. faultWith r (consItem o (listAt line (next + 1)))) (sym w) ∙ ap (faultWith r) (sym (list-on line i next k m)) ∙ g .same;
+              ap (λ y. faultWith y (listItemsAt line (next + 1))) p ∙ sym (fault-item r x (listItemsAt line (next + 1)))
+              ∙ ap (λ o. faultWith r (consItem o (listItemsAt line (next + 1)))) (sym w) ∙ ap (faultWith r) (sym (list-on line i next k m)) ∙ g .same;
         }

@@ -10,23 +10,23 @@ use Rattle.standard.specs.Passes.{Item}
 use Rattle.reader.specs.Pieces.{pieces, separator}
 use Rattle.reader.specs.PassLists.{listItem, listItems, numbersIn, isPass, isPassByte}
 use Rattle.token_passes.specs.Passes.{isItemByte}
-use Rattle.token_passes.specs.declared.Written.{Written}
-use Rattle.token_passes.specs.declared.Written.the-variants.{Shaped, Misshapen}
+use Rattle.token_passes.specs.declared.Shape.{Shape}
+use Rattle.token_passes.specs.declared.Shape.the-variants.{Right, Wrong}
 
 -- a number, with the position after its digits
-unfoldable pub numberFor : ℕ → Option ℕ → Written
-numberFor next none = Misshapen
-numberFor next (some n) = Shaped (isPass n) next
+unfoldable pub numberShape : ℕ → Option ℕ → Shape
+numberShape next none = Wrong
+numberShape next (some n) = Right (isPass n) next
 
 -- the item at a position
-unfoldable pub writtenAt : List ℕ → ℕ → Option Item
-writtenAt line at = listItem (pieces (separator (is "-")) 0 (run isItemByte (drop at line)))
+unfoldable pub listItemAt : List ℕ → ℕ → Option Item
+listItemAt line at = listItem (pieces (separator (is "-")) 0 (run isItemByte (drop at line)))
 
 -- an item, with the position after it
-unfoldable pub writtenFor : ℕ → Option Item → Written
-writtenFor next none = Misshapen
-writtenFor next (some i) = Shaped (all isPass (numbersIn (i ∷ []))) next
+unfoldable pub itemShape : ℕ → Option Item → Shape
+itemShape next none = Wrong
+itemShape next (some i) = Right (all isPass (numbersIn (i ∷ []))) next
 
 -- the list at a position
-unfoldable pub listAt : List ℕ → ℕ → Option (List Item)
-listAt line at = listItems (pieces (separator (is ",")) 0 (run isPassByte (drop at line)))
+unfoldable pub listItemsAt : List ℕ → ℕ → Option (List Item)
+listItemsAt line at = listItems (pieces (separator (is ",")) 0 (run isPassByte (drop at line)))

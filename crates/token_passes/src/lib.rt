@@ -10,7 +10,7 @@ ghost use Rattle.reader.specs.PassLists.{listNumber, isPassByte};
 ghost use Rattle.reader.specs.PassesInTurn.{passNumber, listFault};
 ghost use Rattle.reader.specs.Records.{passBits};
 ghost use Rattle.token_passes.specs.Passes.{passFor, isItemByte, itemAt, itemFor, passesAt, passesFor, firstFor};
-ghost use Rattle.token_passes.specs.Faults.{numberFor, writtenAt, writtenFor, listAt};
+ghost use Rattle.token_passes.specs.Faults.{numberShape, listItemAt, itemShape, listItemsAt};
 
 const LAST_PASS: u64 = 32;
 
@@ -127,41 +127,42 @@ pub fn parse_passes(line: &[u8], at: usize) -> Passes
     }
 }
 
-// What is well shaped, whether its numbers lie from 1 to 32, and the position after it; or what is not.
-enum Written {
-    Shaped { in_range: bool, next: usize },
-    Misshapen,
+// Of a number or item: well shaped, whether its numbers lie from 1 to 32, and the position after it; or not.
+enum Shape {
+    Right { in_range: bool, next: usize },
+    Wrong,
 }
 
 // A number of any length without leading zero, or a 0 by itself.
-fn written_number(line: &[u8], at: usize) -> Written
-    ensures { λ r. ⌜ r ≡ numberFor (endOf isDigit (now (line .entry)) at) (listNumber (run isDigit (drop at (now (line .entry))))) ⌝ }
+fn number_shape(line: &[u8], at: usize) -> Shape
+    ensures { λ r. ⌜ r ≡ numberShape (endOf isDigit (now (line .entry)) at) (listNumber (run isDigit (drop at (now (line .entry))))) ⌝ }
 {
     let number = text_numbers::read_number(line, at, LAST_PASS);
     let digits = number.digits;
     let next = number.next;
     if text_bytes::byte_at(line, at) == b'0' {
         if 1 < next - at {
-            return Written::Misshapen;
+            return Shape::Wrong;
         }
-        return Written::Shaped {
+        return Shape::Right {
             in_range: false,
             next,
         };
     }
     match digits {
-        text_numbers::Digits::Nothing => Written::Misshapen,
-        text_numbers::Digits::Past => Written::Shaped {
+        text_numbers::Digits::Nothing => Shape::Wrong,
+        text_numbers::Digits::Past => Shape::Right {
             in_range: false,
             next,
         },
-        text_numbers::Digits::Value(_) => Written::Shaped {
+        text_numbers::Digits::Value(_) => Shape::Right {
             in_range: true,
             next,
         },
     }
 }
 
+// As a function, so that what calls it has one way on and not two.
 fn both(a: bool, b: bool) -> bool
     ensures { λ r. ⌜ r ≡ (a && b) ⌝ }
 {
@@ -169,64 +170,61 @@ fn both(a: bool, b: bool) -> bool
 }
 
 // A number, or two with one hyphen between.
-fn written_item(line: &[u8], at: usize) -> Written
-    ensures { λ r. ⌜ r ≡ writtenFor (endOf isItemByte (now (line .entry)) at) (writtenAt (now (line .entry)) at) ⌝ }
+fn item_shape(line: &[u8], at: usize) -> Shape
+    ensures { λ r. ⌜ r ≡ itemShape (endOf isItemByte (now (line .entry)) at) (listItemAt (now (line .entry)) at) ⌝ }
 {
-    let Written::Shaped {
+    let Shape::Right {
         in_range: first_in_range,
         next: after_first,
-    } = written_number(line, at)
+    } = number_shape(line, at)
     else {
-        return Written::Misshapen;
+        return Shape::Wrong;
     };
     if text_bytes::byte_at(line, after_first) != b'-' {
-        return Written::Shaped {
+        return Shape::Right {
             in_range: first_in_range,
             next: after_first,
         };
     }
-    let Written::Shaped {
+    let Shape::Right {
         in_range: second_in_range,
         next: after_second,
-    } = written_number(line, after_first + 1)
+    } = number_shape(line, after_first + 1)
     else {
-        return Written::Misshapen;
+        return Shape::Wrong;
     };
     if text_bytes::byte_at(line, after_second) == b'-' {
-        return Written::Misshapen;
+        return Shape::Wrong;
     }
-    Written::Shaped {
+    Shape::Right {
         in_range: both(first_in_range, second_in_range),
         next: after_second,
     }
 }
 
-fn chosen(choice: bool, yes: u8, no: u8) -> u8
-    ensures { λ r. ⌜ r ≡ cond choice yes no ⌝ }
+fn pick(yes: bool, a: u8, b: u8) -> u8
+    ensures { λ r. ⌜ r ≡ cond yes a b ⌝ }
 {
-    if choice {
-        return yes;
-    }
-    no
+    if yes { a } else { b }
 }
 
 // The refusal of the list at `at`, behind the `[`, which `parse_passes` does not read: 14 by the shape of the whole list, whatever its numbers are; 17 by a number out of range; else 18, for its numbers do not rise.
 pub fn list_fault(line: &[u8], at: usize) -> u8
-    ensures { λ r. ⌜ r ≡ listFault (listAt (now (line .entry)) at) ⌝ }
+    ensures { λ r. ⌜ r ≡ listFault (listItemsAt (now (line .entry)) at) ⌝ }
 {
     let mut in_range = true;
     let mut i = at;
     loop {
-        let Written::Shaped {
+        let Shape::Right {
             in_range: item_in_range,
             next: after_item,
-        } = written_item(line, i)
+        } = item_shape(line, i)
         else {
             return 14;
         };
         in_range = both(in_range, item_in_range);
         if text_bytes::byte_at(line, after_item) != b',' {
-            return chosen(in_range, 18, 17);
+            return pick(in_range, 18, 17);
         }
         i = after_item + 1;
     }

@@ -14,7 +14,7 @@ use Rattle.laws.proofs.Spans.{run-within}
 use Rattle.standard.specs.Passes.{Item}
 use Rattle.reader.specs.PassLists.{numbersIn, isPass}
 use Rattle.token_passes.specs.Passes.{isItemByte}
-use Rattle.token_passes.specs.Faults.{writtenAt}
+use Rattle.token_passes.specs.Faults.{listItemAt}
 use Rattle.token_passes.proofs.Shapes.{item-none, item-some, Faulting, faulting-start, faulting-none, faulting-last, faulting-on}
 use borrow.Author.Needs.{needs}
 use Rattle.token_passes.proofs.list_fault.Statement.{statement}
@@ -32,12 +32,12 @@ loop-holds c = faulting-start _ _
 returns : tie.Need-returns Inv-loop μ-loop
 returns c =
     let l = c .before .before .before in
-    faulting-none _ _ _ _ (l .loop .inv) (item-none _ _ (sym (c .before .before .written-item .ensures) ∙ c .enum-told .given .1))
+    faulting-none _ _ _ _ (l .loop .inv) (item-none _ _ (sym (c .before .before .item-shape .ensures) ∙ c .enum-told .given .1))
 
 -- an item was read
 item : (c : tie.After-item-in-range Inv-loop μ-loop)
-    → (x : Item) × (writtenAt (c .before .before .before .before .before .args .line .now) (c .before .before .before .loop .i) ≡ some x) × (c .item-in-range .given .0 .0 ≡ all isPass (numbersIn (x ∷ []))) × (c .item-in-range .given .0 .1 .0 ≡ endOf isItemByte (c .before .before .before .before .before .args .line .now) (c .before .before .before .loop .i))
-item c = item-some _ _ _ _ (sym (c .before .before .written-item .ensures) ∙ c .item-in-range .given .1)
+    → (x : Item) × (listItemAt (c .before .before .before .before .before .args .line .now) (c .before .before .before .loop .i) ≡ some x) × (c .item-in-range .given .0 .0 ≡ all isPass (numbersIn (x ∷ []))) × (c .item-in-range .given .0 .1 .0 ≡ endOf isItemByte (c .before .before .before .before .before .args .line .now) (c .before .before .before .loop .i))
+item c = item-some _ _ _ _ (sym (c .before .before .item-shape .ensures) ∙ c .item-in-range .given .1)
 
 -- a comma behind it
 comma : (c : tie.Else1 Inv-loop μ-loop) → getD (c .before .before .before .before .before .before .before .before .before .args .line .now) (c .before .before .before .before .item-in-range .given .0 .1 .0) 0 ≡ 44
@@ -51,7 +51,7 @@ returns-2 c =
     let f = c .before .before .before .before .before in
     let l = f .before .before .before in
     let q = item f in
-    c .chosen .ensures
+    c .pick .ensures
     ∙ faulting-last _ _ _ _ (l .loop .inv) (q .0) (q .1) _ (q .3) _ (c .before .before .before .both .ensures ∙ ap (λ b. l .loop .in-range && b) (q .2)) (λ k. c .before .if1 .taken (c .before .before .byte-at .ensures ∙ k))
 
 add-i : tie.Need-add-i Inv-loop μ-loop

@@ -1,4 +1,4 @@
--- `token_passes::written_number` meets its contract.
+-- `token_passes::number_shape` meets its contract.
 use Prim.Native.Nat.{ℕ, _-_, _≤_, _<_}
 use mathlib.Core.Path.{_≡_, refl, sym, ap, _∙_}
 use mathlib.Core.Bool.{true, false}
@@ -13,13 +13,13 @@ use Rattle.standard.specs.Bytes.{is, isDigit, first}
 use Rattle.text_numbers.specs.Digits.{numberAt, written}
 use Rattle.text_numbers.specs.declared.Read.{Read}
 use Rattle.reader.specs.PassLists.{listNumber}
-use Rattle.token_passes.specs.Faults.{numberFor}
-use Rattle.token_passes.specs.declared.Written.the-variants.{Shaped}
+use Rattle.token_passes.specs.Faults.{numberShape}
+use Rattle.token_passes.specs.declared.Shape.the-variants.{Right}
 use Rattle.token_passes.proofs.Items.{zero-first}
 use Rattle.token_passes.proofs.Shapes.{byDigits, plain-number, lone-zero, leading-zero}
 use borrow.Author.Needs.{needs}
-use Rattle.token_passes.proofs.written_number.Statement.{statement}
-use Rattle.token_passes.proofs.written_number.Tie as tie
+use Rattle.token_passes.proofs.number_shape.Statement.{statement}
+use Rattle.token_passes.proofs.number_shape.Tie as tie
 
 -- the line and the place, and the digits there
 abbrev text : tie.After-read-number → List ℕ
@@ -47,7 +47,7 @@ zero c =
 
 -- none does
 plain : (c : tie.Else1) → byDigits (endOf isDigit (text (c .before .before)) (place (c .before .before))) (c .before .before .read-number .result .digits)
-    ≡ numberFor (endOf isDigit (text (c .before .before)) (place (c .before .before))) (listNumber (digits-at (c .before .before)))
+    ≡ numberShape (endOf isDigit (text (c .before .before)) (place (c .before .before))) (listNumber (digits-at (c .before .before)))
 plain c =
     let r = c .before .before in
     let z : is "0" (first (digits-at r)) ≡ false =
@@ -65,7 +65,7 @@ returns c =
 returns-2 : tie.Need-returns-2
 returns-2 c =
     let r = c .before .before .before in
-    ap (Shaped false) (ends r) ∙ lone-zero _ (digits-at r) (zero (c .before)) (omega (arith, c .if2 .left, ends r, length-run isDigit (drop (place r) (text r))))
+    ap (Right false) (ends r) ∙ lone-zero _ (digits-at r) (zero (c .before)) (omega (arith, c .if2 .left, ends r, length-run isDigit (drop (place r) (text r))))
 
 returns-3 : tie.Need-returns-3
 unfolding byDigits
@@ -77,16 +77,16 @@ returns-4 : tie.Need-returns-4
 unfolding byDigits
 returns-4 c =
     let e = c .before .before in
-    ap (Shaped false) (ends (e .before .before)) ∙ ap (byDigits _) (sym (c .enum-told2 .given .1)) ∙ plain e
+    ap (Right false) (ends (e .before .before)) ∙ ap (byDigits _) (sym (c .enum-told2 .given .1)) ∙ plain e
 
 returns-5 : tie.Need-returns-5
 unfolding byDigits
 returns-5 c =
     let e = c .before .before in
-    ap (Shaped true) (ends (e .before .before)) ∙ ap (byDigits _) (sym (c .enum-told3 .given .1)) ∙ plain e
+    ap (Right true) (ends (e .before .before)) ∙ ap (byDigits _) (sym (c .enum-told3 .given .1)) ∙ plain e
 
-pub written-number-spec : {M : Type 1} → statement M
-written-number-spec =
+pub number-shape-spec : {M : Type 1} → statement M
+number-shape-spec =
     tie.close
     (tie.spec
     (λ c κs. search needs)

@@ -1,4 +1,4 @@
--- `token_passes::written_item` meets its contract.
+-- `token_passes::item_shape` meets its contract.
 use Prim.Native.Nat.{ℕ, _+_}
 use mathlib.Core.Path.{_≡_, refl, sym, ap₂, _∙_}
 use mathlib.Core.Bool.{_&&_}
@@ -14,8 +14,8 @@ use Rattle.standard.specs.Bytes.{isDigit}
 use Rattle.reader.specs.PassLists.{listNumber, isPass}
 use Rattle.token_passes.proofs.Shapes.{number-none, number-some, shaped-not-first, shaped-one, shaped-not-second, shaped-no-third, shaped-two}
 use borrow.Author.Needs.{needs}
-use Rattle.token_passes.proofs.written_item.Statement.{statement}
-use Rattle.token_passes.proofs.written_item.Tie as tie
+use Rattle.token_passes.proofs.item_shape.Statement.{statement}
+use Rattle.token_passes.proofs.item_shape.Tie as tie
 
 -- the line and the place, and what was read, seen from each number
 abbrev text : tie.After-first-in-range → List ℕ
@@ -32,11 +32,11 @@ abbrev of-second : tie.After-second-in-range → tie.After-first-in-range
 of-second c = c .before .before .before .before .before .before
 
 first : (c : tie.After-first-in-range) → (v : ℕ) × (listNumber (run isDigit (drop (place c) (text c))) ≡ some v) × (c .first-in-range .given .0 .0 ≡ isPass v) × (end c ≡ endOf isDigit (text c) (place c))
-first c = number-some _ _ _ _ (sym (c .before .before .written-number .ensures) ∙ c .first-in-range .given .1)
+first c = number-some _ _ _ _ (sym (c .before .before .number-shape .ensures) ∙ c .first-in-range .given .1)
 
 second : (c : tie.After-second-in-range)
     → (v : ℕ) × (listNumber (run isDigit (drop (end (of-second c) + 1) (text (of-second c)))) ≡ some v) × (c .second-in-range .given .0 .0 ≡ isPass v) × (c .second-in-range .given .0 .1 .0 ≡ endOf isDigit (text (of-second c)) (end (of-second c) + 1))
-second c = number-some _ _ _ _ (sym (c .before .before .written-number2 .ensures) ∙ c .second-in-range .given .1)
+second c = number-some _ _ _ _ (sym (c .before .before .number-shape2 .ensures) ∙ c .second-in-range .given .1)
 
 hyphen : (c : tie.Else1) → getD (text (c .before .before .before)) (end (c .before .before .before)) 0 ≡ 45
 hyphen c = sym (c .before .byte-at .ensures) ∙ c .if1 .left
@@ -44,7 +44,7 @@ hyphen c = sym (c .before .byte-at .ensures) ∙ c .if1 .left
 returns : tie.Need-returns
 returns c =
     let a = c .before .before .before .before .args in
-    shaped-not-first (a .line .now) (a .at) _ refl _ (number-none _ _ (sym (c .before .before .written-number .ensures) ∙ c .enum-told .given .1))
+    shaped-not-first (a .line .now) (a .at) _ refl _ (number-none _ _ (sym (c .before .before .number-shape .ensures) ∙ c .enum-told .given .1))
 
 returns-2 : tie.Need-returns-2
 returns-2 c =
@@ -52,8 +52,8 @@ returns-2 c =
     let q = first p in
     shaped-one (text p) (place p) _ (q .3) _ (q .1) _ (q .2) (λ k. c .if1 .taken (c .before .byte-at .ensures ∙ k))
 
-add-written-number : tie.Need-add-written-number
-add-written-number c =
+add-number-shape : tie.Need-add-number-shape
+add-number-shape c =
     let p = c .before .before .before in
     omega (arith, run-within (λ x. eqb x 45) refl (text p) (end p) (eq-eqb _ _ (hyphen c)))
 
@@ -62,7 +62,7 @@ returns-3 c =
     let e = c .before .before .before in
     let p = e .before .before .before in
     let q = first p in
-    shaped-not-second (text p) (place p) _ (q .3) _ (q .1) (hyphen e) _ refl _ (number-none _ _ (sym (c .before .before .written-number2 .ensures) ∙ c .enum-told2 .given .1))
+    shaped-not-second (text p) (place p) _ (q .3) _ (q .1) (hyphen e) _ refl _ (number-none _ _ (sym (c .before .before .number-shape2 .ensures) ∙ c .enum-told2 .given .1))
 
 returns-4 : tie.Need-returns-4
 returns-4 c =
@@ -80,8 +80,8 @@ returns-5 c =
     let w = second s in
     shaped-two (text p) (place p) _ (q .3) _ (q .1) (hyphen (s .before .before .before)) _ (w .3) _ (w .1) _ (c .both .ensures ∙ ap₂ _&&_ (q .2) (w .2)) (λ k. c .before .if2 .left (c .before .before .byte-at2 .ensures ∙ k))
 
-pub written-item-spec : {M : Type 1} → statement M
-written-item-spec =
+pub item-shape-spec : {M : Type 1} → statement M
+item-shape-spec =
     tie.close
     (tie.spec
     (λ c κs. search needs)
@@ -90,7 +90,7 @@ written-item-spec =
     returns
     (λ c κs. search needs)
     returns-2
-    add-written-number
+    add-number-shape
     (λ c κs. search needs)
     (λ c. search needs)
     (λ c. search needs)
