@@ -1,6 +1,5 @@
 -- PASS LISTS AND THEIR REFUSALS (T-01): each list between `[` and a note, in the second line of a tune; a refusal's number is that of the first test that the whole list fails.
 use Prim.Native.Nat.{ℕ}
-use Prim.Native.String.{String}
 use mathlib.Core.Path.{_≡_, refl}
 use mathlib.Core.List.{List, [], _∷_, _++_, map}
 use Rattle.standard.specs.Bytes.{ascii}

@@ -1,7 +1,7 @@
 -- Texts of digits: how far they reach, what they write, and that nothing in them is white space or a separator.
-use Prim.Native.Nat.{ℕ, suc, _+_, _≤_, _<_}
+use Prim.Native.Nat.{ℕ, suc, _+_, _-_, _*_, _≤_, _<_}
 use mathlib.Core.Path.{_≡_, refl, ap, _∙_}
-use mathlib.Core.Bool.{Bool, true, false, not, _&&_, false≢true}
+use mathlib.Core.Bool.{Bool, true, false, cond, not, _&&_, false≢true}
 use mathlib.Core.Option.{none, some}
 use mathlib.Core.List.{List, [], _∷_, _++_}
 use native.Mathlib.Nat.{not-suc-le-zero}
@@ -10,11 +10,24 @@ use lib.Dec.{eqb, leb}
 use lib.ListN.{length}
 use borrow.Author.Tests.{eqb-true, le-leb, lt-leb, leb-true}
 use Rattle.laws.specs.Lists.{all, isNil, countWhile}
-use Rattle.laws.proofs.Bools.{by-test, both-true, and-left, and-right, and-both, or-none, and-no-right, eqb-same}
+use Rattle.laws.proofs.Bools.{by-test, both-true, and-left, and-right, or-none, and-no-right, eqb-same}
 use Rattle.laws.proofs.Spans.{count-while-yes}
 use Rattle.standard.specs.Bytes.{isDigit, decimal, digits}
 use Rattle.reader.specs.Text.{isSpace, within}
 use Rattle.reader.specs.Pieces.{numeral, before, after, pieces, separator, trimStart, consTrim, trimEnd, trimmed}
+
+-- a digit is from 48 to 57
+pub digit-low : (c : ℕ) → isDigit c ≡ true → 48 ≤ c
+digit-low c e = leb-true 48 c (and-left (leb 48 c) (leb c 57) e)
+
+pub digit-high : (c : ℕ) → isDigit c ≡ true → c ≤ 57
+digit-high c e = leb-true c 57 (and-right (leb 48 c) (leb c 57) e)
+
+-- more digits write no smaller number
+pub decimal-grows : (n : ℕ) (s : List ℕ) → n ≤ decimal n s
+unfolding decimal
+decimal-grows n [] = omega arith
+decimal-grows n (c ∷ s) = omega (arith, decimal-grows (n * 10 + (c - 48)) s)
 
 -- a digit is no byte that is no digit
 pub digit-not : (c x : ℕ) → isDigit c ≡ true → isDigit x ≡ false → eqb c x ≡ false
@@ -23,7 +36,7 @@ digit-not c x d n = by-test (eqb c x) (λ e. absurd (both-true (isDigit x) (rw (
 -- nor white space
 pub digit-solid : (c : ℕ) → isDigit c ≡ true → isSpace c ≡ false
 digit-solid c d =
-    let low = leb-true 48 c (and-left (leb 48 c) (leb c 57) d) in
+    let low = digit-low c d in
     or-none (within 9 13 c) (eqb c 32) (and-no-right (leb 9 c) (leb c 13) (lt-leb c 13 (omega arith))) (digit-not c 32 d refl)
 
 -- a run of one kind before what is not
@@ -32,10 +45,19 @@ count-while-front p [] t a h = h
 count-while-front p (c ∷ d) t a h = count-while-yes p c (d ++ t) (and-left (p c) (all p d) a) ∙ ap suc (count-while-front p d t (and-right (p c) (all p d) a) h)
 
 -- what digits write, if it is at most top
-pub digits-some : (top : ℕ) (d : List ℕ) → 0 < length d → all isDigit d ≡ true → decimal 0 d ≤ top → digits top d ≡ some (decimal 0 d)
+pub digits-by : (top : ℕ) (d : List ℕ) → 0 < length d → all isDigit d ≡ true → digits top d ≡ cond (leb (decimal 0 d) top) (some (decimal 0 d)) none
 unfolding digits
-digits-some top [] h a l = absurd (not-suc-le-zero h)
-digits-some top (c ∷ d) h a l = rw (and-both (all isDigit (c ∷ d)) (leb (decimal 0 (c ∷ d)) top) a (le-leb (decimal 0 (c ∷ d)) top l), digits)
+digits-by top [] h a = absurd (not-suc-le-zero h)
+digits-by top (c ∷ d) h a = by-test (leb (decimal 0 (c ∷ d)) top) (λ q. rw (a, q, digits)) (λ q. rw (a, q, digits))
+
+pub digits-some : (top : ℕ) (d : List ℕ) → 0 < length d → all isDigit d ≡ true → decimal 0 d ≤ top → digits top d ≡ some (decimal 0 d)
+digits-some top d h a l = digits-by top d h a ∙ rw (le-leb (decimal 0 d) top l)
+
+-- a text with another byte in it writes nothing
+pub digits-other : (top : ℕ) (s : List ℕ) → all isDigit s ≡ false → digits top s ≡ none
+unfolding digits
+digits-other top [] h = refl
+digits-other top (c ∷ s) h = rw (h, digits)
 
 -- it is never above
 pub digits-le : (top : ℕ) (s : List ℕ) (v : ℕ) → digits top s ≡ some v → v ≤ top

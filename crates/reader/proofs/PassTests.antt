@@ -1,21 +1,22 @@
 -- PASS LISTS BY THREE TESTS AND IN TURN (T-01): a list is read in turn just if it is well shaped, in range and rising, and has the same passes; so what is not read in turn is refused by the first of the three tests that fails, and nothing else is.
-use Prim.Native.Nat.{ℕ, suc, _+_, _*_, _-_, _≤_, _<_}
+use Prim.Native.Nat.{ℕ, suc, _+_, _*_, _-_, _≤_}
 use mathlib.Core.Path.{_≡_, refl, sym, ap, ap₂, _∙_}
 use mathlib.Core.Logic.{_⊎_, inl, inr}
-use mathlib.Core.Bool.{Bool, true, false, cond, not, _&&_, _||_, false≢true}
+use mathlib.Core.Bool.{Bool, true, false, cond, not, _&&_, false≢true}
 use mathlib.Core.Option.{Option, none, some}
 use mathlib.Core.List.{List, [], _∷_, _++_}
 use native.Mathlib.Omega.{arith}
 use lib.Dec.{leb, ltb, eqb}
 use lib.ListN.{length, take}
 use borrow.Author.Tests.{leb-true, leb-false, le-leb, ne-eqb, eqb-true, eqb-false}
-use Rattle.laws.specs.Lists.{all, isNil, countWhile}
+use Rattle.laws.specs.Lists.{all, countWhile}
 use Rattle.laws.proofs.Bools.{by-test, and-left, and-right, and-assoc}
 use Rattle.standard.specs.Bytes.{is, isDigit, first, decimal, digits}
 use Rattle.standard.specs.Passes.{Item, pass, passes, passesOf}
 use Rattle.reader.specs.Pieces.{pieces, separator}
 use Rattle.reader.specs.Token.{Taken, taken, refused}
 use Rattle.reader.specs.PassLists.{isNumber, listNumber, oneNumber, twoNumbers, listItem, consItem, listItems, numbersIn, isPass, riseAbove, rise, passesIn, Listed, listed, faulty, tested, isPassByte, voltaAs, voltaOf}
+use Rattle.reader.proofs.Digits.{digit-low, decimal-grows, digits-by, digits-other}
 use Rattle.reader.specs.PassesInTurn.{passNumber, single, range, itemOf, lastPass, inTurn, passList, listFault, orFaulty}
 
 -- A NUMBER is read in turn if it is well shaped and in range
@@ -23,38 +24,22 @@ abbrev kept : Option ℕ → Option ℕ
 kept none = none
 kept (some n) = cond (isPass n) (some n) none
 
-decimal-ge : (a : ℕ) (s : List ℕ) → a ≤ decimal a s
-unfolding decimal
-decimal-ge a [] = omega arith
-decimal-ge a (c ∷ s) = let h = decimal-ge (a * 10 + (c - 48)) s in omega arith
-
 -- without a leading zero it is 1 at least
 pub lead-positive : (c : ℕ) (s : List ℕ) → isDigit c ≡ true → is "0" c ≡ false → 1 ≤ decimal 0 (c ∷ s)
 unfolding decimal
 lead-positive c s d z =
-    let lo : 48 ≤ c = leb-true 48 c (and-left (leb 48 c) (leb c 57) d) in
     let ne = eqb-false c 48 z in
-    let h = decimal-ge (0 * 10 + (c - 48)) s in
-    let big : 1 ≤ c - 48 = by-test (leb 1 (c - 48)) (λ e. leb-true _ _ e) (λ e. let w : c - 48 < 1 = leb-false 1 (c - 48) e in absurd (ne (omega arith))) in
+    let h = decimal-grows (0 * 10 + (c - 48)) s in
+    let big : 1 ≤ c - 48 = by-test (leb 1 (c - 48)) (λ e. leb-true _ _ e) (λ e. absurd (ne (omega (arith, leb-false 1 (c - 48) e, digit-low c d)))) in
     omega arith
-
-digits-yes : (s : List ℕ) → (not (isNil s) && all isDigit s) ≡ true → digits 32 s ≡ cond (leb (decimal 0 s) 32) (some (decimal 0 s)) none
-unfolding digits
-digits-yes [] h = absurd (false≢true h)
-digits-yes (c ∷ s) h = by-test (leb (decimal 0 (c ∷ s)) 32) (λ q. rw (h, q, digits)) (λ q. rw (h, q, digits))
-
-digits-no : (s : List ℕ) → (not (isNil s) && all isDigit s) ≡ false → digits 32 s ≡ none
-unfolding digits
-digits-no [] h = refl
-digits-no (c ∷ s) h = rw (h, digits)
 
 digits-kept : (c : ℕ) (s : List ℕ) → is "0" c ≡ false → digits 32 (c ∷ s) ≡ kept (listNumber (c ∷ s))
 unfolding listNumber isNumber
 digits-kept c s z =
     by-test (isDigit c && all isDigit s)
     (λ h. let p = le-leb 1 _ (lead-positive c s (and-left (isDigit c) (all isDigit s) h) z) in
-    rw (h, z) (digits-yes (c ∷ s) h ∙ by-test (leb (decimal 0 (c ∷ s)) 32) (λ q. rw (q, p)) (λ q. rw (q, p))))
-    (λ h. rw h (digits-no (c ∷ s) h))
+    rw (h, z) (digits-by 32 (c ∷ s) (omega arith) h ∙ by-test (leb (decimal 0 (c ∷ s)) 32) (λ q. rw (q, p)) (λ q. rw (q, p))))
+    (λ h. rw h (digits-other 32 (c ∷ s) h))
 
 -- a leading zero
 zero-kept : (c : ℕ) (s : List ℕ) → is "0" c ≡ true → none ≡ kept (listNumber (c ∷ s))
@@ -64,13 +49,13 @@ zero-kept c (d ∷ s) z =
     let n : eqb (length (c ∷ d ∷ s)) 1 ≡ false = ne-eqb (length (c ∷ d ∷ s)) 1 (λ e. omega (arith, e)) in
     rw (z, n) (by-test (isDigit c && (isDigit d && all isDigit s)) (λ h. rw h) (λ h. rw h))
 
-no-digit : none ≡ kept (listNumber [])
-unfolding listNumber isNumber
+no-digit : digits 32 [] ≡ kept (listNumber [])
+unfolding digits listNumber isNumber
 no-digit = refl
 
 number-kept : (s : List ℕ) → passNumber s ≡ kept (listNumber s)
 unfolding passNumber
-number-kept [] = digits-no [] refl ∙ no-digit
+number-kept [] = no-digit
 number-kept (c ∷ s) = by-test (is "0" c) (λ z. rw z (zero-kept c s z)) (λ z. rw z (digits-kept c s z))
 
 -- AN ITEM is read in turn if its numbers are in range and rise above `low`

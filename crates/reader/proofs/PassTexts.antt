@@ -16,7 +16,7 @@ use Rattle.standard.specs.Passes.{pass, passes, passesOf}
 use Rattle.standard.specs.Texts.{Number, commaed, PassesText, ended, number, range}
 use Rattle.reader.specs.Token.{taken, volta}
 use Rattle.reader.specs.Pieces.{pieces, separator}
-use Rattle.reader.specs.PassLists.{listItems, tested, isPassByte, voltaAs, voltaOf}
+use Rattle.reader.specs.PassLists.{isPassByte, voltaAs, voltaOf}
 use Rattle.reader.specs.PassesInTurn as lists
 use Rattle.reader.specs.PassesInTurn.{passNumber, itemOf, lastPass, inTurn, passList}
 use Rattle.reader.proofs.Digits.{digit-not, count-while-front, digits-some, pieces-digits, pieces-two}

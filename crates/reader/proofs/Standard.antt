@@ -33,7 +33,7 @@ use Rattle.reader.specs.Pitches.{octaveFrom, Before, accidentalOf, signs
 use Rattle.reader.specs.Token.{taken, barline, tuplet, volta}
 use Rattle.reader.specs.Tuplets.{notZero, positive, normalFor, orOneLess, counted, withCount, withNormal, withActual, tupletOf}
 use Rattle.reader.specs.Barlines.{barlineOf}
-use Rattle.reader.specs.PassLists.{listItems, tested, isPassByte, voltaAs, voltaOf}
+use Rattle.reader.specs.PassLists.{isPassByte, voltaAs, voltaOf}
 use Rattle.reader.specs.PassesInTurn.{passNumber, itemOf, single, range, inTurn, passList}
 use Rattle.reader.specs.State.{Note}
 use Rattle.reader.specs.Part.{canBeam, beamed, runAfter}

@@ -14,7 +14,6 @@ use Rattle.laws.proofs.Bools.{by-test}
 use Rattle.standard.specs.Bytes.{is, isDigit, first}
 use Rattle.standard.specs.Bars.{Symbol, barSymbols, symbolAt}
 use Rattle.standard.specs.Pitches.{Written, isLetter}
-use Rattle.reader.specs.Pieces.{pieces, separator}
 use Rattle.reader.specs.Pitches.{octaveOf, Before, accidentalOf, chordOf}
 use Rattle.reader.specs.Token.{Token, Taken}
 use Rattle.reader.specs.Tuplets.{positive, counted, withCount, withNormal, withActual, tupletOf, orSlur}

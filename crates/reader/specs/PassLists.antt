@@ -9,7 +9,7 @@ use Rattle.laws.specs.Lists.{all, isNil, countWhile}
 use Rattle.standard.specs.Bytes.{is, isDigit, first, decimal}
 use Rattle.standard.specs.Passes.{Item, pass, passes, passesOf}
 use Rattle.reader.specs.Pieces.{pieces, separator}
-use Rattle.reader.specs.Token.{Token, volta, refused, Taken, taken}
+use Rattle.reader.specs.Token.{volta, refused, Taken, taken}
 
 -- THE SHAPE: "a list of the wrong shape, a leading zero included, keeps 14; a 0 by itself is well shaped"
 -- a number: one digit or more, of any value; the first is no 0 unless it is the only one

@@ -11,27 +11,15 @@ use lib.Seq.{take-all}
 use borrow.Author.Tests.{lt-leb, leb-true, leb-false, eq-eqb, ne-eqb}
 use Rattle.laws.specs.Lists.{all, countWhile}
 use Rattle.laws.specs.Spans.{run, endOf}
-use Rattle.laws.proofs.Bools.{by-test, and-left, and-right}
+use Rattle.laws.proofs.Bools.{by-test}
 use Rattle.laws.proofs.Spans.{run-within, run-on, run-off, end-on, end-off, run-passes, count-while-all, count-while-whole, count-while-le}
 use Rattle.standard.specs.Bytes.{isDigit, decimal, digits}
 use Rattle.text_numbers.specs.declared.Digits.{Digits}
 use Rattle.text_numbers.specs.declared.Digits.the-variants.{Nothing, Value, Past}
 use Rattle.reader.specs.Pieces.{numeral}
+use Rattle.reader.proofs.Digits.{decimal-grows, digits-other}
 use Rattle.text_numbers.specs.declared.Read.{Read}
 use Rattle.text_numbers.specs.Digits.{most, upTo, written, withDigit, atMost, option, numberAt}
-
--- a digit is from 48 to 57
-pub digit-low : (c : ℕ) → isDigit c ≡ true → 48 ≤ c
-digit-low c e = leb-true 48 c (and-left (leb 48 c) (leb c 57) e)
-
-pub digit-high : (c : ℕ) → isDigit c ≡ true → c ≤ 57
-digit-high c e = leb-true c 57 (and-right (leb 48 c) (leb c 57) e)
-
--- more digits write no smaller number
-pub decimal-grows : (n : ℕ) (s : List ℕ) → n ≤ decimal n s
-unfolding decimal
-decimal-grows n [] = omega arith
-decimal-grows n (c ∷ s) = omega (arith, decimal-grows (n * 10 + (c - 48)) s)
 
 -- THE LOOP
 -- the digits of a list, after what was read before
@@ -125,12 +113,6 @@ option-digits top (c ∷ s) h =
 -- of the digits at the front
 pub option-run : (top : ℕ) (s : List ℕ) → option (written top (run isDigit s)) ≡ digits top (run isDigit s)
 option-run top s = option-digits top (run isDigit s) (run-passes isDigit s)
-
--- of a text with another byte in it
-pub digits-other : (top : ℕ) (s : List ℕ) → all isDigit s ≡ false → digits top s ≡ none
-unfolding digits
-digits-other top [] h = refl
-digits-other top (c ∷ s) h = rw (h, digits)
 
 -- what `read_number` answers: the standard's number of the digits at a position, and where they end
 module _ (top : ℕ) (line : List ℕ) (at : ℕ) (r : Read) (e : r ≡ numberAt top line at) where

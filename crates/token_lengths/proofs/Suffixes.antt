@@ -19,7 +19,8 @@ use Rattle.text_numbers.specs.declared.Digits.{Digits}
 use Rattle.text_numbers.specs.declared.Digits.the-variants.{Nothing, Value, Past}
 use Rattle.text_numbers.specs.declared.Read.{Read}
 use Rattle.text_numbers.specs.Digits.{upTo, written, numberAt}
-use Rattle.text_numbers.proofs.Numbers.{digit-high, value-le}
+use Rattle.reader.proofs.Digits.{digit-high}
+use Rattle.text_numbers.proofs.Numbers.{value-le}
 use Rattle.token_lengths.specs.Values.{numberOr, suffixAt}
 
 -- a number, or another where there is none

@@ -1,7 +1,7 @@
 -- Numbers, items and lists by their shape, by position.
-use Prim.Native.Nat.{ℕ, suc, _+_, _-_, _≤_, _<_}
+use Prim.Native.Nat.{ℕ, _+_, _-_, _≤_, _<_}
 use mathlib.Core.Path.{_≡_, refl, sym, ap, _∙_}
-use mathlib.Core.Bool.{Bool, true, false, cond, not, _&&_, _||_, false≢true}
+use mathlib.Core.Bool.{Bool, true, false, cond, not, _&&_, false≢true}
 use mathlib.Core.Option.{Option, none, some}
 use mathlib.Core.List.{List, [], _∷_}
 use native.Mathlib.Omega.{arith}
@@ -13,7 +13,6 @@ use Rattle.laws.specs.Spans.{run, endOf}
 use Rattle.laws.proofs.Bools.{by-test, and-true, and-left, and-assoc}
 use Rattle.standard.specs.Bytes.{is, isDigit, first, decimal}
 use Rattle.standard.specs.Passes.{Item, pass, passes}
-use Rattle.reader.specs.Pieces.{pieces, separator}
 use Rattle.reader.specs.PassLists.{isNumber, listNumber, oneNumber, twoNumbers, listItem, consItem, listItems, numbersIn, isPass, isPassByte}
 use Rattle.reader.specs.PassesInTurn.{listFault}
 use Rattle.reader.proofs.PassTests.{lead-positive}

@@ -4,7 +4,7 @@ use native.Mathlib.Nat.{zero-add}
 use native.Mathlib.Omega.{arith}
 use borrow.Author.Tests.{le-leb, lt-leb}
 use Rattle.text_numbers.specs.Digits.{withDigit, most}
-use Rattle.text_numbers.proofs.Numbers.{digit-low}
+use Rattle.reader.proofs.Digits.{digit-low}
 use borrow.Author.Needs.{needs}
 use Rattle.text_numbers.proofs.with_digit.Statement.{statement}
 use Rattle.text_numbers.proofs.with_digit.Tie as tie

@@ -7,7 +7,7 @@ use lib.ListN.{length, getD}
 use Rattle.laws.proofs.Bools.{not-true, not-false}
 use Rattle.laws.proofs.Spans.{run-within}
 use Rattle.standard.specs.Bytes.{isDigit}
-use Rattle.text_numbers.proofs.Numbers.{digit-low}
+use Rattle.reader.proofs.Digits.{digit-low}
 use Rattle.token_lengths.proofs.Suffixes.{number-none, number-one, number-at, number-small}
 use borrow.Author.Needs.{needs}
 use Rattle.token_lengths.proofs.number_or.Statement.{statement}
