@@ -1,4 +1,4 @@
--- EACH REFUSAL UNDER ITS CONDITION (document 01, "Who can be refused": and document 02, T-01): the eighteen conditions by their numbers, and the order in which they are met.
+-- EACH REFUSAL UNDER ITS CONDITION (document 01, "Who can be refused", and document 02, T-01): the eighteen conditions by their numbers, and the order in which they are met.
 use Prim.Native.Nat.{ℕ, suc, _+_, _≤_, _<_, max}
 use mathlib.Core.Path.{_≡_}
 use mathlib.Core.Bool.{true, false, not, _||_}
