@@ -18,9 +18,9 @@ use Rattle.blocks.specs.Demand.{IsReading, Accepted, Hypotheses, Moved, voices,
 use Rattle.blocks.proofs.Demand.{demand-3, by-name}
 use Rattle.blocks.proofs.Lists.{getElem?-some}
 use Rattle.blocks.proofs.Parts.{parts-count, part-there}
-use Rattle.abc_text.specs.declared.Answer as code
-use Rattle.abc_text.specs.declared.Answer.the-variants as A
-use Rattle.abc_text.specs.Answers.{answerAs}
+use Rattle.reading_answers.specs.declared.Answer as code
+use Rattle.reading_answers.specs.declared.Answer.the-variants as A
+use Rattle.reading_answers.specs.Answers.{answerAs}
 use Rattle.abc_text.specs.Calls.{Call, In-any-order, Holds, Each-part, Each-alone}
 
 -- an answer is told by its meaning

@@ -24,9 +24,10 @@ use Rattle.scan.specs.Scanned.{Done}
 use Rattle.abc_answers.specs.Parts.{bytesOf, hasMusic}
 use Rattle.abc_answers.proofs.Owners.{items-owned}
 use Rattle.abc_answers.proofs.Whole.{encode-same, measures-told}
-use Rattle.abc_text.specs.declared.Answer as code
-use Rattle.abc_text.specs.declared.Answer.the-variants as A
-use Rattle.abc_text.specs.Answers.{answerAs, wroteAs, Parsed}
+use Rattle.reading_answers.specs.declared.Answer as code
+use Rattle.reading_answers.specs.declared.Answer.the-variants as A
+use Rattle.reading_answers.specs.Answers.{answerAs}
+use Rattle.abc_text.specs.Answers.{wroteAs, Parsed}
 
 -- parts that are written, or have no room
 filled-parsed : (ps : List Part) (rl sl : ℕ) (w : Wrote) (reading scratch : List ℕ) → Filled (encode ps) rl w reading → scratch ≡ zeros sl

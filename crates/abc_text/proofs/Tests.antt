@@ -16,11 +16,12 @@ use Rattle.scan.specs.declared.Shared.{Shared}
 use Rattle.scan.specs.declared.Scanned.{Scanned}
 use Rattle.scan.specs.declared.Scanned.the-variants as S
 use Rattle.scan.specs.Scanned.{Done, ScanIs}
-use Rattle.abc_text.specs.declared.Answer as code
-use Rattle.abc_text.specs.declared.Answer.the-variants as A
+use Rattle.reading_answers.specs.declared.Answer as code
+use Rattle.reading_answers.specs.declared.Answer.the-variants as A
 use Rattle.abc_text.specs.declared.Early.{Early}
 use Rattle.abc_text.specs.declared.Early.the-variants as E
-use Rattle.abc_text.specs.Answers.{answerAs, Parsed, EarlyIs}
+use Rattle.reading_answers.specs.Answers.{answerAs}
+use Rattle.abc_text.specs.Answers.{Parsed, EarlyIs}
 
 -- THE TESTS
 module _ (text : List ℕ) (sl : ℕ) where

@@ -7,20 +7,16 @@ use lib.ListN.{length}
 use Rattle.laws.specs.Lists.{sum}
 use Rattle.reader.specs.Steps.{itemsOf}
 use Rattle.reader.specs.Records.{measureWidth}
-use Rattle.reader.specs.Answer.{Outcome, early, refusedWith, Answer, read, refused, answerOf}
+use Rattle.reader.specs.Answer.{Outcome, early, refusedWith, answerOf}
 use Rattle.bounds.specs.Weights.{scopeIndexWidth, itemBytes}
 use Rattle.scan_table.specs.Rows.{itemsIn, tableEnd}
 use Rattle.store_sections.specs.declared.Wrote.{Wrote}
 use Rattle.store_sections.specs.declared.Wrote.the-variants.{To, NoRoom}
-use Rattle.abc_text.specs.declared.Answer as code
-use Rattle.abc_text.specs.declared.Answer.the-variants as A
+use Rattle.reading_answers.specs.declared.Answer as code
+use Rattle.reading_answers.specs.declared.Answer.the-variants as A
+use Rattle.reading_answers.specs.Answers.{answerAs}
 use Rattle.abc_text.specs.declared.Early.{Early}
 use Rattle.abc_text.specs.declared.Early.the-variants as E
-
--- THE ANSWER'S CASES: the reading's length in bytes; document 01's number of a refusal, and its line
-abbrev pub answerAs : code.Answer → Answer
-answerAs (A.Read n) = read n
-answerAs (A.Refused n l) = refused n l
 
 -- A CALL THAT CAME TO w: its answer, and both stores after it
 pub record Parsed (w : Outcome) (r : code.Answer) (reading scratch : List ℕ) : Type 0 where

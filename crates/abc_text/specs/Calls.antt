@@ -13,9 +13,9 @@ use Rattle.reader.specs.Answer as answers
 use Rattle.reader.specs.Answer.{encode, parseAbc, answerOf}
 use Rattle.blocks.specs.Blocks.{blocks, rebuilt}
 use Rattle.blocks.specs.Demand.{Hypotheses, Moved, voices, onlyPart, onlyVoice, partIn}
-use Rattle.abc_text.specs.declared.Answer as code
-use Rattle.abc_text.specs.declared.Answer.the-variants as A
-use Rattle.abc_text.specs.Answers.{answerAs}
+use Rattle.reading_answers.specs.declared.Answer as code
+use Rattle.reading_answers.specs.declared.Answer.the-variants as A
+use Rattle.reading_answers.specs.Answers.{answerAs}
 
 -- A CALL, as the contract of `parse_abc` has it: a text, a reading store of rl bytes and a scratch store of sl, whatever bytes they held; its answer r, and both stores after it
 abbrev pub Call : List ℕ → ℕ → ℕ → code.Answer → List ℕ → List ℕ → Type 0

@@ -12,17 +12,13 @@ ghost use Rattle.scan_table.specs.Rows.{itemsIn};
 ghost use Rattle.store_sections.specs.Writes.{WroteIs};
 ghost use Rattle.scan.specs.Scanned.{Done};
 ghost use Rattle.abc_answers.specs.Parts.{partsOf, bytesOf};
-ghost use Rattle.abc_text.specs.Answers.{answerAs, wroteAs, Parsed, EarlyIs, Rooms};
+ghost use Rattle.reading_answers.specs.Answers.{answerAs};
+ghost use Rattle.abc_text.specs.Answers.{wroteAs, Parsed, EarlyIs, Rooms};
 use field_keys::Key;
+use reading_answers::Answer;
 use scan::Scanned;
 use scan::Shared;
 use store_sections::Wrote;
-
-// The reading's length in bytes, or the refusal's number and line.
-pub enum Answer {
-    Read(usize),
-    Refused(u8, u32),
-}
 
 // Whether a text passes the tests before its first line, or the refusal's number.
 enum Early {

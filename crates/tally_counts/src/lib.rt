@@ -4,9 +4,9 @@ ghost use mathlib.Core.Bool.{cond};
 ghost use Prim.Native.Nat.{_+_, _-_, _*_, _≤_};
 ghost use lib.Dec.{eqb};
 ghost use lib.ListN.{length};
-ghost use Rattle.laws.specs.Bytes.{u32At};
 ghost use Rattle.reader.specs.Records.{noteWidth};
-ghost use Rattle.tally_counts.specs.Counted.{behind, partEnd, soundedIn, countsIn};
+ghost use Rattle.reading_sections.specs.Sections.{partEnd};
+ghost use Rattle.tally_counts.specs.Counted.{soundedIn, countsIn};
 
 // A part's counts and where its sections end.
 pub struct Counts {
@@ -15,24 +15,6 @@ pub struct Counts {
     pub rests: usize,
     pub syllables: usize,
     pub end: usize,
-}
-
-// A section's count and where it ends.
-struct Section {
-    count: usize,
-    end: usize,
-}
-
-// The section of records of `width` bytes at `at`.
-fn section_at(reading: &[u8], width: usize, at: usize) -> Section
-    requires { ⌜ behind (now reading) width at ≤ length (now reading) ⌝ }
-    ensures { λ r. ⌜ (r .count ≡ u32At (now (reading .entry)) at) × (r .end ≡ behind (now (reading .entry)) width at) ⌝ }
-{
-    let count = store::get_u32(reading, at) as usize;
-    Section {
-        count,
-        end: at + reading_records::COUNT + width * count,
-    }
 }
 
 // 1 for a note's kind, 0 for a rest's.
@@ -63,11 +45,11 @@ pub fn count_part(reading: &[u8], at: usize) -> Counts
     ensures { λ r. ⌜ record { measures = r .measures; sounded = r .sounded; rests = r .rests; syllables = r .syllables } ≡ countsIn (now (reading .entry)) at ⌝ }
     ensures { λ r. ⌜ r .end ≡ partEnd (now (reading .entry)) at ⌝ }
 {
-    let measures = section_at(reading, reading_records::MEASURE, at);
-    let notes = section_at(reading, reading_records::NOTE, measures.end);
-    let pitches = section_at(reading, reading_records::PITCH, notes.end);
-    let lyrics = section_at(reading, reading_records::LYRIC, pitches.end);
-    let text = section_at(reading, 1, lyrics.end);
+    let measures = reading_sections::section_at(reading, reading_records::MEASURE, at);
+    let notes = reading_sections::section_at(reading, reading_records::NOTE, measures.end);
+    let pitches = reading_sections::section_at(reading, reading_records::PITCH, notes.end);
+    let lyrics = reading_sections::section_at(reading, reading_records::LYRIC, pitches.end);
+    let text = reading_sections::section_at(reading, 1, lyrics.end);
     let sounded = count_sounded(reading, measures.end + reading_records::COUNT, notes.count);
     Counts {
         measures: measures.count,

@@ -14,13 +14,14 @@ use Rattle.reader.specs.Part.{Part}
 use Rattle.reader.specs.Answer.{Verdict, refusal, reading, Answer, read, refused, answerOf, parseAbc}
 use Rattle.reader.specs.Tally.{Counts, tally}
 use Rattle.reading_records.specs.Widths.{firstPart}
-use Rattle.tally_counts.specs.Counted.{countsFrom, PartsWithin}
+use Rattle.reading_sections.specs.Sections.{PartsWithin}
+use Rattle.tally_counts.specs.Counted.{countsFrom}
 use Rattle.tally_counts.proofs.Encoded.{Read, told-tally}
 use Rattle.io.specs.Counts as io
 use Rattle.tally_text.specs.Printed.{partsText, refusedText, verdictText, mostInput, readingBytes, scratchBytes, printed, readingLeft, scratchLeft, Adds}
-use Rattle.abc_text.specs.declared.Answer as code
-use Rattle.abc_text.specs.declared.Answer.the-variants as A
-use Rattle.abc_text.specs.Answers.{answerAs}
+use Rattle.reading_answers.specs.declared.Answer as code
+use Rattle.reading_answers.specs.declared.Answer.the-variants as A
+use Rattle.reading_answers.specs.Answers.{answerAs}
 use Rattle.abc_text.proofs.Order.{read≢refused}
 
 -- the store e, which was d: the text p of r bytes, and behind it what was there

@@ -4,8 +4,8 @@ ghost use Prim.Native.Nat.{_≤_};
 ghost use lib.ListN.{length, take, drop};
 ghost use Rattle.io.specs.Counts as io_counts;
 ghost use Rattle.tally_text.specs.Printed.{readingBytes, scratchBytes, outBytes, printed, readingLeft, scratchLeft};
-use abc_text::Answer;
 use libc::STDOUT_FILENO;
+use reading_answers::Answer;
 
 // The longest input that is read.
 const MOST_INPUT: usize = 1792;

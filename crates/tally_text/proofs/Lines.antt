@@ -8,7 +8,8 @@ use lib.ListN.{length}
 use Rattle.laws.proofs.Splices.{splice-nil}
 use Rattle.reader.specs.Tally.{Counts}
 use Rattle.reading_records.specs.Widths.{firstPart}
-use Rattle.tally_counts.specs.Counted.{partEnd, countsIn, countsFrom, PartsWithin}
+use Rattle.reading_sections.specs.Sections.{partEnd, PartsWithin}
+use Rattle.tally_counts.specs.Counted.{countsIn, countsFrom}
 use Rattle.tally_text.specs.Printed.{line, lines, Adds}
 use Rattle.tally_text.proofs.Texts.{called, then, line-most}
 

@@ -5,7 +5,8 @@ ghost use lib.ListN.{length};
 ghost use Rattle.laws.specs.Bytes.{u32At};
 ghost use Rattle.reader.specs.Tally as tally;
 ghost use Rattle.reading_records.specs.Widths.{firstPart};
-ghost use Rattle.tally_counts.specs.Counted.{countsFrom, PartsWithin};
+ghost use Rattle.reading_sections.specs.Sections.{PartsWithin};
+ghost use Rattle.tally_counts.specs.Counted.{countsFrom};
 ghost use Rattle.tally_text.specs.Printed.{decimal, field, line, lines, partsText, refusedText, outBytes, Adds};
 use tally_counts::Counts;
 

@@ -1,7 +1,8 @@
 -- `tally_counts::count_part` meets its contract: section after section.
 use native.Mathlib.Omega.{arith}
 use borrow.Author.Needs.{needs}
-use Rattle.tally_counts.proofs.Bytes.{inside, notes-room, part-counted}
+use Rattle.reading_sections.proofs.Inside.{inside}
+use Rattle.tally_counts.proofs.Bytes.{notes-room, part-counted}
 use Rattle.tally_counts.proofs.count_part.Statement.{statement}
 use Rattle.tally_counts.proofs.count_part.Tie as tie
 

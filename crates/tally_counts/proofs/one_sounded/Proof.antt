@@ -1,7 +1,4 @@
 -- `tally_counts::one_sounded` meets its contract.
-use mathlib.Core.Path.{sym, ap}
-use mathlib.Core.Bool.{Bool, cond}
-use Prim.Native.Nat.{ℕ}
 use borrow.Author.Tests.{eq-eqb, ne-eqb}
 use Rattle.tally_counts.proofs.one_sounded.Statement.{statement}
 use Rattle.tally_counts.proofs.one_sounded.Tie as tie

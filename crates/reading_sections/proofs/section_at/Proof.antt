@@ -1,11 +1,11 @@
--- `tally_counts::section_at` meets its contract.
+-- `reading_sections::section_at` meets its contract.
 use mathlib.Core.Path.{ap}
 use native.Mathlib.Omega.{arith}
 use borrow.Author.Needs.{needs}
 use Prim.Native.Nat.{ℕ, _+_, _*_}
-use Rattle.tally_counts.specs.Counted.{behind}
-use Rattle.tally_counts.proofs.section_at.Statement.{statement}
-use Rattle.tally_counts.proofs.section_at.Tie as tie
+use Rattle.reading_sections.specs.Sections.{behind}
+use Rattle.reading_sections.proofs.section_at.Statement.{statement}
+use Rattle.reading_sections.proofs.section_at.Tie as tie
 
 get-u32-requires : tie.Need-get-u32-requires
 unfolding behind
