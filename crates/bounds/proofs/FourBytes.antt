@@ -38,7 +38,7 @@ pub pass-bits-small : (ps : List ℕ) → PassesFit 0 ps → passBits ps < 2 ^ 3
 pass-bits-small ps h = omega (arith, passes-small 0 ps (lit≤ tt) h)
 
 -- A PART OF n NOTES has no voice with more
-tagged-length : (v : ℕ) (ns : List Note) → length (tagged v ns) ≡ length ns
+pub tagged-length : (v : ℕ) (ns : List Note) → length (tagged v ns) ≡ length ns
 unfolding tagged
 tagged-length v ns = length-map ns (λ n. (v, n))
 

@@ -1,5 +1,5 @@
--- The syllables of a part have verses up to 32, and their text is of bytes.
-use Prim.Native.Nat.{ℕ, zero, suc, _+_, _≤_}
+-- The syllables of a part have verses from 1 to 32, and their text is of bytes.
+use Prim.Native.Nat.{ℕ, zero, suc, _+_}
 use mathlib.Core.Path.{_≡_, refl}
 use mathlib.Core.Bool.{Bool, true, false, not}
 use mathlib.Core.List.{List, [], _∷_, map, reverse}
@@ -14,10 +14,11 @@ use Rattle.standard.specs.Lyrics.{Word, skip, hold, syllable, syllableText, syl
 use Rattle.reader.specs.Pieces.{pieces, words, separator, whiteAt}
 use Rattle.reader.specs.Scan.{Item}
 use Rattle.reader.specs.State.{Sung, newPart}
+use Rattle.reader.specs.Voltas.{close, closed}
 use Rattle.reader.specs.Lyrics.{Syllable, orSkip, wordOf, wordsOf, lyricWords, put, held, sing, sungBy}
 use Rattle.reader.specs.Part.{onItem, finished, build, emptyPart}
-use Rattle.bounds.specs.Ranges.{Bytes, SungFits, SyllableFits, StateFits, ItemFits, PartFits}
-use Rattle.bounds.proofs.PartRanges.{items-state, new-part-fits, finished-fit}
+use Rattle.bounds.specs.Ranges.{Bytes, VerseFits, SungFits, SyllableFits, StateFits, ItemFits, PartFits}
+use Rattle.bounds.proofs.PartRanges.{items-state, new-part-fits, finished-fit, finished-voltas}
 use Rattle.bounds.proofs.ScanRanges.{push-bytes}
 
 -- the pieces of a text of bytes
@@ -93,7 +94,7 @@ held-fits v (y ∷ ys) h =
     by-test (eqb (y .verse) v) (λ e. rw e (record { verse-fits = h .0 .verse-fits; text-fits = h .0 .text-fits }, held-fits v ys (h .1)))
     (λ e. rw e (h .0, held-fits v ys (h .1)))
 
-sing-fits : (start v i : ℕ) (ws : List Word) (notes : List (List Syllable)) → v ≤ 32 → All WordFits ws → All (All SyllableFits) notes → All (All SyllableFits) (sing start v i ws notes)
+sing-fits : (start v i : ℕ) (ws : List Word) (notes : List (List Syllable)) → VerseFits v → All WordFits ws → All (All SyllableFits) notes → All (All SyllableFits) (sing start v i ws notes)
 unfolding sing WordFits
 sing-fits start v i [] notes l f h = h
 sing-fits start v i (skip ∷ ws) notes l f h = sing-fits start v (suc i) ws notes l (f .1) h
@@ -120,9 +121,9 @@ unfolding build finished
 part-fits header is f =
     let s = foldl (onItem header) newPart is in
     let h : StateFits s = items-state header is newPart f new-part-fits in
-    record { measures-fit = finished-fit header s h; words-fit = sung-fits (reverse (s .verses .lines)) (replicate (s .verses .sounded) []) (All-reverse SungFits (s .verses .lines) (h .lines-fit)) (none-fits (s .verses .sounded)) }
+    record { measures-fit = finished-fit header s h; voltas-fit = finished-voltas header s h; words-fit = sung-fits (reverse (s .verses .lines)) (replicate (s .verses .sounded) []) (All-reverse SungFits (s .verses .lines) (h .lines-fit)) (none-fits (s .verses .sounded)) }
 
 -- an empty one
 pub empty-fits : PartFits emptyPart
-unfolding emptyPart
-empty-fits = record { measures-fit = tt; words-fit = tt }
+unfolding emptyPart closed close
+empty-fits = record { measures-fit = tt; voltas-fit = record { before = []; opens = tt; same = refl }; words-fit = tt }

@@ -1,6 +1,6 @@
 -- The numbers of a part are in their ranges, while it is read and when it is finished.
-use Prim.Native.Nat.{ℕ, zero, suc, _+_, _-_, _≤_, _<_}
-use mathlib.Core.Path.{_≡_, refl}
+use Prim.Native.Nat.{ℕ, zero, suc, _+_, _<_}
+use mathlib.Core.Path.{_≡_, refl, ap}
 use mathlib.Core.Bool.{Bool, true, false, cond, _&&_}
 use mathlib.Core.Option.{Option, none, some}
 use mathlib.Core.List.{List, [], _∷_, map, reverse}
@@ -9,7 +9,7 @@ use lib.Dec.{ltb, leb, eqb, lit<, lit≤}
 use lib.ListN.{getD}
 use Rattle.laws.specs.Lists.{foldl, All, onFirst}
 use Rattle.laws.proofs.Bools.{by-test}
-use Rattle.laws.proofs.Lists.{All-alterAt, All-onFirst, All-reverse, All-here}
+use Rattle.laws.proofs.Lists.{All-alterAt, All-onFirst, All-map, All-reverse, All-here}
 use Rattle.standard.specs.Keys.{Key, keyAlter, place}
 use Rattle.standard.specs.Fields.{Meter}
 use Rattle.standard.specs.Bars.{Barline, normal, repeatStart, repeatEnd, repeatBoth, double, final}
@@ -29,7 +29,7 @@ use Rattle.reader.specs.State.{PartState, Note, Measure, Half, Running, Verses,
 use Rattle.reader.specs.Voltas.{starts, endsAt, close, closed}
 use Rattle.reader.specs.Part.{halvedNote, brokenNote, onBroken, afterHalf, canBeam, beamed, beamedAgain, onNothing, groupIn, grouped, oneFewer, countedIn, append, restNote, soundNote, onSound, leftSet, ended, onBarline, hears, onToken, opened, lineBegins, onLine, onLyric, onKey, onItem, dropped, inOrder, markedBy, marked, finished}
 use Rattle.reader.proofs.ValueLaws.{value-range}
-use Rattle.bounds.specs.Ranges.{MeterFits, PassesFit, SignFits, WrittenFits, PitchFits, TokenFits, NoteFits, MeasureFits, RunningFits, StateFits, ItemFits}
+use Rattle.bounds.specs.Ranges.{MeterFits, PassesFit, SignFits, WrittenFits, PitchFits, TokenFits, NoteFits, MeasureFits, VoltaOpen, OpenFits, RunningFits, VerseFits, StateFits, ItemFits, VoltasClosed}
 use Rattle.bounds.proofs.TokenRanges.{tokens-fit}
 
 -- NOTES
@@ -157,37 +157,44 @@ unfolding scopeAfterAll scopeAfter
 scopes-after-fit sc [] h v = h
 scopes-after-fit sc (w ∷ ws) h v = scopes-after-fit (scopeBy sc w (w .sign)) ws (scope-by-fits sc w (w .sign) h (v .0) (v .0 .mark-fits)) (v .1)
 
--- MEASURES
-voices-measure : (vs : List (List Note)) (m : Measure) → All (All NoteFits) vs → MeasureFits m → MeasureFits (withVoices vs m)
-voices-measure vs m v h = record { voices-fit = v; meter-fits = h .meter-fits; passes-fit = h .passes-fit }
+-- MEASURES: while they are read, and a key mark and a volta in a finished part too
+voices-measure : (vs : List (List Note)) (m : Measure) → All (All NoteFits) vs → OpenFits m → OpenFits (withVoices vs m)
+voices-measure vs m v h = record { fits = record { voices-fit = v; meter-fits = h .fits .meter-fits; passes-fit = h .fits .passes-fit }; volta-open = h .volta-open }
 
 -- another right barline
-right-measure : (b : Barline) (m : Measure) → MeasureFits m → MeasureFits (withRight b m)
-right-measure b m h = record { voices-fit = h .voices-fit; meter-fits = h .meter-fits; passes-fit = h .passes-fit }
+right-measure : (b : Barline) (m : Measure) → OpenFits m → OpenFits (withRight b m)
+right-measure b m h = record { fits = record { voices-fit = h .fits .voices-fit; meter-fits = h .fits .meter-fits; passes-fit = h .fits .passes-fit }; volta-open = h .volta-open }
 
 -- another left one
-left-measure : (b : Barline) (m : Measure) → MeasureFits m → MeasureFits (withLeft b m)
-left-measure b m h = record { voices-fit = h .voices-fit; meter-fits = h .meter-fits; passes-fit = h .passes-fit }
+left-measure : (b : Barline) (m : Measure) → OpenFits m → OpenFits (withLeft b m)
+left-measure b m h = record { fits = record { voices-fit = h .fits .voices-fit; meter-fits = h .fits .meter-fits; passes-fit = h .fits .passes-fit }; volta-open = h .volta-open }
+
+-- another meter
+meter-measure : (t : Meter) → MeterFits t → (m : Measure) → OpenFits m → OpenFits (withMeter t m)
+meter-measure t f m h = record { fits = record { voices-fit = h .fits .voices-fit; meter-fits = f; passes-fit = h .fits .passes-fit }; volta-open = h .volta-open }
 
 -- a key mark
 mark-measure : (k : Key) (m : Measure) → MeasureFits m → MeasureFits (withKeyMark k m)
 mark-measure k m h = record { voices-fit = h .voices-fit; meter-fits = h .meter-fits; passes-fit = h .passes-fit }
 
--- another meter
-meter-measure : (t : Meter) → MeterFits t → (m : Measure) → MeasureFits m → MeasureFits (withMeter t m)
-meter-measure t f m h = record { voices-fit = h .voices-fit; meter-fits = f; passes-fit = h .passes-fit }
+mark-open : (k : Key) (m : Measure) → OpenFits m → OpenFits (withKeyMark k m)
+mark-open k m h = record { fits = mark-measure k m (h .fits); volta-open = h .volta-open }
 
 -- a volta with its passes
 volta-measure : (v : Volta) (ps : List ℕ) → PassesFit 0 ps → (m : Measure) → MeasureFits m → MeasureFits (withVolta v ps m)
 volta-measure v ps f m h = record { voices-fit = h .voices-fit; meter-fits = h .meter-fits; passes-fit = f }
 
+volta-begins : (ps : List ℕ) → PassesFit 0 ps → (m : Measure) → OpenFits m → OpenFits (withVolta voltaBegins ps m)
+unfolding VoltaOpen
+volta-begins ps f m h = record { fits = volta-measure voltaBegins ps f m (h .fits); volta-open = tt }
+
 -- a new one
-new-measure : (t : Meter) (b : Barline) → MeterFits t → MeasureFits (newMeasure t b)
-unfolding newMeasure PassesFit
-new-measure t b f = record { voices-fit = (tt, (tt, (tt, (tt, tt)))); meter-fits = f; passes-fit = tt }
+new-measure : (t : Meter) (b : Barline) → MeterFits t → OpenFits (newMeasure t b)
+unfolding newMeasure PassesFit VoltaOpen
+new-measure t b f = record { fits = record { voices-fit = (tt, (tt, (tt, (tt, tt)))); meter-fits = f; passes-fit = tt }; volta-open = tt }
 
 -- a barline without notes before it
-left-set : (b : Barline) (m : Measure) → MeasureFits m → MeasureFits (leftSet b m)
+left-set : (b : Barline) (m : Measure) → OpenFits m → OpenFits (leftSet b m)
 unfolding leftSet
 left-set normal m h = h
 left-set repeatStart m h = left-measure repeatStart m h
@@ -197,40 +204,40 @@ left-set double m h = left-measure double m h
 left-set final m h = h
 
 -- any barline
-ended-fit : (b : Barline) (o : Bool) (t : Meter) (ms : List Measure) → MeterFits t → All MeasureFits ms → All MeasureFits (ended b o t ms)
+ended-fit : (b : Barline) (o : Bool) (t : Meter) (ms : List Measure) → MeterFits t → All OpenFits ms → All OpenFits (ended b o t ms)
 unfolding ended
 ended-fit b o t [] f h = tt
 ended-fit b o t (m ∷ ms) f h =
     by-test (isEmpty m) (λ e. rw (e, ended) (left-set b m (h .0), h .1)) (λ e. rw (e, ended) (opens o))
   where
-    opens : (o : Bool) → All MeasureFits (cond o (newMeasure t (leftOf b) ∷ withRight b m ∷ ms) (withRight b m ∷ ms))
+    opens : (o : Bool) → All OpenFits (cond o (newMeasure t (leftOf b) ∷ withRight b m ∷ ms) (withRight b m ∷ ms))
     opens true = (new-measure t (leftOf b) f, (right-measure b m (h .0), h .1))
     opens false = (right-measure b m (h .0), h .1)
 
 -- the voice being written
-voice-fits : (o : ℕ) (ms : List Measure) → All MeasureFits ms → All NoteFits (voiceIn o ms)
+voice-fits : (o : ℕ) (ms : List Measure) → All OpenFits ms → All NoteFits (voiceIn o ms)
 unfolding voiceIn
 voice-fits o [] h = tt
-voice-fits o (m ∷ ms) h = All-here (All NoteFits) (m .voices) (h .0 .voices-fit) o [] tt
+voice-fits o (m ∷ ms) h = All-here (All NoteFits) (m .voices) (h .0 .fits .voices-fit) o [] tt
 
 now-fits : (s : PartState) → StateFits s → All NoteFits (voiceNow s)
 unfolding voiceNow
 now-fits s h = voice-fits (s .line .overlay) (s .measures) (h .measures-fit)
 
 -- A STATE WITH OTHER MEASURES
-measures-state : (s t : PartState) → StateFits s → All MeasureFits (t .measures) → t .scopes ≡ s .scopes → t .line .meter ≡ s .line .meter → RunningFits (t .line .tuplet) → t .verses .verse ≡ s .verses .verse → t .verses .lines ≡ s .verses .lines → StateFits t
+measures-state : (s t : PartState) → StateFits s → All OpenFits (t .measures) → t .scopes ≡ s .scopes → t .line .meter ≡ s .line .meter → RunningFits (t .line .tuplet) → t .verses .verse ≡ s .verses .verse → t .verses .lines ≡ s .verses .lines → StateFits t
 measures-state s t h m sc me ru ve li =
     record { measures-fit = m; scopes-fit = rw sc (h .scopes-fit); meter-fits = rw me (h .meter-fits); tuplet-fits = ru; verse-fits = rw ve (h .verse-fits); lines-fit = rw li (h .lines-fit) }
 
-set-voice : (v : List Note) (s : PartState) → StateFits s → All NoteFits v → All MeasureFits (setVoice v s .measures)
+set-voice : (v : List Note) (s : PartState) → StateFits s → All NoteFits v → All OpenFits (setVoice v s .measures)
 unfolding setVoice onOpen
 set-voice v s h k =
-    All-onFirst MeasureFits _ (λ m f. voices-measure _ m (All-alterAt (All NoteFits) (s .line .overlay) (λ old. v) (λ x p. k) (m .voices) (f .voices-fit)) f) (s .measures) (h .measures-fit)
+    All-onFirst OpenFits _ (λ m f. voices-measure _ m (All-alterAt (All NoteFits) (s .line .overlay) (λ old. v) (λ x p. k) (m .voices) (f .fits .voices-fit)) f) (s .measures) (h .measures-fit)
 
-open-state : (f : Measure → Measure) → ((m : Measure) → MeasureFits m → MeasureFits (f m)) → (s : PartState) → StateFits s → StateFits (onOpen f s)
+open-state : (f : Measure → Measure) → ((m : Measure) → OpenFits m → OpenFits (f m)) → (s : PartState) → StateFits s → StateFits (onOpen f s)
 unfolding onOpen
 open-state f g s h =
-    record { measures-fit = All-onFirst MeasureFits f g (s .measures) (h .measures-fit); scopes-fit = h .scopes-fit; meter-fits = h .meter-fits; tuplet-fits = h .tuplet-fits; verse-fits = h .verse-fits; lines-fit = h .lines-fit }
+    record { measures-fit = All-onFirst OpenFits f g (s .measures) (h .measures-fit); scopes-fit = h .scopes-fit; meter-fits = h .meter-fits; tuplet-fits = h .tuplet-fits; verse-fits = h .verse-fits; lines-fit = h .lines-fit }
 
 broken-state : (up : Bool) (n : ℕ) (v : List Note) (s : PartState) → All NoteFits v → StateFits s → StateFits (onBroken up n v s)
 unfolding onBroken setVoice onOpen
@@ -286,13 +293,13 @@ token-state s graceClose f h = record { measures-fit = h .measures-fit; scopes-f
 token-state s decoration f h = h
 token-state s (barline b o) f h =
     record { measures-fit = ended-fit b o (s .line .meter) (s .measures) (h .meter-fits) (h .measures-fit); scopes-fit = no-scopes-fit; meter-fits = h .meter-fits; tuplet-fits = h .tuplet-fits; verse-fits = h .verse-fits; lines-fit = h .lines-fit }
-token-state s (volta ps) f h = open-state (withVolta voltaBegins ps) (volta-measure voltaBegins ps f) s h
+token-state s (volta ps) f h = open-state (withVolta voltaBegins ps) (volta-begins ps f) s h
 token-state s (unit u) f h = record { measures-fit = h .measures-fit; scopes-fit = h .scopes-fit; meter-fits = h .meter-fits; tuplet-fits = h .tuplet-fits; verse-fits = h .verse-fits; lines-fit = h .lines-fit }
 token-state s (meter t) f h =
     open-state (withMeter t) (meter-measure t f) _
     (record { measures-fit = h .measures-fit; scopes-fit = h .scopes-fit; meter-fits = f; tuplet-fits = h .tuplet-fits; verse-fits = h .verse-fits; lines-fit = h .lines-fit })
 token-state s (key k) f h =
-    open-state (withKeyMark k) (mark-measure k) _
+    open-state (withKeyMark k) (mark-open k) _
     (record { measures-fit = h .measures-fit; scopes-fit = no-scopes-fit; meter-fits = h .meter-fits; tuplet-fits = h .tuplet-fits; verse-fits = h .verse-fits; lines-fit = h .lines-fit })
 token-state s field f h = h
 token-state s (chord ws l b) f h = sound-state ws l b s f h
@@ -307,7 +314,7 @@ tokens-state [] s f h = h
 tokens-state (t ∷ ts) s f h = tokens-state ts (onToken s t) (f .1) (token-state s t (f .0) h)
 
 -- A MUSIC LINE
-opened-fit : (t : Meter) (ms : List Measure) → MeterFits t → All MeasureFits ms → All MeasureFits (opened t ms)
+opened-fit : (t : Meter) (ms : List Measure) → MeterFits t → All OpenFits ms → All OpenFits (opened t ms)
 unfolding opened
 opened-fit t [] f h = (new-measure t normal f, tt)
 opened-fit t (m ∷ ms) f h = h
@@ -316,19 +323,19 @@ line-state : (u : ℕ) (t : Meter) (l : List ℕ) (s : PartState) → MeterFits 
 unfolding onLine lineBegins newLine RunningFits
 line-state u t l s f h =
     tokens-state (tokens 0 l) (lineBegins u t s) (tokens-fit 0 l)
-    (record { measures-fit = opened-fit t (s .measures) f (h .measures-fit); scopes-fit = h .scopes-fit; meter-fits = f; tuplet-fits = tt; verse-fits = lit≤ tt; lines-fit = h .lines-fit })
+    (record { measures-fit = opened-fit t (s .measures) f (h .measures-fit); scopes-fit = h .scopes-fit; meter-fits = f; tuplet-fits = tt; verse-fits = (lit≤ tt, lit≤ tt); lines-fit = h .lines-fit })
 
 -- A LYRIC LINE
-next-small : (b : Bool) (v : ℕ) → v ≤ 32 → cond b (nextVerse v) v ≤ 32
+next-fits : (b : Bool) (v : ℕ) → VerseFits v → VerseFits (cond b (nextVerse v) v)
 unfolding nextVerse
-next-small true v h = omega arith
-next-small false v h = h
+next-fits true v h = (omega arith, omega arith)
+next-fits false v h = h
 
 key-state : (header k : Key) (ms : List Measure) (s : PartState) → StateFits s → StateFits (onKey header k ms s)
 unfolding onKey hears
 key-state header k [] s h = record { measures-fit = h .measures-fit; scopes-fit = no-scopes-fit; meter-fits = h .meter-fits; tuplet-fits = h .tuplet-fits; verse-fits = h .verse-fits; lines-fit = h .lines-fit }
 key-state header k (m ∷ ms) s h =
-    open-state (withKeyMark k) (mark-measure k) _
+    open-state (withKeyMark k) (mark-open k) _
     (record { measures-fit = h .measures-fit; scopes-fit = no-scopes-fit; meter-fits = h .meter-fits; tuplet-fits = h .tuplet-fits; verse-fits = h .verse-fits; lines-fit = h .lines-fit })
 
 -- ANY ITEM
@@ -340,7 +347,7 @@ item-state header s keyInHeader f h = record { measures-fit = h .measures-fit; s
 item-state header s (keyChange k) f h = key-state header k (s .measures) s h
 item-state header s (meterChange t) f h = open-state (withMeter t) (meter-measure t f) s h
 item-state header s (lyricLine b t) f h =
-    record { measures-fit = h .measures-fit; scopes-fit = h .scopes-fit; meter-fits = h .meter-fits; tuplet-fits = h .tuplet-fits; verse-fits = next-small b (s .verses .verse) (h .verse-fits); lines-fit = (record { verse-fits = h .verse-fits; text-fits = f }, h .lines-fit) }
+    record { measures-fit = h .measures-fit; scopes-fit = h .scopes-fit; meter-fits = h .meter-fits; tuplet-fits = h .tuplet-fits; verse-fits = next-fits b (s .verses .verse) (h .verse-fits); lines-fit = (record { verse-fits = h .verse-fits; text-fits = f }, h .lines-fit) }
 item-state header s (musicLine u t l) f h = line-state u t l s f h
 
 pub items-state : (header : Key) (is : List Item) (s : PartState) → All ItemFits is → StateFits s → StateFits (foldl (onItem header) s is)
@@ -350,25 +357,27 @@ items-state header (i ∷ is) s f h = items-state header is (onItem header s i) 
 -- a part begins so
 pub new-part-fits : StateFits newPart
 unfolding newPart newLine RunningFits
-new-part-fits = record { measures-fit = tt; scopes-fit = no-scopes-fit; meter-fits = (lit< tt, lit< tt); tuplet-fits = tt; verse-fits = lit≤ tt; lines-fit = tt }
+new-part-fits = record { measures-fit = tt; scopes-fit = no-scopes-fit; meter-fits = (lit< tt, lit< tt); tuplet-fits = tt; verse-fits = (lit≤ tt, lit≤ tt); lines-fit = tt }
 
 -- THE END OF A PART
-dropped-fit : (ms : List Measure) → All MeasureFits ms → All MeasureFits (dropped ms)
+dropped-fit : (ms : List Measure) → All OpenFits ms → All OpenFits (dropped ms)
 unfolding dropped
 dropped-fit [] h = tt
 dropped-fit (m ∷ []) h = h
 dropped-fit (m ∷ n ∷ ms) h =
-    let k : All MeasureFits (dropped (n ∷ ms)) = dropped-fit (n ∷ ms) (h .1) in
+    let k : All OpenFits (dropped (n ∷ ms)) = dropped-fit (n ∷ ms) (h .1) in
     by-test (isEmpty m) (λ e. rw (e, dropped) k) (λ e. rw (e, dropped) h)
 
 reversed-fit : (vs : List (List Note)) → All (All NoteFits) vs → All (All NoteFits) (map reverse vs)
 reversed-fit [] h = tt
 reversed-fit (v ∷ vs) h = (All-reverse NoteFits v (h .0), reversed-fit vs (h .1))
 
-order-fit : (ms : List Measure) → All MeasureFits ms → All MeasureFits (map inOrder ms)
+order-fit : (ms : List Measure) → All OpenFits ms → All OpenFits (map inOrder ms)
 unfolding inOrder
 order-fit [] h = tt
-order-fit (m ∷ ms) h = (record { voices-fit = reversed-fit (m .voices) (h .0 .voices-fit); meter-fits = h .0 .meter-fits; passes-fit = h .0 .passes-fit }, order-fit ms (h .1))
+order-fit (m ∷ ms) h =
+    let f = h .0 .fits in
+    (record { fits = record { voices-fit = reversed-fit (m .voices) (f .voices-fit); meter-fits = f .meter-fits; passes-fit = f .passes-fit }; volta-open = h .0 .volta-open }, order-fit ms (h .1))
 
 unfoldable SpanFits : Option (List ℕ) → Type 0
 SpanFits none = Unit {0}
@@ -398,9 +407,31 @@ unfolding marked
 marked-fit header [] h = tt
 marked-fit header (m ∷ ms) h = (marked-by-fit header m (m .key) (h .0), h .1)
 
+-- the first key mark changes no volta
+mark-volta : (header : Key) (m : Measure) (k : Option Key) → markedBy header m k .volta ≡ m .volta
+unfolding markedBy
+mark-volta header m none = refl
+mark-volta header m (some k) = refl
+
+marked-voltas : (header : Key) (ms : List Measure) → map (λ (m : Measure). m .volta) (marked header ms) ≡ map (λ (m : Measure). m .volta) ms
+unfolding marked
+marked-voltas header [] = refl
+marked-voltas header (m ∷ ms) = ap (λ (v : Volta). v ∷ map (λ (m : Measure). m .volta) ms) (mark-volta header m (m .key))
+
+-- the measures of a part in order, before their voltas are closed
+abbrev ordered : PartState → List Measure
+ordered s = map inOrder (reverse (dropped (s .measures)))
+
+ordered-fit : (s : PartState) → StateFits s → All OpenFits (ordered s)
+ordered-fit s h = order-fit (reverse (dropped (s .measures))) (All-reverse OpenFits (dropped (s .measures)) (dropped-fit (s .measures) (h .measures-fit)))
+
 -- the measures of a finished part
 pub finished-fit : (header : Key) (s : PartState) → StateFits s → All MeasureFits (finished header s .measures)
 unfolding finished closed SpanFits
-finished-fit header s h =
-    let r = reverse (dropped (s .measures)) in
-    marked-fit header (close none (map inOrder r)) (close-fit none (map inOrder r) tt (order-fit r (All-reverse MeasureFits (dropped (s .measures)) (dropped-fit (s .measures) (h .measures-fit)))))
+finished-fit header s h = marked-fit header (close none (ordered s)) (close-fit none (ordered s) tt (All-map OpenFits MeasureFits (λ m f. f .fits) (ordered s) (ordered-fit s h)))
+
+-- their voltas
+pub finished-voltas : (header : Key) (s : PartState) → StateFits s → VoltasClosed (finished header s .measures)
+unfolding finished
+finished-voltas header s h =
+    record { before = ordered s; opens = All-map OpenFits (λ (m : Measure). VoltaOpen (m .volta)) (λ m f. f .volta-open) (ordered s) (ordered-fit s h); same = marked-voltas header (closed (ordered s)) }

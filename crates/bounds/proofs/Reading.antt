@@ -5,7 +5,7 @@ use mathlib.Core.Bool.{true, false, false≢true}
 use mathlib.Core.Logic.{_⊎_, inl, inr}
 use mathlib.Core.List.{List, [], _∷_}
 use native.Mathlib.Omega.{arith}
-use lib.Dec.{eqb, leb, ltb, lit<, lit≤}
+use lib.Dec.{eqb, leb, ltb, lit<}
 use lib.ListN.{length}
 use borrow.Author.Tests.{leb-true, leb-false, ltb-true, ltb-false, lt-leb, ne-eqb}
 use Rattle.laws.specs.Lists.{foldl, sum, any, All}
@@ -156,6 +156,19 @@ unfolding refusedWith written
 reading-bytes text rl sl =
     outcome-cases (λ o. Bytes (o .reading)) text rl sl (λ n l h. zero-bytes rl) (λ h. zero-bytes rl)
     (λ t a h f len short. both (encode (partsAfter t a)) (zeros (rl - length (encode (partsAfter t a)))) (encode-bytes (partsAfter t a) (parts-fit (t .env) a (voiceCount t) 0 f)) (zero-bytes (rl - length (encode (partsAfter t a)))))
+
+-- EVERY PART OF A READING is in its ranges
+unfoldable Ranged : Verdict → Type 0
+Ranged (refusal n l) = Unit {0}
+Ranged (reading ps) = All PartFits ps
+
+verdict-ranged : (text : List ℕ) (rl sl : ℕ) → Ranged (parseAbc text rl sl .verdict)
+unfolding refusedWith written Ranged
+verdict-ranged text rl sl = outcome-cases (λ o. Ranged (o .verdict)) text rl sl (λ n l h. tt) (λ h. tt) (λ t a h f len short. parts-fit (t .env) a (voiceCount t) 0 f)
+
+pub reading-fits : (text : List ℕ) (rl sl : ℕ) (ps : List Part) → parseAbc text rl sl .verdict ≡ reading ps → All PartFits ps
+unfolding Ranged
+reading-fits text rl sl ps e = subst Ranged e (verdict-ranged text rl sl)
 
 -- THE LENGTH LAW
 unfoldable Short : ℕ → Verdict → Type 0

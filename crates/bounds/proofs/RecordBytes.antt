@@ -1,10 +1,10 @@
 -- Every byte of a part's records is below 256.
-use Prim.Native.Nat.{ℕ, suc, _+_, _-_, _≤_, _<_}
+use Prim.Native.Nat.{ℕ, suc, _+_, _≤_, _<_}
 use mathlib.Core.Bool.{Bool, true, false}
 use mathlib.Core.Option.{Option, none, some}
 use mathlib.Core.List.{List, [], _∷_, _++_, map}
 use native.Mathlib.Omega.{arith}
-use lib.Dec.{ltb, lit<}
+use lib.Dec.{ltb, lit<, lit≤}
 use lib.ListN.{length, getD}
 use Rattle.laws.specs.Lists.{All, concat}
 use Rattle.laws.specs.Bytes.{le32}
@@ -22,7 +22,7 @@ use Rattle.standard.specs.Pitches.{Pitch}
 use Rattle.reader.specs.State.{Note, Measure, Volta, noVolta, voltaBegins, voltaEnds, voltaAlone}
 use Rattle.reader.specs.Lyrics.{Syllable}
 use Rattle.reader.specs.Part.{Part}
-use Rattle.reader.specs.Codes.{barlineCode, voltaCode, modeCode, kindCode, beamCode, syllabicCode, bit}
+use Rattle.reader.specs.Codes.{barlineCode, voltaCode, modeCode, kindCode, beamCode, syllabicCode}
 use Rattle.reader.specs.Records.{signed8, signed16, keyMarkBytes, passBits, noteCounts, measureBytes, isUnbeamed, flagByte, noteBytes, pitchBytes, lyricBytes, tagged, byVoice, allNotes, isSung, lyricsOf, section, notesOf, pitchesOf, lyrics, lyricText, sections}
 use Rattle.bounds.specs.Ranges.{Bytes, PassesFit, PitchFits, NoteFits, MeasureFits, SyllableFits, PartFits}
 
@@ -30,53 +30,53 @@ use Rattle.bounds.specs.Ranges.{Bytes, PassesFit, PitchFits, NoteFits, M
 pub both : (a b : List ℕ) → Bytes a → Bytes b → Bytes (a ++ b)
 both a b = All-append (λ c. c < 256) a b
 
--- CODES
-barline-byte : (b : Barline) → barlineCode b < 256
-barline-byte normal = lit< tt
-barline-byte repeatStart = lit< tt
-barline-byte repeatEnd = lit< tt
-barline-byte repeatBoth = lit< tt
-barline-byte double = lit< tt
-barline-byte final = lit< tt
+-- CODES: "0 normal .. 5 final"
+pub barline-range : (b : Barline) → barlineCode b ≤ 5
+barline-range normal = lit≤ tt
+barline-range repeatStart = lit≤ tt
+barline-range repeatEnd = lit≤ tt
+barline-range repeatBoth = lit≤ tt
+barline-range double = lit≤ tt
+barline-range final = lit≤ tt
 
 -- a volta
-volta-byte : (v : Volta) → voltaCode v < 256
+pub volta-range : (v : Volta) → voltaCode v ≤ 3
 unfolding voltaCode
-volta-byte noVolta = lit< tt
-volta-byte voltaBegins = lit< tt
-volta-byte voltaEnds = lit< tt
-volta-byte voltaAlone = lit< tt
+volta-range noVolta = lit≤ tt
+volta-range voltaBegins = lit≤ tt
+volta-range voltaEnds = lit≤ tt
+volta-range voltaAlone = lit≤ tt
 
 -- a mode
-mode-byte : (m : Bool) → modeCode m < 256
+pub mode-range : (m : Bool) → modeCode m ≤ 2
 unfolding modeCode
-mode-byte true = lit< tt
-mode-byte false = lit< tt
+mode-range true = lit≤ tt
+mode-range false = lit≤ tt
 
 -- a kind of note
-kind-byte : (k : NoteKind) → kindCode k < 256
+pub kind-range : (k : NoteKind) → kindCode k ≤ 4
 unfolding kindCode
-kind-byte Notes.sounded = lit< tt
-kind-byte Notes.rest = lit< tt
-kind-byte Notes.invisibleRest = lit< tt
-kind-byte Notes.barRest = lit< tt
-kind-byte Notes.invisibleBarRest = lit< tt
+kind-range Notes.sounded = lit≤ tt
+kind-range Notes.rest = lit≤ tt
+kind-range Notes.invisibleRest = lit≤ tt
+kind-range Notes.barRest = lit≤ tt
+kind-range Notes.invisibleBarRest = lit≤ tt
 
 -- a beam
-beam-byte : (b : Beam) → beamCode b < 256
+pub beam-range : (b : Beam) → beamCode b ≤ 3
 unfolding beamCode
-beam-byte Notes.unbeamed = lit< tt
-beam-byte Notes.begins = lit< tt
-beam-byte Notes.continues = lit< tt
-beam-byte Notes.ends = lit< tt
+beam-range Notes.unbeamed = lit≤ tt
+beam-range Notes.begins = lit≤ tt
+beam-range Notes.continues = lit≤ tt
+beam-range Notes.ends = lit≤ tt
 
 -- a place in a word
-syllabic-byte : (s : Syllabic) → syllabicCode s < 256
+pub syllabic-range : (s : Syllabic) → syllabicCode s ≤ 3
 unfolding syllabicCode
-syllabic-byte Lyrics.single = lit< tt
-syllabic-byte Lyrics.begins = lit< tt
-syllabic-byte Lyrics.ends = lit< tt
-syllabic-byte Lyrics.middle = lit< tt
+syllabic-range Lyrics.single = lit≤ tt
+syllabic-range Lyrics.begins = lit≤ tt
+syllabic-range Lyrics.ends = lit≤ tt
+syllabic-range Lyrics.middle = lit≤ tt
 
 -- a signed number
 signed-byte : (n : ℕ) → signed8 n < 256
@@ -98,7 +98,7 @@ counts-bytes (v ∷ vs) = All-append _ (le32 (length v)) (noteCounts vs) (little
 mark-bytes : (k : Option Key) → Bytes (keyMarkBytes k)
 unfolding keyMarkBytes
 mark-bytes none = (lit< tt, (lit< tt, tt))
-mark-bytes (some k) = (mode-byte (k .minor), (signed-byte (k .fifths), tt))
+mark-bytes (some k) = (omega (arith, mode-range (k .minor)), (signed-byte (k .fifths), tt))
 
 -- the first pass
 first-pass : (low : ℕ) (ps : List ℕ) → PassesFit low ps → getD ps 0 0 < 256
@@ -114,14 +114,14 @@ measure-bytes m h =
     let two : List ℕ = barlineCode (m .left) ∷ barlineCode (m .right) ∷ m .meter .0 ∷ m .meter .1 ∷ [] in
     let three = keyMarkBytes (m .key) in
     let four : List ℕ = voltaCode (m .volta) ∷ getD (m .passes) 0 0 ∷ le32 (passBits (m .passes)) in
-    let b : Bytes two = (barline-byte (m .left), (barline-byte (m .right), (h .meter-fits .0, (h .meter-fits .1, tt)))) in
-    let d : Bytes four = (volta-byte (m .volta), (first-pass 0 (m .passes) (h .passes-fit), little-bytes 4 (passBits (m .passes)))) in
+    let b : Bytes two = (omega (arith, barline-range (m .left)), (omega (arith, barline-range (m .right)), (h .meter-fits .0, (h .meter-fits .1, tt)))) in
+    let d : Bytes four = (omega (arith, volta-range (m .volta)), (first-pass 0 (m .passes) (h .passes-fit), little-bytes 4 (passBits (m .passes)))) in
     both (one ++ two ++ three) four (both (one ++ two) three (both one two (counts-bytes (m .voices)) b) (mark-bytes (m .key))) d
 
--- NOTE
-flag-byte : (n : Note) → flagByte n < 256
+-- NOTE: its flags are six bits
+pub flag-range : (n : Note) → flagByte n < 64
 unfolding flagByte
-flag-byte n =
+flag-range n =
     let f = n .flags in
     omega (arith, bit-le (f .tieStart) 1, bit-le (f .tieEnd) 2, bit-le (f .slurStart) 4, bit-le (f .slurEnd) 8, bit-le (f .grace) 16, bit-le (isUnbeamed n) 32)
 
@@ -129,7 +129,7 @@ flag-byte n =
 pub note-bytes : (n : Note) → NoteFits n → Bytes (noteBytes n)
 unfolding noteBytes
 note-bytes n h =
-    (kind-byte (n .kind), (omega (arith, h .value-fits), (omega (arith, h .dots-fit), (flag-byte n, (beam-byte (n .beam), (h .actual-fits, (h .normal-fits, (omega (arith, h .boundary-fits), little-bytes 4 (length (n .pitches))))))))))
+    (omega (arith, kind-range (n .kind)), (omega (arith, h .value-fits), (omega (arith, h .dots-fit), (omega (arith, flag-range n), (omega (arith, beam-range (n .beam)), (h .actual-fits, (h .normal-fits, (omega (arith, h .boundary-fits), little-bytes 4 (length (n .pitches))))))))))
 
 -- PITCH
 -- a pitch's record
@@ -142,7 +142,7 @@ pitch-bytes p h = (omega (arith, h .step-fits), (signed-byte (p .octave), (signe
 pub lyric-bytes : (i : ℕ) (y : Syllable) → SyllableFits y → Bytes (lyricBytes i y)
 unfolding lyricBytes
 lyric-bytes i y h =
-    All-append _ (le32 i) _ (little-bytes 4 i) (omega (arith, h .verse-fits), (syllabic-byte (y .syllabic), (omega (arith, bit-le (y .extend) 1), little-bytes 4 (length (y .text)))))
+    All-append _ (le32 i) _ (little-bytes 4 i) (omega (arith, h .verse-fits .1), (omega (arith, syllabic-range (y .syllabic)), (omega (arith, bit-le (y .extend) 1), little-bytes 4 (length (y .text)))))
 
 -- WHAT A PART WRITES
 tagged-fit : (v : ℕ) (ns : List Note) → All NoteFits ns → All (λ (x : ℕ × Note). NoteFits (x .1)) (tagged v ns)
@@ -157,13 +157,13 @@ voices-fit v [] h = tt
 voices-fit v (ns ∷ vs) h = All-append _ (tagged v ns) (byVoice (suc v) vs) (tagged-fit v ns (h .0)) (voices-fit (suc v) vs (h .1))
 
 -- all notes
-notes-fit : (ms : List Measure) → All MeasureFits ms → All (λ (x : ℕ × Note). NoteFits (x .1)) (allNotes ms)
+pub notes-fit : (ms : List Measure) → All MeasureFits ms → All (λ (x : ℕ × Note). NoteFits (x .1)) (allNotes ms)
 unfolding allNotes
 notes-fit [] h = tt
 notes-fit (m ∷ ms) h = All-append _ (byVoice 0 (m .voices)) (allNotes ms) (voices-fit 0 (m .voices) (h .0 .voices-fit)) (notes-fit ms (h .1))
 
 -- their pitches
-pitches-fit : (xs : List (ℕ × Note)) → All (λ (x : ℕ × Note). NoteFits (x .1)) xs → All PitchFits (concat (map (λ (x : ℕ × Note). x .1 .pitches) xs))
+pub pitches-fit : (xs : List (ℕ × Note)) → All (λ (x : ℕ × Note). NoteFits (x .1)) xs → All PitchFits (concat (map (λ (x : ℕ × Note). x .1 .pitches) xs))
 pitches-fit [] h = tt
 pitches-fit (x ∷ xs) h = All-append PitchFits (x .1 .pitches) _ (h .0 .pitches-fit) (pitches-fit xs (h .1))
 
@@ -173,7 +173,7 @@ placed-fit i [] h = tt
 placed-fit i (y ∷ w) h = (h .0, placed-fit i w (h .1))
 
 -- all syllables
-lyrics-fit : (i : ℕ) (xs : List (ℕ × Note)) (ws : List (List Syllable)) → All (All SyllableFits) ws → All (λ (x : ℕ × Syllable). SyllableFits (x .1)) (lyricsOf i xs ws)
+pub lyrics-fit : (i : ℕ) (xs : List (ℕ × Note)) (ws : List (List Syllable)) → All (All SyllableFits) ws → All (λ (x : ℕ × Syllable). SyllableFits (x .1)) (lyricsOf i xs ws)
 unfolding lyricsOf
 lyrics-fit i [] ws h = tt
 lyrics-fit i (x ∷ xs) [] h = tt

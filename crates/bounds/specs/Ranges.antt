@@ -1,8 +1,9 @@
 -- WHAT FITS IN A RECORD: the range of each number that a record holds in a byte, from a token to a part.
 use Prim.Native.Nat.{ℕ, _^_, _≤_, _<_}
+use mathlib.Core.Path.{_≡_}
 use mathlib.Core.Bool.{Bool, not, _&&_}
 use mathlib.Core.Option.{Option, none, some}
-use mathlib.Core.List.{List, [], _∷_}
+use mathlib.Core.List.{List, [], _∷_, map}
 use lib.Dec.{T, ltb, eqb}
 use lib.ListN.{length}
 use Rattle.laws.specs.Lists.{All}
@@ -10,7 +11,8 @@ use Rattle.standard.specs.Pitches.{Accidental, Written, Pitch}
 use Rattle.standard.specs.Fields.{Meter}
 use Rattle.reader.specs.Token.{Token, space, overlay, quoted, broken, tuplet, slur, graceOpen, graceClose, decoration, barline, volta, unit, meter, key, field, chord, rest, note, nothing, skipped, refused}
 use Rattle.reader.specs.Scan.{Item, voiceDeclared, reset, keyInHeader, keyChange, meterChange, lyricLine, musicLine}
-use Rattle.reader.specs.State.{Note, Measure, Running, Sung, PartState}
+use Rattle.reader.specs.State.{Note, Measure, Volta, noVolta, voltaBegins, voltaEnds, voltaAlone, Running, Sung, PartState}
+use Rattle.reader.specs.Voltas.{closed}
 use Rattle.reader.specs.Lyrics.{Syllable}
 use Rattle.reader.specs.Part.{Part}
 use Rattle.reader.specs.Records.{passBits, notesOf, pitchesOf, lyrics, lyricText}
@@ -93,28 +95,44 @@ pub record MeasureFits (m : Measure) : Type 0 where
   pub meter-fits : MeterFits (m .meter)
   pub passes-fit : PassesFit 0 (m .passes)
 
+-- before the voltas of a part are closed only starts are marked
+unfoldable pub VoltaOpen : Volta → Type 0
+VoltaOpen noVolta = Unit {0}
+VoltaOpen voltaBegins = Unit {0}
+VoltaOpen voltaEnds = ⊥
+VoltaOpen voltaAlone = ⊥
+
+-- a measure while its part is read
+pub record OpenFits (m : Measure) : Type 0 where
+  pub fits : MeasureFits m
+  pub volta-open : VoltaOpen (m .volta)
+
 -- a tuplet that is being read, if there is one
 unfoldable pub RunningFits : Option Running → Type 0
 RunningFits none = Unit {0}
 RunningFits (some r) = (r .tuplet .actual < 256) × (r .tuplet .normal < 256)
 
+-- a verse
+abbrev pub VerseFits : ℕ → Type 0
+VerseFits v = (1 ≤ v) × (v ≤ 32)
+
 -- a lyric line
 pub record SungFits (l : Sung) : Type 0 where
-  pub verse-fits : l .verse ≤ 32
+  pub verse-fits : VerseFits (l .verse)
   pub text-fits : Bytes (l .text)
 
 -- a syllable
 pub record SyllableFits (y : Syllable) : Type 0 where
-  pub verse-fits : y .verse ≤ 32
+  pub verse-fits : VerseFits (y .verse)
   pub text-fits : Bytes (y .text)
 
 -- a part while it is read
 pub record StateFits (s : PartState) : Type 0 where
-  pub measures-fit : All MeasureFits (s .measures)
+  pub measures-fit : All OpenFits (s .measures)
   pub scopes-fit : All (All PitchFits) (s .scopes)
   pub meter-fits : MeterFits (s .line .meter)
   pub tuplet-fits : RunningFits (s .line .tuplet)
-  pub verse-fits : s .verses .verse ≤ 32
+  pub verse-fits : VerseFits (s .verses .verse)
   pub lines-fit : All SungFits (s .verses .lines)
 
 -- an item
@@ -127,9 +145,16 @@ ItemFits (meterChange m) = MeterFits m
 ItemFits (lyricLine b t) = Bytes t
 ItemFits (musicLine u m l) = MeterFits m
 
+-- the voltas of measures in order are closed: they are those that `closed` leaves where only starts were marked
+pub record VoltasClosed (ms : List Measure) : Type 0 where
+  pub before : List Measure
+  pub opens : All (λ (m : Measure). VoltaOpen (m .volta)) before
+  pub same : map (λ (m : Measure). m .volta) ms ≡ map (λ (m : Measure). m .volta) (closed before)
+
 -- a finished part
 pub record PartFits (p : Part) : Type 0 where
   pub measures-fit : All MeasureFits (p .measures)
+  pub voltas-fit : VoltasClosed (p .measures)
   pub words-fit : All (All SyllableFits) (p .words)
 
 -- WHAT FITS IN FOUR BYTES: the counts of a part's sections and the numbers of its records that have four
