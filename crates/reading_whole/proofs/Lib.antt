@@ -1,0 +1,5 @@
+pub mod Parts
+mod Records
+mod Bytes
+mod Places
+mod InTurn
