@@ -1,0 +1,5 @@
+pub mod Records
+pub mod Voltas
+pub mod Fields
+pub mod Parts
+pub mod Whole

@@ -1,0 +1,31 @@
+-- EVERY READING OF `parse_abc` IS WHOLE, so that one who asks for a whole reading (document 02, T-02) may be given what the call left, for every text and both store lengths.
+use Prim.Native.Nat.{ℕ, _≤_}
+use mathlib.Core.Path.{_≡_}
+use mathlib.Core.Bool.{true}
+use mathlib.Core.List.{List, _++_}
+use lib.Dec.{leb}
+use Rattle.laws.specs.Bytes.{zeros}
+use Rattle.reader.specs.Part.{Part}
+use Rattle.reader.specs.Answer.{reading, encode, parseAbc}
+use Rattle.reading_records.specs.Widths.{firstPart}
+use Rattle.reading_whole.specs.Whole.{isWhole}
+
+-- a reading with k zeros behind it
+abbrev pub CutWhole : Type 0
+CutWhole = (text : List ℕ) (rl sl : ℕ) (ps : List Part) → parseAbc text rl sl .verdict ≡ reading ps → (k : ℕ) → isWhole (encode ps ++ zeros k) ≡ true
+
+-- so the reading alone
+abbrev pub EncodedWhole : Type 0
+EncodedWhole = (text : List ℕ) (rl sl : ℕ) (ps : List Part) → parseAbc text rl sl .verdict ≡ reading ps → isWhole (encode ps) ≡ true
+
+-- and as it stands in its store
+abbrev pub ReadingWhole : Type 0
+ReadingWhole = (text : List ℕ) (rl sl : ℕ) (ps : List Part) → parseAbc text rl sl .verdict ≡ reading ps → isWhole (parseAbc text rl sl .reading) ≡ true
+
+-- zeros, as a refusal leaves them, are a whole reading of no parts where the count of parts has room
+abbrev pub ZerosWhole : Type 0
+ZerosWhole = (rl : ℕ) → isWhole (zeros rl) ≡ leb firstPart rl
+
+-- so every store where it has
+abbrev pub StoreWhole : Type 0
+StoreWhole = (text : List ℕ) (rl sl : ℕ) → firstPart ≤ rl → isWhole (parseAbc text rl sl .reading) ≡ true
