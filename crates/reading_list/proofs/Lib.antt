@@ -1,0 +1,3 @@
+pub mod Above
+pub mod Numbers
+pub mod Copying

@@ -1,0 +1,4 @@
+pub mod Walk
+pub mod Spans
+pub mod Passes
+pub mod Played
