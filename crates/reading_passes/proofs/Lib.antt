@@ -1,0 +1,4 @@
+pub mod Walks
+pub mod Leaves
+pub mod Again
+pub mod Playing
