@@ -1,0 +1,4 @@
+pub mod Texts
+pub mod FromCodes
+pub mod Wholes
+pub mod Calls
