@@ -1,10 +1,12 @@
 /* The tune reader, for C. Link target/staticlib/libabc.a, which `rt staticlib abc` writes.
  *
- * One call reads one text into a store of the caller's. It allocates nothing, keeps nothing, never fails otherwise than by its answer, and
- * may be called from several threads at once with stores of their own. Whatever the stores held before does not matter. */
+ * abc_parse reads a text into a store of the caller's; abc_played lists the measures of one part of that reading as they are played; abc_is_whole tests bytes
+ * that were kept. Each call allocates nothing, keeps nothing, never fails otherwise than by its answer, and may be made from several threads at once with stores
+ * of their own. Whatever the stores held before does not matter. */
 #ifndef ABC_H
 #define ABC_H
 
+#include <stdbool.h>
 #include <stddef.h>
 #include <stdint.h>
 
@@ -15,7 +17,7 @@ extern "C" {
 /* The version of this header, 1,000,000 * major + 1,000 * minor + patch. abc_version answers that of the linked library: where the two are unlike, one of them is
  * stale. The version changes with what the calls promise; the commit to put under a quote is the repository's (in Rust, sindvaelo::COMMIT). */
 #define ABC_VERSION_MAJOR 0
-#define ABC_VERSION_MINOR 2
+#define ABC_VERSION_MINOR 3
 #define ABC_VERSION_PATCH 0
 #define ABC_VERSION ((uint64_t)(1000000 * ABC_VERSION_MAJOR + 1000 * ABC_VERSION_MINOR + ABC_VERSION_PATCH))
 uint64_t abc_version(void);
@@ -63,6 +65,25 @@ uint64_t abc_parse(const uint8_t *text, size_t text_len, uint8_t *reading, size_
 /* and those that the calling program can mend */
 #define ABC_SCRATCH_SHORT 15  /* scratch below ABC_SCRATCH_BYTES(text_len) */
 #define ABC_READING_SHORT 16  /* the reading store is shorter than the reading */
+/* those of abc_played, tested in this order */
+#define ABC_NO_SUCH_PART 19   /* the bytes are no whole reading, or it has no part of that number: hand over a reading as abc_parse left it, and a part from 1 to its count of parts */
+#define ABC_LIST_SHORT 20     /* the list's store is below ABC_LIST_BYTES(numbers in the list), or the list has over 4,294,967,295 numbers: lend a store twice as long, up to what you can spare */
+
+/* AS IT IS PLAYED. Lists the measures of one part in the order in which a player walks them: repeats, endings by their passes. The reading is a whole one, with its
+ * store's zeros behind it or without them; parts are numbered from 1, and so are the measures in the list.
+ *
+ * The answer is the list's length in bytes, ABC_LIST_BYTES(count), and the store then holds the count, the numbers, four bytes each, and zeros; or it has
+ * ABC_REFUSED set, with ABC_NO_SUCH_PART or ABC_LIST_SHORT and line 0, and the store holds zeros. The two stores must not overlap; a pointer to a store of
+ * 0 bytes may be any pointer that is not null.
+ *
+ * ABC_LIST_BYTES(2 * n) do for a part of n measures none of which is played more than twice; the list never has more than 16 * n * (n + 1) numbers, and a text of 133 kB can
+ * bring over 4,294,967,295. So try ABC_LIST_BYTES(2 * n) first and, while the answer is ABC_LIST_SHORT, twice as long a store, up to a limit of your own. The time is that of what fits. */
+#define ABC_LIST_BYTES(count) ((size_t)4 + (size_t)4 * (size_t)(count))
+uint64_t abc_played(const uint8_t *reading, size_t reading_len, uint32_t part, uint8_t *list, size_t list_len);
+
+/* Whether bytes are a whole reading: counts that match their length and each other, codes in their ranges, every ending that begins ended, zeros behind it. What abc_parse leaves in a
+ * store of four bytes or more is one, a refusal's zeros among them (no parts). Lyric texts may be any bytes, and no text need have this reading. */
+bool abc_is_whole(const uint8_t *reading, size_t reading_len);
 
 /* THE READING: a count of parts, then for each part five sections, each its count and then its records. Numbers are little-endian, four bytes where
  * nothing else is said; signed ones are marked so. */

@@ -1,13 +1,20 @@
 -- Nothing is lost in the packing.
-use Prim.Native.Nat.{ℕ, _+_, _-_, _*_, _/_, _%_, _≤_, _<_, _^_}
-use mathlib.Core.Path.{_≡_, refl, sym, ap, subst, _∙_}
+use Prim.Native.Nat.{ℕ, _+_, _-_, _*_, _/_, _%_, _<_}
+use mathlib.Core.Path.{_≡_, sym, subst}
+use mathlib.Core.Bool.{_&&_}
 use mathlib.Core.List.{List}
 use native.Mathlib.Omega.{arith}
-use borrow.Author.Tests.{lt-ltb, le-ltb}
+use lib.Dec.{leb}
+use borrow.Author.Tests.{lt-ltb, le-ltb, leb-true}
 use lib.ListN.{length}
 use Rattle.reader.specs.Answer.{Outcome, Answer, read, refused, refusedWith, written, parseAbc, answerOf}
+use Rattle.laws.proofs.Bools.{by-test, and-right}
 use Rattle.bounds.proofs.Reading.{outcome-cases}
-use Rattle.abc.specs.Packed.{refusedBit, numberUnit, packed, unpacked, Short}
+use Rattle.reading_list.specs.Numbers.{mostNumbers}
+use Rattle.reading_walk.specs.Played as list
+use Rattle.reading_walk.specs.Played.{listBytes, listedIn, playedOf, hasPart, playedMeasures}
+use Rattle.reading_played.proofs.Calls.{length-list}
+use Rattle.abc.specs.Packed.{refusedBit, numberUnit, unpacked, Short}
 
 -- a length
 pub read-back : (n : ℕ) → n < refusedBit → unpacked n ≡ read n
@@ -32,3 +39,18 @@ short-answer text rl sl =
 -- the same of an answer that means it
 pub short-as : (text : List ℕ) (rl sl : ℕ) (a : Answer) → a ≡ answerOf (parseAbc text rl sl .verdict) → Short a
 short-as text rl sl a e = subst Short (sym e) (short-answer text rl sl)
+
+-- a list has at most 4,294,967,295 numbers
+pub short-list : (s : List ℕ) (q n : ℕ) → Short (playedMeasures s q n .answer)
+unfolding playedMeasures listedIn list.refusedWith
+short-list s q n =
+    by-test (hasPart s q) (λ e. rw e (short-listed (playedOf s q))) (λ e. rw e tt)
+  where
+    short-listed : (ns : List ℕ) → Short (listedIn ns n .answer)
+    short-listed ns =
+        by-test (leb (length (listBytes ns)) n && leb (length ns) mostNumbers)
+        (λ e. rw e (omega (arith, length-list ns, leb-true (length ns) mostNumbers (and-right (leb (length (listBytes ns)) n) (leb (length ns) mostNumbers) e))))
+        (λ e. rw e tt)
+
+pub short-list-as : (s : List ℕ) (q n : ℕ) (a : Answer) → a ≡ playedMeasures s q n .answer → Short a
+short-list-as s q n a e = subst Short (sym e) (short-list s q n)

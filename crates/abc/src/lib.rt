@@ -4,9 +4,11 @@ ghost use mathlib.Core.List.{List};
 ghost use Prim.Native.Nat.{ℕ};
 ghost use lib.ListN.{length};
 ghost use Rattle.reader.specs.Answer.{parseAbc, answerOf};
-ghost use Rattle.abc_text.specs.Answers.{answerAs};
+ghost use Rattle.reading_answers.specs.Answers.{answerAs};
+ghost use Rattle.reading_whole.specs.Whole.{isWhole};
+ghost use Rattle.reading_walk.specs.Played.{playedMeasures};
 ghost use Rattle.abc.specs.Packed.{packed, unpacked, Short, version};
-use abc_text::Answer;
+use reading_answers::Answer;
 
 // Bit 63, which a refusal has; and what a refusal's number is counted in, bit 32.
 const REFUSED: u64 = 9223372036854775808;
@@ -36,10 +38,28 @@ pub extern "C" fn abc_parse(text: &[u8], reading: &mut [u8], scratch: &mut [u8])
     pack(abc_text::parse_abc(text, reading, scratch))
 }
 
+// The measures of part `part`, from 1, of a reading as they are played: the list's length in bytes, or a refusal, packed as abc_parse packs them.
+#[no_mangle]
+pub extern "C" fn abc_played(reading: &[u8], part: u32, list: &mut [u8]) -> u64
+    ensures { λ r. ⌜ r ≡ packed (playedMeasures (now (reading .entry)) part (length (now (list .entry))) .answer) ⌝ }
+    ensures { λ r. ⌜ unpacked r ≡ playedMeasures (now (reading .entry)) part (length (now (list .entry))) .answer ⌝ }
+    ensures { λ _. ⌜ now (list .exit) ≡ playedMeasures (now (reading .entry)) part (length (now (list .entry))) .store ⌝ }
+{
+    pack(reading_played::played_measures(reading, part, list))
+}
+
+// Whether the bytes are a whole reading, to their end.
+#[no_mangle]
+pub extern "C" fn abc_is_whole(reading: &[u8]) -> bool
+    ensures { λ r. ⌜ r ≡ isWhole (now (reading .entry)) ⌝ }
+{
+    reading_whole::is_whole(reading)
+}
+
 // The version of what the calls promise; include/abc.h has the same as ABC_VERSION.
 #[no_mangle]
 pub extern "C" fn abc_version() -> u64
     ensures { λ r. ⌜ r ≡ version ⌝ }
 {
-    2000
+    3000
 }

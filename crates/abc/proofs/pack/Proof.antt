@@ -3,8 +3,8 @@ use Prim.Native.Nat.{_<_}
 use mathlib.Core.Path.{refl, sym, ap, subst, _∙_}
 use native.Mathlib.Omega.{arith}
 use borrow.Author.Needs.{needs}
-use Rattle.abc_text.specs.declared.Answer as code
-use Rattle.abc_text.specs.Answers.{answerAs}
+use Rattle.reading_answers.specs.declared.Answer as code
+use Rattle.reading_answers.specs.Answers.{answerAs}
 use Rattle.abc.specs.Packed.{packed, Short}
 use Rattle.abc.proofs.Packs.{read-back, refused-back}
 use Rattle.abc.proofs.pack.Statement.{statement}
