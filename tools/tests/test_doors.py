@@ -1,8 +1,10 @@
-"""Document 01's numbers, widths, places and limits as the specifications have them stand in include/abc.h, bindings/rust and bindings/c too."""
+"""Document 01's numbers, widths, places and limits as the specifications have them stand in include/abc.h, bindings/rust and bindings/c too, and so do the library's calls."""
+import glob
+import os
 import re
 import unittest
 
-from support import read
+from support import ROOT, read
 
 FILES = {
     'records': 'crates/reader/specs/Records.antt',
@@ -17,6 +19,7 @@ FILES = {
     'notes': 'crates/standard/specs/Notes.antt',
     'packed': 'crates/abc/specs/Packed.antt',
     'bound': 'crates/bounds/proofs/Reading.antt',
+    'played': 'crates/reading_played',
     'library': 'crates/abc/src/lib.rt',
     'header': 'include/abc.h',
     'rust': 'bindings/rust/src/lib.rs',
@@ -24,6 +27,7 @@ FILES = {
     'refusals': 'bindings/rust/src/refusal.rs',
     'cargo': 'bindings/rust/Cargo.toml',
     'c': 'bindings/c/tally.c',
+    'c played': 'bindings/c/played.c',
 }
 
 # The words of the header and of the crate for what the specifications name otherwise.
@@ -35,6 +39,13 @@ SAME = {
     '8th': 'eighth', '16th': 'sixteenth', '32nd': 'thirtysecond', '64th': 'sixtyfourth', '128th': 'hundredtwentyeighth',
     'novoiceidentifier': 'novoiceid',
 }
+
+
+def text_of(path):
+    """A file; of a crate's folder its code and definitions."""
+    if os.path.isfile(os.path.join(ROOT, path)):
+        return read(path)
+    return ''.join(read(file) for part in ('src', 'specs') for file in sorted(glob.glob(os.path.join(ROOT, path, part, '*'))))
 
 
 def plain(name):
@@ -110,8 +121,31 @@ def specified(t):
     told = set()
     for name in ('answer', 'scan', 'lines', 'inline', 'passes', 'tokens', 'sounds'):
         told |= {int(n) for n in re.findall(r'\b(?:refusedWith|refused|refuses|refuse|faulty|some) (\d+)\b', t[name])}
+    # Those of the played list: as the definition has them, or the code's call that clears the list.
+    told |= {int(n) for n in re.findall(r'\b(?:refused |refuse\(list, )(\d+)\b', t['played'])}
     facts['refused numbers'] = told
     return facts
+
+
+def calls(library):
+    """The library's calls by name: parameters and result as its code has them."""
+    found = re.findall(r'\n#\[no_mangle\]\npub extern "C" fn (\w+)\(([^)]*)\) -> (\w+)\s', library)
+    return {name: ([tuple(word.strip() for word in parameter.split(':')) for parameter in words.split(',') if parameter.strip()], result) for name, words, result in found}
+
+
+def in_c(call):
+    """A call's prototype in C: a slice is a pointer and a length."""
+    name, (parameters, result) = call
+    kinds = {'&[u8]': 'const uint8_t *{0}, size_t {0}_len', '&mut [u8]': 'uint8_t *{0}, size_t {0}_len', 'u32': 'uint32_t {0}'}
+    words = ', '.join(kinds[kind].format(word) for word, kind in parameters)
+    return '%s %s(%s);' % ({'u64': 'uint64_t', 'bool': 'bool'}[result], name, words or 'void')
+
+
+def in_ffi(call):
+    """The same in Rust."""
+    name, (parameters, result) = call
+    kinds = {'&[u8]': '{0}: *const u8, {0}_len: usize', '&mut [u8]': '{0}: *mut u8, {0}_len: usize', 'u32': '{0}: u32'}
+    return 'pub fn %s(%s) -> %s;' % (name, ', '.join(kinds[kind].format(word) for word, kind in parameters), result)
 
 
 # ---- the doors ------------------------------------------------------------------------------------------------------
@@ -141,6 +175,7 @@ def in_header(t):
     facts['most bytes'] = number(h, r'#define ABC_MOST_BYTES \(\(size_t\)(\d+)\)')
     facts['scratch'] = re.findall(r'#define ABC_SCRATCH_BYTES\(n\) \(\(size_t\)(\d+) \* \(\(size_t\)\(n\) \+ (\d+)\)\)', h)
     facts['reading'] = number(h, r'#define ABC_READING_BYTES\(n\) \(\(size_t\)(\d+) \* \(size_t\)\(n\)\)')
+    facts['list'] = re.findall(r'#define ABC_LIST_BYTES\(count\) \(\(size_t\)(\d+) \+ \(size_t\)(\d+) \* \(size_t\)\(count\)\)', h)
     facts['refused bit'] = 1 << number(h, r'#define ABC_REFUSED \(\(uint64_t\)1 << (\d+)\)')
     facts['number unit'] = 1 << number(h, r'#define ABC_REFUSAL\(answer\) \(\(unsigned\)\(\(\(answer\) >> (\d+)\) & 0xff\)\)')
     all_enums = enums(h)
@@ -167,6 +202,8 @@ def in_rust(t):
     adds, times = re.findall(r'fn scratch_bytes\(n: usize\) -> usize \{\s*n\.saturating_add\((\d+)\)\.saturating_mul\((\d+)\)', rust)[0]
     facts['scratch'] = [(times, adds)]
     facts['reading'] = number(rust, r'fn reading_bytes\(n: usize\) -> usize \{\s*n\.saturating_mul\((\d+)\)')
+    times, adds = re.findall(r'fn list_bytes\(count: usize\) -> usize \{\s*count\.saturating_mul\((\d+)\)\.saturating_add\((\d+)\)', rust)[0]
+    facts['list'] = [(adds, times)]
     facts['refused bit'] = 1 << number(rust, r'if answer >> (\d+) == 0')
     facts['number unit'] = 1 << number(rust, r'Refusal::of\(\(answer >> (\d+)\) as u8, answer as u32\)')
     for name, case in (('barline', 'Barline'), ('kind', 'Kind'), ('beam', 'BeamState'), ('syllabic', 'Syllabic'), ('volta', 'VoltaKind'), ('mode', 'Mode'), ('value', 'Duration')):
@@ -219,8 +256,11 @@ def differences(t):
         same(name + ', refusals of a pass list', spec['refusals of a pass list'], {at: door['refusals'].get(at) for at in spec['refusals of a pass list']})
         for value, word in spec['beamable'].items():
             same('%s, value %d' % (name, value), word, door['value'].get(value))
-    for what in ('refusals', 'value', 'version'):
+    for what in ('refusals', 'value', 'version', 'list'):
         same('header and crate, ' + what, header[what], rust[what])
+    for what, found, wanted in (('calls of the header', re.findall(r'^(\w+ abc_\w+\([^)]*\);)$', t['header'], re.M), in_c),
+                                ('calls of the crate', re.findall(r'(pub fn abc_\w+\([^)]*\) -> \w+;)', t['rust']), in_ffi)):
+        same(what, sorted(found), sorted(map(wanted, calls(t['library']).items())))
     same('crate, a refusal from its number and back', rust['refusals both ways'], True)
     for name in ('measure', 'note', 'pitch', 'lyric'):
         same('a %s is as long as its pieces' % name, spec['end of a ' + name], spec['width of a ' + name])
@@ -229,14 +269,14 @@ def differences(t):
         for name in ('header', 'refusals'):
             if words.format(limit) not in t[name]:
                 out.append('%s does not say %s' % (FILES[name], words.format(limit)))
-    code = re.sub(r'/\*.*?\*/', '', t['c'], flags=re.S)
-    if not {'ABC_MEASURE_BYTES', 'ABC_NOTE_BYTES', 'ABC_PITCH_BYTES', 'ABC_LYRIC_BYTES', 'ABC_READING_BYTES', 'ABC_SCRATCH_BYTES', 'ABC_MOST_BYTES'} <= set(re.findall(r'\w+', code)):
-        out.append('bindings/c does not go by the header')
-    out += ['bindings/c has the number %s of its own' % found for found in re.findall(r'(?<![\w.<])(28|12|11|5|23|32|256|67108864)\b', code)]
-    # Once the library answers its version.
-    if 'fn abc_version' in t['library']:
-        major, minor, patch = map(int, header['version'].split('.'))
-        same('version of the library', number(t['packed'], r'\nversion = (\d+)\n'), 1000000 * major + 1000 * minor + patch)
+    widths = {'ABC_MEASURE_BYTES', 'ABC_NOTE_BYTES', 'ABC_PITCH_BYTES', 'ABC_LYRIC_BYTES', 'ABC_READING_BYTES', 'ABC_SCRATCH_BYTES', 'ABC_MOST_BYTES'}
+    for name, words in (('c', widths), ('c played', widths | {'ABC_LIST_BYTES', 'ABC_LIST_SHORT'})):
+        code = re.sub(r'/\*.*?\*/', '', t[name], flags=re.S)
+        if not words <= set(re.findall(r'\w+', code)):
+            out.append(FILES[name] + ' does not go by the header')
+        out += ['%s has the number %s of its own' % (FILES[name], found) for found in re.findall(r'(?<![\w.<])(28|12|11|5|19|20|23|32|256|67108864)\b', code)]
+    major, minor, patch = map(int, header['version'].split('.'))
+    same('version of the library', number(t['packed'], r'\nversion = (\d+)\n'), 1000000 * major + 1000 * minor + patch)
     return out
 
 
@@ -244,22 +284,27 @@ def differences(t):
 SPOILED = [
     ('records', 'noteWidth = 12', 'noteWidth = 13'), ('records', 'm .left) ∷ barlineCode (m .right)', 'm .right) ∷ barlineCode (m .left)'),
     ('records', 'bit (f .slurStart) 4', 'bit (f .slurStart) 64'), ('codes', 'kindCode barRest = 3', 'kindCode barRest = 5'), ('answer', '32 * (n + 256)', '32 * (n + 128)'),
-    ('answer', 'mostBytes = 67108864', 'mostBytes = 67108865'), ('scan', 'mostVoices = 32', 'mostVoices = 16'), ('answer', 'refusedWith 16 0', 'refusedWith 19 0'),
+    ('answer', 'mostBytes = 67108864', 'mostBytes = 67108865'), ('scan', 'mostVoices = 32', 'mostVoices = 16'), ('answer', 'refusedWith 16 0', 'refusedWith 21 0'),
     ('passes', 'leb n 32', 'leb n 33'), ('passes', 'tested none = faulty 14', 'tested none = faulty 18'),
     ('passes', '| false ↦ faulty 17', '| false ↦ faulty 18'), ('bound', '→ 23 * length text ≤ rl', '→ 24 * length text ≤ rl'), ('packed', 'numberUnit = 4294967296', 'numberUnit = 65536'),
-    ('header', 'ABC_PITCH_BYTES 5', 'ABC_PITCH_BYTES 6'), ('header', '#define ABC_MIDDLE 10', '#define ABC_MIDDLE 19'),
+    ('header', 'ABC_PITCH_BYTES 5', 'ABC_PITCH_BYTES 6'), ('header', '#define ABC_MIDDLE 10', '#define ABC_MIDDLE 21'),
     ('header', 'ABC_BAR_DOUBLE, ABC_BAR_FINAL', 'ABC_BAR_FINAL, ABC_BAR_DOUBLE'), ('header', 'ABC_GRACE = 16', 'ABC_GRACE = 64'), ('header', '10,000th', '1,000th'),
-    ('header', 'ABC_VERSION_MINOR 2', 'ABC_VERSION_MINOR 3'), ('header', 'ABC_PASS_RANGE 17', 'ABC_PASS_RANGE 14'), ('rust', '67_108_864', '67_108_863'), ('rust', 'saturating_mul(23)', 'saturating_mul(22)'),
+    ('header', 'ABC_VERSION_MINOR 3', 'ABC_VERSION_MINOR 4'), ('header', 'ABC_PASS_RANGE 17', 'ABC_PASS_RANGE 14'), ('rust', '67_108_864', '67_108_863'), ('rust', 'saturating_mul(23)', 'saturating_mul(22)'),
     ('rust', 'answer >> 32', 'answer >> 33'), ('views', 'const LYRIC: usize = 11', 'const LYRIC: usize = 12'), ('views', 'self.byte(3) & 8', 'self.byte(3) & 4'),
     ('views', 'verse: record[4]', 'verse: record[5]'), ('views', '2 Minor "', '3 Minor "'), ('views', 'Barline::of(self.record[17])', 'Barline::of(self.record[16])'),
     ('refusals', '            9 => Self::TooManyVoices { line }', '            9 => Self::Middle { line }'), ('refusals', '17 => Self::PassRange', '17 => Self::PassOrder'),
     ('refusals', 'Self::PassOrder { .. } => 18', 'Self::PassOrder { .. } => 17'), ('refusals', '1,048,576', '1,048,575'),
-    ('cargo', 'version = "0.2.0"', 'version = "0.2.1"'), ('c', 'ABC_NOTE_BYTES', '12'),
+    ('cargo', 'version = "0.3.0"', 'version = "0.3.1"'), ('packed', '\nversion = ', '\nversion = 9'), ('c', 'ABC_NOTE_BYTES', '12'),
+    ('c played', 'ABC_LIST_BYTES', 'list_bytes'), ('c played', 'ABC_LIST_SHORT', '20'), ('header', 'ABC_LIST_SHORT 20', 'ABC_LIST_SHORT 19'), ('header', '(size_t)4 * (size_t)(count)', '(size_t)8 * (size_t)(count)'),
+    ('header', 'size_t reading_len, uint32_t part, uint8_t *list', 'size_t reading_len, uint8_t *list'), ('header', 'bool abc_is_whole', 'int abc_is_whole'),
+    ('rust', 'count.saturating_mul(4)', 'count.saturating_mul(8)'), ('rust', 'part: u32, list: *mut u8', 'part: u64, list: *mut u8'), ('rust', 'reading_len: usize) -> bool', 'reading_len: usize) -> u8'),
+    ('refusals', '19 => Self::NoSuchPart', '19 => Self::ListShort'), ('library', 'fn abc_played(reading: &[u8], part: u32', 'fn abc_played(part: u32, reading: &[u8]'),
+    ('library', 'fn abc_is_whole', 'fn abc_whole'), ('played', '20', '21'),
 ]
 
 
 class Doors(unittest.TestCase):
-    texts = {name: read(*path.split('/')) for name, path in FILES.items()}
+    texts = {name: text_of(path) for name, path in FILES.items()}
 
     def test_the_doors_say_what_the_specifications_say(self):
         self.assertEqual(differences(self.texts), [])
@@ -274,15 +319,11 @@ class Doors(unittest.TestCase):
                     found = [str(error)]
                 self.assertTrue(found)
 
-    def test_a_library_that_answers_its_version(self):
-        texts = dict(self.texts, library=self.texts['library'] + '\npub extern "C" fn abc_version() -> u64 {}\n')
-        if '\nversion = ' not in texts['packed']:
-            texts['packed'] += '\nversion = 2000\n'
-        self.assertEqual(differences(texts), [])
-        self.assertTrue(differences(dict(texts, packed=texts['packed'].replace('\nversion = ', '\nversion = 9'))))
+    def test_the_calls(self):
+        self.assertEqual(set(calls(self.texts['library'])), {'abc_parse', 'abc_played', 'abc_is_whole', 'abc_version'})
 
-    def test_eighteen_refusals(self):
-        self.assertEqual(specified(self.texts)['refused numbers'], set(range(1, 19)))
+    def test_twenty_refusals(self):
+        self.assertEqual(specified(self.texts)['refused numbers'], set(range(1, 21)))
 
 
 if __name__ == '__main__':

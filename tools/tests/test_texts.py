@@ -7,8 +7,8 @@ from support import read
 from common import escape, unescape
 
 
-def whole(data):
-    """Whether bytes are a whole reading: counts, pitch counts and text lengths add up and nothing is left over."""
+def adds_up(data):
+    """Whether counts, pitch counts and text lengths of a reading add up and nothing is left over."""
     at = 4
     for _ in range(struct.unpack_from('<I', data)[0]):
         sections = []
@@ -70,15 +70,45 @@ class Probes(unittest.TestCase):
                 self.assertIn('[01: %s]' % answer, words)
             else:
                 self.assertRegex(answer, r'^(reading|outside) ([0-9a-f]{2})+$', text)
-                self.assertTrue(whole(bytes.fromhex(answer.split()[1])), text)
+                self.assertTrue(adds_up(bytes.fromhex(answer.split()[1])), text)
                 self.assertEqual(kind == 'outside', bool(re.search(r'\[01: outside', words)), text)
         self.assertEqual(set(kinds), {'reading', 'refused', 'outside'})
 
-    def test_whole_can_fail(self):
+    def test_adds_up_can_fail(self):
         data = bytes.fromhex(self.rows[0][1].split()[1])
-        self.assertTrue(whole(data))
-        self.assertFalse(whole(data + b'\0'))
-        self.assertFalse(whole(data[:8] + b'\2' + data[9:]))
+        self.assertTrue(adds_up(data))
+        self.assertFalse(adds_up(data + b'\0'))
+        self.assertFalse(adds_up(data[:8] + b'\2' + data[9:]))
+
+
+class Samples(unittest.TestCase):
+    """What the gate's programs replay: as many rows as they print, and as the documents say."""
+
+    def rows(self, crate):
+        lines = read('crates', crate, 'stdin').split('\n')
+        self.assertEqual(lines.pop(), '')
+        self.assertEqual(read('crates', crate, 'stdout'), '%d answers, 0 differ\n' % len(lines))
+        for document in (('README.md',), ('docs', 'ARCHITECTURE.md')):
+            self.assertRegex(read(*document), r'%s` [^\n]*\b%d\b' % (crate, len(lines)))
+        return [line.split(' ') for line in lines]
+
+    def test_texts(self):
+        for length, _, number, value, text, reading in self.rows('test_replay'):
+            self.assertEqual((int(length, 16), int(value, 16) if number == '00' else 0), (len(text) // 2, len(reading) // 2))
+
+    def test_lists(self):
+        rows = self.rows('test_played')
+        for length, part, store, _, number, used, reading, numbers in rows:
+            self.assertEqual((int(length, 16), int(used, 16)), (len(reading) // 2, len(numbers) // 2))
+            if number == '00':
+                numbers = struct.unpack('<%dI' % (len(numbers) // 8), bytes.fromhex(numbers))
+                self.assertEqual(numbers[0], len(numbers) - 1)
+                self.assertGreaterEqual(int(store, 16), 4 * len(numbers))
+        # Each answer to a whole reading, and 19 to one that is not; no part, the first ones and the last number.
+        kinds = [(whole, number) for _, _, _, whole, number, *_ in rows]
+        self.assertEqual(set(kinds), {('01', '00'), ('01', '13'), ('01', '14'), ('00', '13')})
+        self.assertTrue(all(kinds.count(kind) > 30 for kind in set(kinds)))
+        self.assertTrue({'00000000', '00000001', '00000002', '00000003', 'ffffffff'} <= {row[1] for row in rows})
 
 
 if __name__ == '__main__':

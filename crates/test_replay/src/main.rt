@@ -8,95 +8,19 @@
 //   the text
 //   the reading, where there is one
 // Both stores are full of noise before each call. What is compared: the answer, every byte of the reading store, and that scratch is all zeros.
-use abc_text::Answer;
 use libc::STDIN_FILENO;
-use libc::STDOUT_FILENO;
+use reading_answers::Answer;
+use test_rows::Counts;
+use test_rows::decode;
+use test_rows::fill;
+use test_rows::holds;
+use test_rows::is_clear;
+use test_rows::number;
+use test_rows::print_counts;
+use test_rows::short_number;
+use test_rows::with_row;
 ghost use Prim.Native.Nat.{_+_, _≤_, _<_};
 ghost use lib.ListN.{length};
-
-// How many rows there are, and how many of them differ.
-struct Counts {
-    rows: u32,
-    differ: u32,
-}
-
-// Bytes decoded so far, and the first of two digits, 16 where none waits.
-struct Decoded {
-    high: u8,
-    n: usize,
-}
-
-// THE SAMPLE
-
-fn long(b: u8) -> usize
-    ensures { λ r. ⌜ r < 256 ⌝ }
-{
-    b as usize
-}
-
-// The value of a hex digit, 16 for any other byte.
-fn digit(b: u8) -> u8
-    ensures { λ r. ⌜ r ≤ 16 ⌝ }
-{
-    match b {
-        48..=57 => b - 48,
-        97..=102 => b - 87,
-        _ => 16,
-    }
-}
-
-// One digit more: the second of two writes a byte, as long as `out` has room.
-fn with_digit(out: &mut [u8], s: Decoded, d: u8) -> Decoded
-    requires { ⌜ (s .high ≤ 16) × (s .n ≤ length (now out)) × (d ≤ 16) ⌝ }
-    ensures { λ r. ⌜ (r .high ≤ 16) × (r .n ≤ length (now (out .exit))) ⌝ }
-{
-    let high = s.high;
-    let n = s.n;
-    if 16 <= d {
-        return s;
-    }
-    if 16 <= high {
-        return Decoded { high: d, n };
-    }
-    if n < out.len() {
-        out[n] = high * 16 + d;
-        return Decoded { high: 16, n: n + 1 };
-    }
-    Decoded { high: 16, n }
-}
-
-// The bytes that hex digits write, as many as `out` can hold; how many.
-fn decode(text: &[u8], out: &mut [u8]) -> usize
-    ensures { λ r. ⌜ r ≤ length (now (out .exit)) ⌝ }
-{
-    let mut s = Decoded { high: 16, n: 0 };
-    let mut i: usize = 0;
-    while i < text.len() {
-        s = with_digit(out, s, digit(text[i]));
-        i += 1;
-    }
-    s.n
-}
-
-// The number of 16 bits at a position.
-fn short_number(row: &[u8], at: usize) -> usize
-    requires { ⌜ at + 2 ≤ length (now row) ⌝ }
-    ensures { λ r. ⌜ r < 65536 ⌝ }
-{
-    let a = long(row[at]);
-    let b = long(row[at + 1]);
-    a * 256 + b
-}
-
-// The number of 32 bits at a position.
-fn number(row: &[u8], at: usize) -> usize
-    requires { ⌜ at + 4 ≤ length (now row) ⌝ }
-    ensures { λ r. ⌜ r < 4294967296 ⌝ }
-{
-    let high = short_number(row, at);
-    let low = short_number(row, at + 2);
-    high * 65536 + low
-}
 
 // The length of the row that `rows` begins with.
 fn row_length(rows: &[u8]) -> usize
@@ -109,53 +33,6 @@ fn row_length(rows: &[u8]) -> usize
     } else {
         text
     }
-}
-
-// THE STORES
-
-// The next byte of noise, never 0.
-fn noise(b: u8) -> u8
-    ensures { λ r. ⌜ 1 ≤ r ⌝ }
-{
-    if b < 250 { b + 5 } else { b - 249 }
-}
-
-// A store full of noise.
-fn fill(store: &mut [u8]) {
-    let mut b: u8 = 165;
-    let mut i: usize = 0;
-    while i < store.len() {
-        store[i] = b;
-        b = noise(b);
-        i += 1;
-    }
-}
-
-// All bytes from `from` on are zeros.
-fn is_clear(store: &[u8], from: usize) -> bool {
-    let mut i = from;
-    while i < store.len() {
-        if store[i] != 0 {
-            return false;
-        }
-        i += 1;
-    }
-    true
-}
-
-// The store holds the reading, and zeros behind it.
-fn holds(store: &[u8], reading: &[u8]) -> bool {
-    if store.len() < reading.len() {
-        return false;
-    }
-    let mut i: usize = 0;
-    while i < reading.len() {
-        if store[i] != reading[i] {
-            return false;
-        }
-        i += 1;
-    }
-    is_clear(store, reading.len())
 }
 
 // THE ANSWERS
@@ -207,32 +84,6 @@ fn agrees(row: &[u8], reading: &mut [u8], scratch: &mut [u8]) -> bool
 
 // THE REPLAY
 
-fn one_more(n: u32) -> u32 {
-    if n < 4294967295 { n + 1 } else { n }
-}
-
-fn print_row(n: u32) {
-    io::write_all(STDOUT_FILENO, b"row ");
-    io::print_decimal(STDOUT_FILENO, n as u64);
-    io::write_all(STDOUT_FILENO, b" differs\n");
-}
-
-// One row more; one that differs is printed by its number, the first being 1.
-fn with_row(c: Counts, agreed: bool) -> Counts {
-    let rows = one_more(c.rows);
-    if agreed {
-        return Counts {
-            rows,
-            differ: c.differ,
-        };
-    }
-    print_row(rows);
-    Counts {
-        rows,
-        differ: one_more(c.differ),
-    }
-}
-
 fn replay(rows: &[u8], reading: &mut [u8], scratch: &mut [u8]) -> Counts {
     let mut c = Counts { rows: 0, differ: 0 };
     let mut at: usize = 0;
@@ -246,13 +97,6 @@ fn replay(rows: &[u8], reading: &mut [u8], scratch: &mut [u8]) -> Counts {
         at = end;
     }
     c
-}
-
-fn print_counts(c: Counts) {
-    io::print_decimal(STDOUT_FILENO, c.rows as u64);
-    io::write_all(STDOUT_FILENO, b" answers, ");
-    io::print_decimal(STDOUT_FILENO, c.differ as u64);
-    io::write_all(STDOUT_FILENO, b" differ\n");
 }
 
 fn main() {

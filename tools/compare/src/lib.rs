@@ -3,7 +3,67 @@ pub mod texts;
 pub mod tunes;
 
 use oracle::{Answer, Rust, answer, rust_answer};
-use sindvaelo::{MOST_BYTES, Refusal, parse_abc, scratch_bytes};
+use sindvaelo::{MOST_BYTES, Refusal, is_whole, parse_abc, scratch_bytes};
+use std::collections::BTreeMap;
+
+/// What one kind of texts or readings came to.
+#[derive(Default)]
+pub struct Sum {
+    pub inputs: u64,
+    pub calls: u64,
+    pub answers: BTreeMap<String, u64>,
+    /// In words, the first ones; those behind them may be empty.
+    pub differences: Vec<String>,
+}
+
+impl Sum {
+    pub fn add(&mut self, other: Sum) {
+        self.inputs += other.inputs;
+        self.calls += other.calls;
+        for (name, count) in other.answers {
+            *self.answers.entry(name).or_default() += count;
+        }
+        self.differences.extend(other.differences);
+    }
+
+    pub fn count(&mut self, answer: &str) {
+        match self.answers.get_mut(answer) {
+            Some(count) => *count += 1,
+            None => drop(self.answers.insert(answer.to_string(), 1)),
+        }
+    }
+
+    pub fn answers(&self) -> String {
+        self.answers.iter().map(|(name, count)| format!("{name}: {count}")).collect::<Vec<_>>().join(", ")
+    }
+}
+
+/// Runs `each` on the numbers below `count`, shared out to `jobs` threads with a run of their own, and prints a line.
+pub fn kind<R>(name: &str, inputs: &str, count: u64, jobs: u64, start: impl Fn(u64) -> R + Sync, each: impl Fn(&mut R, u64) + Sync, end: impl Fn(R) -> Sum + Sync) -> Sum {
+    let began = std::time::Instant::now();
+    let mut sum = Sum::default();
+    std::thread::scope(|scope| {
+        let runs: Vec<_> = (0..jobs)
+            .map(|job| {
+                let (start, each, end) = (&start, &each, &end);
+                scope.spawn(move || {
+                    let mut run = start(job);
+                    (job..count).step_by(jobs as usize).for_each(|i| each(&mut run, i));
+                    end(run)
+                })
+            })
+            .collect();
+        for run in runs {
+            sum.add(run.join().expect("thread"));
+        }
+    });
+    println!("{name}: {} {inputs}, {} calls, {} differ, {:.0} s", sum.inputs, sum.calls, sum.differences.len(), began.elapsed().as_secs_f64());
+    println!("  {}", sum.answers());
+    for words in sum.differences.iter().filter(|words| !words.is_empty()) {
+        println!("  DIFFERS {words}");
+    }
+    sum
+}
 
 /// What is known of a text before the stores' lengths are.
 #[derive(Debug, Clone)]
@@ -68,6 +128,10 @@ pub struct Stores {
 }
 
 impl Stores {
+    pub fn new(spoil: bool) -> Self {
+        Self { spoil, ..Self::default() }
+    }
+
     /// Fills `n` bytes with whatever: what a store held before must not show.
     fn fill(&mut self, reading: usize, scratch: usize) {
         for (store, n) in [(&mut self.reading, reading), (&mut self.scratch, scratch)] {
@@ -80,12 +144,15 @@ impl Stores {
         }
     }
 
-    /// The port's outcome, or what it left in scratch.
+    /// The port's outcome, or what it left in scratch, or that the reading store does not hold a whole reading: a refusal's zeros are one without parts.
     pub fn given(&mut self, text: &[u8], reading: usize, scratch: usize) -> Result<Outcome, String> {
         self.fill(reading, scratch);
         let answer = parse_abc(text, &mut self.reading, &mut self.scratch).map_err(|r: Refusal| (r.number(), r.line().unwrap_or(0)));
         if let Some(at) = self.scratch.iter().position(|byte| *byte != 0) {
             return Err(format!("scratch is not cleared at {at} of {scratch}, answer {answer:?}"));
+        }
+        if is_whole(&self.reading) != (reading >= 4) {
+            return Err(format!("the reading store is no whole reading, answer {answer:?}"));
         }
         let mut reading = self.reading.clone();
         if self.spoil && !reading.is_empty() {

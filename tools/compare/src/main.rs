@@ -1,6 +1,6 @@
 //! The port of `parse_abc` beside the Rust on whole texts: `tools/differential-texts --help`.
 use compare::texts::{TEXTS, Text};
-use compare::{Known, Stores, known, reading_len, tunes};
+use compare::{Known, Stores, Sum, known, reading_len, tunes};
 use oracle::generate;
 use oracle::rng::Rng;
 use sindvaelo::{MOST_BYTES, reading_bytes, scratch_bytes};
@@ -11,28 +11,7 @@ mod edges;
 /// A longer text that differs is not made small, which would take hours.
 const LONG: usize = 8_000;
 
-/// What one kind of texts came to.
-#[derive(Default)]
-struct Sum {
-    texts: u64,
-    calls: u64,
-    answers: BTreeMap<String, u64>,
-    differences: Vec<String>,
-}
-
-impl Sum {
-    fn add(&mut self, other: Sum) {
-        self.texts += other.texts;
-        self.calls += other.calls;
-        for (name, count) in other.answers {
-            *self.answers.entry(name).or_default() += count;
-        }
-        self.differences.extend(other.differences);
-    }
-}
-
 /// One thread's stores and sums.
-#[derive(Default)]
 struct Run {
     stores: Stores,
     sum: Sum,
@@ -67,14 +46,12 @@ impl Run {
     /// What is known of a text, counted.
     fn known(&mut self, text: &[u8]) -> Known {
         let known = known(text);
-        self.sum.texts += 1;
-        let name = match &known {
-            Known::Early(number) => format!("refused {number:2}"),
-            Known::Refused(number, _) => format!("refused {number:2}"),
-            Known::Reading { exact: true, .. } => "read".into(),
-            Known::Reading { exact: false, .. } => "read, outside the domain of equality".into(),
-        };
-        *self.sum.answers.entry(name).or_default() += 1;
+        self.sum.inputs += 1;
+        match &known {
+            Known::Early(number) | Known::Refused(number, _) => self.sum.count(&format!("refused {number:2}")),
+            Known::Reading { exact: true, .. } => self.sum.count("read"),
+            Known::Reading { exact: false, .. } => self.sum.count("read, outside the domain of equality"),
+        }
         known
     }
 
@@ -102,40 +79,9 @@ impl Run {
         assert!(matches!(known(text), Known::Reading { exact: false, .. }), "within the domain of equality");
         let known = known(other);
         assert!(matches!(known, Known::Reading { exact: true, .. }));
-        self.sum.texts += 1;
+        self.sum.inputs += 1;
         self.call(text, &known, reading_len(&known), scratch_bytes(text.len()));
     }
-}
-
-/// Runs `each` on the numbers below `count`, shared out to `jobs` threads, and prints a line.
-fn kind(name: &str, count: u64, jobs: u64, spoil: bool, each: impl Fn(&mut Run, u64) + Sync) -> u64 {
-    let start = std::time::Instant::now();
-    let mut sum = Sum::default();
-    std::thread::scope(|scope| {
-        let runs: Vec<_> = (0..jobs)
-            .map(|job| {
-                let each = &each;
-                scope.spawn(move || {
-                    let mut run = Run::default();
-                    run.stores.spoil = spoil;
-                    for i in (job..count).step_by(jobs as usize) {
-                        each(&mut run, i);
-                    }
-                    run.sum
-                })
-            })
-            .collect();
-        for run in runs {
-            sum.add(run.join().expect("thread"));
-        }
-    });
-    let answers: Vec<String> = sum.answers.iter().map(|(name, count)| format!("{name}: {count}")).collect();
-    println!("{name}: {} texts, {} calls, {} differ, {:.0} s", sum.texts, sum.calls, sum.differences.len(), start.elapsed().as_secs_f64());
-    println!("  {}", answers.join(", "));
-    for words in sum.differences.iter().filter(|words| !words.is_empty()) {
-        println!("  DIFFERS {words}");
-    }
-    sum.differences.len() as u64
 }
 
 /// Bytes of music lines that mean something, one of each kind.
@@ -365,7 +311,8 @@ fn main() {
     let mut differ = 0;
     let mut run = |name: &str, count: u64, each: &(dyn Fn(&mut Run, u64) + Sync)| {
         if wanted(name) {
-            differ += kind(name, count, jobs, spoil, each);
+            let start = |_| Run { stores: Stores::new(spoil), sum: Sum::default() };
+            differ += compare::kind(name, "texts", count, jobs, start, each, |run| run.sum).differences.len() as u64;
         }
     };
     let probes = probes();

@@ -1,6 +1,6 @@
 //! The port and the Rust on the same texts, in turn: `tools/benchmark --help`.
 use compare::texts::{PASSED_OVER, TEXTS, Text};
-use sindvaelo::{parse_abc, reading_bytes, scratch_bytes};
+use sindvaelo::{is_whole, list_bytes, parse_abc, played_measures, read, reading_bytes, scratch_bytes};
 use std::hint::black_box;
 use std::io::Write;
 
@@ -93,6 +93,63 @@ fn measure(texts: &[String], budget: f64) -> Row {
     Row { bytes, port, rust, copy }
 }
 
+/// The low decile of the seconds that `run` takes, in runs of `budget` seconds together, five at least; a short one is run several times for a sample.
+fn seconds(budget: f64, mut run: impl FnMut()) -> f64 {
+    let once = time(&mut run).max(1e-9);
+    let calls = (2e-5 / once).ceil().clamp(1.0, 10_000.0) as usize;
+    let (mut times, start) = (Vec::new(), now());
+    while times.len() < 5 || (now() - start < budget && times.len() < 5_001) {
+        times.push(time(|| (0..calls).for_each(|_| run())) / calls as f64);
+    }
+    low_decile(times)
+}
+
+/// The walk of a part, by number listed and by measure; and the test for a whole reading beside reading its text.
+fn played(budget: f64, word: &str) {
+    println!("{:28} {:>8} {:>9} {:>10} {:>12} {:>13}", "walk", "measures", "listed", "ms", "ns a number", "whole test ms");
+    // The pieces and their number: a plain tune, one section after the other, lists of a million numbers, walks that skip almost all.
+    for (name, piece, count) in [
+        ("plain, 1,000 measures", "A|", 1_000),
+        ("plain, 90,000 measures", "A|", 90_000),
+        ("|:A|B|c|[1d:|[2e|] x 18,000", "|:A|B|c|[1d:|[2e|]", 18_000),
+        ("A:| x 9,000", "A:|", 9_000),
+        ("A:| x 90,000", "A:|", 90_000),
+        ("A|[32B:| x 80", "A|[32B:|", 80),
+        ("A|[32B:| x 252", "A|[32B:|", 252),
+        ("A|[32B:| x 800", "A|[32B:|", 800),
+        ("[32B:| x 250", "[32B:|", 250),
+        ("[32B:| x 2,500", "[32B:|", 2_500),
+    ] {
+        if !name.contains(word) {
+            continue;
+        }
+        let reading = read(format!("K:C\n {}c:|\n", piece.repeat(count))).expect("a text that is read");
+        let part = reading.parts().next().expect("a part");
+        let (measures, numbers) = (part.measures().len(), part.played(100_000_000).expect("a list").len());
+        let mut list = vec![0; list_bytes(numbers)];
+        let whole = seconds(budget / 10.0, || assert!(black_box(is_whole(black_box(reading.as_bytes())))));
+        let walk = seconds(budget, || assert!(black_box(played_measures(black_box(reading.as_bytes()), 1, &mut list)).is_ok()));
+        println!("{name:28} {measures:8} {numbers:9} {:10.3} {:12.2} {:13.3}", walk * 1e3, walk * 1e9 / numbers as f64, whole * 1e3);
+    }
+    println!("\n{:10} {:>10} {:>10} {:>12} {:>12} {:>14} {:>12}", "text", "bytes", "reading", "parse ns/B", "whole ns/B", "whole ns/B of", "of parsing");
+    println!("{:10} {:>10} {:>10} {:>12} {:>12} {:>14} {:>12}", "", "", "", "of text", "of text", "reading", "");
+    for text in TEXTS.iter().filter(|text| text.name.contains(word)) {
+        let texts = text.texts();
+        let longest = texts.iter().map(String::len).max().unwrap_or(0);
+        let (mut store, mut scratch) = (vec![0; reading_bytes(longest)], vec![0; scratch_bytes(longest)]);
+        let readings: Vec<Vec<u8>> = texts.iter().map(|text| read(text).expect("a text that is read").into_bytes()).collect();
+        let parse = seconds(budget, || {
+            for (text, reading) in texts.iter().zip(&readings) {
+                assert!(black_box(parse_abc(black_box(text.as_bytes()), &mut store[..reading.len()], &mut scratch[..scratch_bytes(text.len())])).is_ok());
+            }
+        });
+        let whole = seconds(budget, || readings.iter().for_each(|reading| assert!(black_box(is_whole(black_box(reading))))));
+        let (bytes, long): (usize, usize) = (texts.iter().map(String::len).sum(), readings.iter().map(Vec::len).sum());
+        let each = |seconds: f64, bytes: usize| seconds * 1e9 / bytes as f64;
+        println!("{:10} {bytes:10} {long:10} {:12.2} {:12.2} {:14.2} {:11.1}%", text.name, each(parse, bytes), each(whole, bytes), each(whole, long), 100.0 * whole / parse);
+    }
+}
+
 /// One call of the Rust for each text, for tools/instructions: a name by which callgrind tells it.
 #[unsafe(no_mangle)]
 #[inline(never)]
@@ -109,7 +166,7 @@ fn sizes(text: &Text, usual: bool) -> Vec<Vec<String>> {
 }
 
 fn main() {
-    let (mut seconds, mut word, mut usual, mut files) = (1.0, String::new(), false, Vec::new());
+    let (mut seconds, mut word, mut usual, mut of_readings, mut files) = (1.0, String::new(), false, false, Vec::new());
     let mut args = std::env::args().skip(1);
     let named = |name: Option<String>| TEXTS.iter().find(|text| Some(text.name) == name.as_deref()).unwrap_or_else(|| panic!("no text of that name: --list names them"));
     while let Some(arg) = args.next() {
@@ -135,9 +192,14 @@ fn main() {
             }
             "--texts" => word = args.next().expect("--texts takes a word"),
             "--usual" => usual = true,
+            "--played" => of_readings = true,
             "--file" => files.push(args.next().expect("--file takes a path")),
             _ => seconds = arg.parse().unwrap_or_else(|_| panic!("no option {arg}")),
         }
+    }
+    if of_readings {
+        played(seconds, &word);
+        return;
     }
     println!("{:10} {:>8} {:>10} {:>10} {:>7} {:>8} {:>9} {:>8} {:>8}", "text", "bytes", "port ns/B", "Rust ns/B", "ratio", "to plain", "copy ns/B", "port ×10", "Rust ×10");
     // What a byte of the plain tune takes at the usual size, beside which the others are dear or cheap.

@@ -1,9 +1,9 @@
--- `test_replay::is_clear` is safe and ends.
+-- `test_rows::is_clear` is safe and ends.
 use Prim.Native.Nat.{_-_}
 use borrow.Author.Needs.{needs}
 use lib.ListN.{length}
-use Rattle.test_replay.proofs.is_clear.Statement.{statement}
-use Rattle.test_replay.proofs.is_clear.Tie as tie
+use Rattle.test_rows.proofs.is_clear.Statement.{statement}
+use Rattle.test_rows.proofs.is_clear.Tie as tie
 
 abbrev Inv-loop : tie.InvT-loop
 Inv-loop store from i₀ i = Unit {0}

@@ -1,10 +1,10 @@
--- `test_replay::fill` is safe and ends.
+-- `test_rows::fill` is safe and ends.
 use Prim.Native.Nat.{_-_, _≤_}
 use mathlib.Core.Path.{_≡_}
 use borrow.Author.Needs.{needs}
 use lib.ListN.{length}
-use Rattle.test_replay.proofs.fill.Statement.{statement}
-use Rattle.test_replay.proofs.fill.Tie as tie
+use Rattle.test_rows.proofs.fill.Statement.{statement}
+use Rattle.test_rows.proofs.fill.Tie as tie
 
 abbrev Inv-loop : tie.InvT-loop
 Inv-loop store₀ b₀ i₀ store b i = (i ≤ length store₀) × (length store ≡ length store₀)

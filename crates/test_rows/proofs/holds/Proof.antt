@@ -1,15 +1,15 @@
--- `test_replay::holds` is safe and ends.
+-- `test_rows::holds` is safe and ends.
 use Prim.Native.Nat.{_-_}
 use borrow.Author.Needs.{needs}
 use lib.ListN.{length}
-use Rattle.test_replay.proofs.holds.Statement.{statement}
-use Rattle.test_replay.proofs.holds.Tie as tie
+use Rattle.test_rows.proofs.holds.Statement.{statement}
+use Rattle.test_rows.proofs.holds.Tie as tie
 
 abbrev Inv-loop : tie.InvT-loop
-Inv-loop store reading i₀ i = Unit {0}
+Inv-loop store want i₀ i = Unit {0}
 
 abbrev μ-loop : tie.MeasureT-loop
-μ-loop store reading i₀ i = length reading - i
+μ-loop store want i₀ i = length want - i
 
 pub holds-spec : {M : Type 1} → statement M
 holds-spec =

@@ -1,9 +1,9 @@
--- `test_replay::with_digit` is safe and ends.
+-- `test_rows::with_digit` is safe and ends.
 use native.Mathlib.Omega.{arith}
 use lib.ListN.{length-set}
 use borrow.Author.Needs.{needs}
-use Rattle.test_replay.proofs.with_digit.Statement.{statement}
-use Rattle.test_replay.proofs.with_digit.Tie as tie
+use Rattle.test_rows.proofs.with_digit.Statement.{statement}
+use Rattle.test_rows.proofs.with_digit.Tie as tie
 
 returns-3 : tie.Need-returns-3
 returns-3 c = (omega arith, rw length-set (omega (arith, c .if3 .taken)))
