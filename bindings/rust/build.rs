@@ -26,9 +26,13 @@ fn main() {
         Ok(archive) => {
             println!("cargo:rustc-link-search=native={}", folder.display());
             println!("cargo:rustc-link-lib=static=abc");
+            let has = |call: &str| archive.windows(call.len() + 1).any(|name| name.starts_with(call.as_bytes()) && matches!(name[call.len()], 0 | b'\n'));
             // A library from before version 0.1.0 does not say its version.
-            if archive.windows(12).any(|name| name == b"abc_version\0" || name == b"abc_version\n") {
+            if has("abc_version") {
                 println!("cargo:rustc-cfg=abc_version");
+            }
+            if !has("abc_played") {
+                println!("cargo:warning={} is from before version 0.3.0 and has no abc_played, which linking will miss: {MISSING}", library.display());
             }
             if let Some(newer) = root.as_deref().and_then(|root| newer_source(root, &library)) {
                 stale = true;

@@ -11,6 +11,16 @@
 //! # Ok::<(), sindvaelo::Refusal>(())
 //! ```
 //!
+//! A reading tells as well which measures a player walks, repeats and endings followed:
+//!
+//! ```
+//! let reading = sindvaelo::read("K:C\n|:A|[1B:|[2c|]")?;
+//! for part in &reading {
+//!     assert_eq!(part.played(1_000)?, [1, 2, 1, 3]);
+//! }
+//! # Ok::<(), sindvaelo::Refusal>(())
+//! ```
+//!
 //! Names, fields and their order stand beside acorde's: docs/SWITCHING.md.
 //!
 //! # Memory
@@ -33,12 +43,16 @@ mod ffi {
         /// include/abc.h. A slice passes as a pointer and a length.
         pub fn abc_parse(text: *const u8, text_len: usize, reading: *mut u8, reading_len: usize, scratch: *mut u8, scratch_len: usize) -> u64;
 
+        pub fn abc_played(reading: *const u8, reading_len: usize, part: u32, list: *mut u8, list_len: usize) -> u64;
+
+        pub fn abc_is_whole(reading: *const u8, reading_len: usize) -> bool;
+
         #[cfg(abc_version)]
         pub fn abc_version() -> u64;
     }
 }
 
-/// The crate's version, as in `0.2.0`.
+/// The crate's version, as in `0.3.0`.
 pub const VERSION: &str = env!("CARGO_PKG_VERSION");
 
 /// The commit that this crate and its library were built from, for a quote to bear: `-dirty` behind it where sources differed from that commit, `-stale`
@@ -86,13 +100,62 @@ pub const fn scratch_bytes(n: usize) -> usize {
 pub fn parse_abc(text: impl AsRef<[u8]>, reading: &mut [u8], scratch: &mut [u8]) -> Result<usize, Refusal> {
     let text = text.as_ref();
     // The contract of abc_parse asks nothing of lengths and contents; slices of Rust are valid, and mutable ones overlap nothing.
-    let answer = unsafe {
-        ffi::abc_parse(text.as_ptr(), text.len(), reading.as_mut_ptr(), reading.len(), scratch.as_mut_ptr(), scratch.len())
-    };
+    unpacked(unsafe { ffi::abc_parse(text.as_ptr(), text.len(), reading.as_mut_ptr(), reading.len(), scratch.as_mut_ptr(), scratch.len()) })
+}
+
+/// An answer of the library: a length in bytes, or a refusal's number and line.
+fn unpacked(answer: u64) -> Result<usize, Refusal> {
     if answer >> 63 == 0 {
         return Ok(answer as usize);
     }
     Err(Refusal::of((answer >> 32) as u8, answer as u32))
+}
+
+/// Lists the measures of a part of a whole reading as they are played, into a lent store of any length, and answers as C's `abc_played` does: how long the list is, or why there is
+/// none. [`Part::played`] makes the store.
+///
+/// Parts are numbered from 1, and so are the measures in the list. Afterwards the store holds the count of numbers and the numbers, four bytes each with the lowest first, and then zeros, or,
+/// after a refusal, zeros. Refused are bytes that are no whole reading or have no such part ([`Refusal::NoSuchPart`]), and then a store shorter than [`list_bytes`] of
+/// the count ([`Refusal::ListShort`]).
+///
+/// ```
+/// use sindvaelo::{Refusal, list_bytes, played_measures};
+///
+/// let reading = sindvaelo::read("K:C\n|:A|[1B:|[2c|]")?.into_bytes();
+/// let mut list = [0; list_bytes(5)];
+/// assert_eq!(played_measures(&reading, 1, &mut list), Ok(list_bytes(4)));
+/// assert_eq!(list.map(u32::from), [4, 0, 0, 0, 1, 0, 0, 0, 2, 0, 0, 0, 1, 0, 0, 0, 3, 0, 0, 0, 0, 0, 0, 0]);
+/// assert_eq!(played_measures(&reading, 2, &mut list), Err(Refusal::NoSuchPart));
+/// assert_eq!(played_measures(&reading, 1, &mut list[..list_bytes(3)]), Err(Refusal::ListShort));
+/// # Ok::<(), Refusal>(())
+/// ```
+pub fn played_measures(reading: &[u8], part: u32, list: &mut [u8]) -> Result<usize, Refusal> {
+    // The contract of abc_played asks nothing of lengths and contents; slices of Rust are valid, and the mutable one overlaps nothing.
+    unpacked(unsafe { ffi::abc_played(reading.as_ptr(), reading.len(), part, list.as_mut_ptr(), list.len()) })
+}
+
+/// How long a list of `count` measures is in bytes.
+pub const fn list_bytes(count: usize) -> usize {
+    count.saturating_mul(4).saturating_add(4)
+}
+
+/// Whether bytes are a whole reading, by the proved test of the library: sections as long as their counts say and zeros behind them, counts that add up, codes in their ranges, lyrics on notes of their
+/// part, every ending that begins ended before the next. Lyric texts may be any bytes, and no text need have this reading.
+///
+/// Every reading that [`parse_abc`] leaves in a store is whole there.
+///
+/// ```
+/// use sindvaelo::{is_whole, parse_abc, scratch_bytes};
+///
+/// let (mut store, mut scratch) = ([0; 100], vec![0; scratch_bytes(5)]);
+/// let length = parse_abc("K:C\nA", &mut store, &mut scratch)?;
+/// assert!(is_whole(&store) && is_whole(&store[..length]));
+/// assert!(!is_whole(&store[..length - 1]));
+/// # Ok::<(), sindvaelo::Refusal>(())
+/// ```
+pub fn is_whole(reading: &[u8]) -> bool {
+    // As for abc_played.
+    unsafe { ffi::abc_is_whole(reading.as_ptr(), reading.len()) }
 }
 
 /// Reads a text into lent stores; the answer looks into the reading store.

@@ -1,4 +1,5 @@
 //! A reading, looked at where it stands: parts, their measures, notes, pitches and lyrics. Nothing is copied.
+use crate::{Refusal, is_whole, list_bytes, played_measures};
 use std::fmt;
 use std::iter::FusedIterator;
 
@@ -28,19 +29,21 @@ fn section(bytes: &[u8], width: usize) -> Option<(&[u8], &[u8])> {
 #[derive(Clone, Copy)]
 pub struct Reading<B> {
     bytes: B,
+    /// Where the reading ends; zeros may stand behind it.
+    length: usize,
 }
 
 impl<B: AsRef<[u8]>> Reading<B> {
     /// Bytes that the reader wrote.
     pub(crate) fn trusted(bytes: B) -> Self {
-        Self { bytes }
+        let length = bytes.as_ref().len();
+        Self { bytes, length }
     }
 
-    /// Bytes kept from an earlier call; none if they are no whole reading.
+    /// Bytes kept from an earlier call; none if they are no whole reading, or one that is not viewable.
     ///
-    /// It tests what this crate's views need: the counts and sections fill the bytes exactly, each part's notes are as many as its measures count and its pitches
-    /// as many as its notes count, each number is one that the format has a name for, lyrics come by note and each belongs to one of the part's notes, and
-    /// lyric texts are UTF-8 and as long as their records say. It does not test that some text has this reading.
+    /// *Whole* is the library's word ([`is_whole`], which is proved): counts, codes and endings are in order, and zeros may stand behind the reading. *Viewable* is what this crate's views ask besides:
+    /// lyrics come by note, and their texts are UTF-8, since [`Lyric::text`] is a `&str`. Every reading of a text is both; neither says that some text has this reading.
     ///
     /// ```
     /// use sindvaelo::Reading;
@@ -51,31 +54,29 @@ impl<B: AsRef<[u8]>> Reading<B> {
     /// ```
     pub fn from_bytes(bytes: B) -> Option<Self> {
         let all = bytes.as_ref();
-        let mut rest = all.get(4..)?;
-        for _ in 0..number(all, 0) {
-            let part = Part::first(rest)?;
-            if !part.is_whole() {
-                return None;
-            }
-            rest = &rest[part.length()..];
+        is_whole(all).then_some(())?;
+        let parts = Parts { left: number(all, 0), rest: &all[4..] };
+        let mut length = 4;
+        for part in parts {
+            part.is_viewable().then_some(())?;
+            length += part.bytes.len();
         }
-        rest.is_empty().then_some(())?;
-        Some(Self { bytes })
+        Some(Self { bytes, length })
     }
 
     /// The bytes of the contract's format. The same text gives the same bytes with the same version.
     pub fn as_bytes(&self) -> &[u8] {
-        self.bytes.as_ref()
+        &self.bytes.as_ref()[..self.length]
     }
 
-    /// The bytes, or the store's slice, without the view.
+    /// The bytes, or the store's slice, without the view; zeros that stood behind the reading are still there.
     pub fn into_bytes(self) -> B {
         self.bytes
     }
 
     /// A reading that looks into this one, to pass on without a copy.
     pub fn view(&self) -> Reading<&[u8]> {
-        Reading { bytes: self.bytes.as_ref() }
+        Reading { bytes: self.as_bytes(), length: self.length }
     }
 
     /// One part for each voice, in order.
@@ -136,7 +137,7 @@ impl<'a> Iterator for Parts<'a> {
     fn next(&mut self) -> Option<Part<'a>> {
         self.left = self.left.checked_sub(1)?;
         let part = Part::first(self.rest)?;
-        self.rest = &self.rest[part.length()..];
+        self.rest = &self.rest[part.bytes.len()..];
         Some(part)
     }
 
@@ -203,6 +204,8 @@ impl<'a> Run<'a> {
 /// A part: acorde's `Part` with its one staff. Parts are equal if all their records are.
 #[derive(Clone, Copy, PartialEq, Eq)]
 pub struct Part<'a> {
+    /// All five sections.
+    bytes: &'a [u8],
     measures: &'a [u8],
     run: Run<'a>,
 }
@@ -213,36 +216,46 @@ impl<'a> Part<'a> {
         let (notes, rest) = section(rest, NOTE)?;
         let (pitches, rest) = section(rest, PITCH)?;
         let (lyrics, rest) = section(rest, LYRIC)?;
-        let (text, _) = section(rest, 1)?;
-        Some(Self { measures, run: Run { first: 0, notes, pitches, lyrics, text } })
+        let (text, rest) = section(rest, 1)?;
+        Some(Self { bytes: &bytes[..bytes.len() - rest.len()], measures, run: Run { first: 0, notes, pitches, lyrics, text } })
     }
 
-    fn length(&self) -> usize {
-        let Run { notes, pitches, lyrics, text, .. } = self.run;
-        20 + self.measures.len() + notes.len() + pitches.len() + lyrics.len() + text.len()
-    }
-
-    /// Its counts agree with each other, its numbers are ones of the format and its texts are UTF-8.
-    fn is_whole(&self) -> bool {
-        let Run { notes, pitches, lyrics, text, .. } = self.run;
-        let all_notes = notes.len() / NOTE;
-        let measures = self.measures.chunks_exact(MEASURE);
-        let notes = notes.chunks_exact(NOTE);
-        let counted = measures.clone().map(|m| (0..4).map(|v| number(m, 4 * v)).sum::<usize>()).sum::<usize>();
-        let sounding = notes.clone().map(|n| number(n, 8)).sum::<usize>();
-        let measures_fine = measures.into_iter().all(|m| m[16] < 6 && m[17] < 6 && m[20] < 3 && m[22] < 4);
-        let notes_fine = notes.into_iter().all(|n| n[0] < 5 && n[1] < 11 && n[4] < 4 && n[7] < 4);
-        let pitches_fine = pitches.chunks_exact(PITCH).all(|p| p[0] < 7);
-        let (mut at, mut before) = (0usize, 0);
-        for l in lyrics.chunks_exact(LYRIC) {
-            let words = text.get(at..at + number(l, 7));
-            if l[5] > 3 || number(l, 0) < before || number(l, 0) >= all_notes || words.is_none_or(|t| str::from_utf8(t).is_err()) {
+    /// Its lyrics come by note and their texts are UTF-8. It is a part of a whole reading.
+    fn is_viewable(&self) -> bool {
+        let (mut note, mut rest) = (0, self.run.text);
+        for record in self.run.lyrics.chunks_exact(LYRIC) {
+            let (text, texts) = rest.split_at(number(record, 7));
+            if number(record, 0) < note || str::from_utf8(text).is_err() {
                 return false;
             }
-            at += number(l, 7);
-            before = number(l, 0);
+            (note, rest) = (number(record, 0), texts);
         }
-        counted == all_notes && sounding == pitches.len() / PITCH && at == text.len() && measures_fine && notes_fine && pitches_fine
+        true
+    }
+
+    /// The numbers of its measures, from 1, in the order in which a player walks them: repeats, and of the endings those of the pass.
+    ///
+    /// Refused with [`Refusal::ListShort`] if they are more than `most`, in time and memory (8 bytes a number) for `most` of them: a part of n measures may have a list of up to 16 × n × (n + 1) numbers.
+    ///
+    /// ```
+    /// let reading = sindvaelo::read("K:C\n|:A|[1B:|[2c|]")?;
+    /// let part = reading.parts().next().unwrap();
+    /// assert_eq!(part.played(1_000)?, [1, 2, 1, 3]);
+    /// assert_eq!(part.played(3), Err(sindvaelo::Refusal::ListShort));
+    /// # Ok::<(), sindvaelo::Refusal>(())
+    /// ```
+    pub fn played(&self, most: usize) -> Result<Vec<u32>, Refusal> {
+        // A reading of this part alone: with the others the call would test them too, once for each part that is asked for.
+        let reading = [&1u32.to_le_bytes(), self.bytes].concat();
+        let mut room = most.min(2 * self.measures().len());
+        loop {
+            let mut list = vec![0; list_bytes(room)];
+            match played_measures(&reading, 1, &mut list) {
+                Ok(length) => return Ok(list[4..length].chunks_exact(4).map(|n| number(n, 0) as u32).collect()),
+                Err(Refusal::ListShort) if room < most => room = most.min(2 * room),
+                Err(refusal) => return Err(refusal),
+            }
+        }
     }
 
     /// Its measures, in order.

@@ -1,7 +1,7 @@
-//! Why a text is not read.
+//! Why a text is not read, or a part not listed.
 use std::fmt;
 
-/// A refusal; `line` counts from 1. `Display` says what the sender of the tune, or for 15 and 16 the calling program, can do.
+/// A refusal; `line` counts from 1. `Display` says what the sender of the tune, or for 15, 16, 19 and 20 the calling program, can do.
 #[derive(Debug, Clone, Copy, PartialEq, Eq, Hash)]
 #[non_exhaustive]
 pub enum Refusal {
@@ -80,6 +80,10 @@ pub enum Refusal {
         /// The line, from 1.
         line: u32,
     },
+    /// 19: no whole reading ([`is_whole`](crate::is_whole)), or no such part: they are numbered from 1.
+    NoSuchPart,
+    /// 20: the list's store is shorter than [`list_bytes`](crate::list_bytes) of its numbers, or the list has over 4,294,967,295 of them; of [`Part::played`](crate::Part::played): it has more than were allowed.
+    ListShort,
     /// No number of the contract: the text is longer than the limit of a [`Reader`](crate::Reader).
     OverLimit {
         /// The reader's limit.
@@ -115,11 +119,13 @@ impl Refusal {
             16 => Self::ReadingShort,
             17 => Self::PassRange { line },
             18 => Self::PassOrder { line },
+            19 => Self::NoSuchPart,
+            20 => Self::ListShort,
             _ => Self::Other { number, line },
         }
     }
 
-    /// Its number in the contract, 1 to 18; 0 for a reader's own limit.
+    /// Its number in the contract, 1 to 20; 0 for a reader's own limit.
     pub fn number(&self) -> u8 {
         match self {
             Self::NoMusic => 1,
@@ -140,6 +146,8 @@ impl Refusal {
             Self::ReadingShort => 16,
             Self::PassRange { .. } => 17,
             Self::PassOrder { .. } => 18,
+            Self::NoSuchPart => 19,
+            Self::ListShort => 20,
             Self::OverLimit { .. } => 0,
             Self::Other { number, .. } => *number,
         }
@@ -149,16 +157,16 @@ impl Refusal {
     ///
     /// ```
     /// assert!(sindvaelo::Refusal::NotUtf8.is_senders());
-    /// assert!(!sindvaelo::Refusal::ReadingShort.is_senders());
+    /// assert!(!sindvaelo::Refusal::ReadingShort.is_senders() && !sindvaelo::Refusal::ListShort.is_senders());
     /// ```
     pub fn is_senders(&self) -> bool {
-        !matches!(self.number(), 15 | 16)
+        !matches!(self.number(), 15 | 16 | 19 | 20)
     }
 
     /// The line of the text that brought it about; none for what no line does.
     pub fn line(&self) -> Option<u32> {
         match self {
-            Self::NoMusic | Self::TooLong | Self::NotUtf8 | Self::ScratchShort | Self::ReadingShort | Self::OverLimit { .. } => None,
+            Self::NoMusic | Self::TooLong | Self::NotUtf8 | Self::ScratchShort | Self::ReadingShort | Self::NoSuchPart | Self::ListShort | Self::OverLimit { .. } => None,
             Self::TooManyLines { line }
             | Self::LineTooLong { line }
             | Self::NotAscii { line }
@@ -205,6 +213,8 @@ impl fmt::Display for Refusal {
             Self::ReadingShort => ": the reading store is too short. Lend one of reading_bytes(text length) bytes",
             Self::PassRange { .. } => ": an ending with a pass that is 0 or above 32, as in [0 or [33. Number the passes from 1 to 32",
             Self::PassOrder { .. } => ": an ending whose passes do not rise. Write each above the one before it: [1-3 for [3-1, [1,2 for [2,1",
+            Self::NoSuchPart => ": no whole reading, or no part of that number. Take the bytes of a reading as it was read, and a part from 1 to its count of parts",
+            Self::ListShort => ": more measures are played than the list has room for. Lend a store twice as long, or allow more numbers",
             Self::OverLimit { .. } => unreachable!("said above"),
             Self::Other { .. } => ": this version of the crate has no name for it",
         })

@@ -88,6 +88,11 @@ fn errors() {
         (&["tally"], "sindvaelo: no FILE (- is standard input)"),
         (&["read", "a", "b"], "sindvaelo: one FILE at a time"),
         (&["show", "--json", "-"], "sindvaelo: show draws"),
+        (&["played"], "sindvaelo: no FILE (- is standard input)"),
+        (&["played", "a", "b"], "sindvaelo: one FILE at a time"),
+        (&["played", "--most"], "sindvaelo: --most takes a number"),
+        (&["played", "--most", "-1", "-"], "sindvaelo: --most takes a number"),
+        (&["tally", "--most", "3", "-"], "sindvaelo: --most is for played"),
         (&["tally", "--jsn", "-"], "sindvaelo: no option --jsn"),
         (&["sing"], "sindvaelo: no command sing"),
         (&[], "sindvaelo: no command"),
@@ -136,6 +141,37 @@ fn json() {
     assert!(out.contains("\"text\":\"\\\"\\u0001"), "{out}");
     assert!(out.contains("\"pitches\":[{\"step\":\"A\",\"octave\":4,\"alter\":0,\"microtone_cents\":0}]"), "{out}");
     assert_eq!(out.lines().count(), 1);
+}
+
+#[test]
+fn measures_as_they_are_played() {
+    let text = "V:1\nV:2\nV:3\nK:C\nV:1\n|:A|B|c|[1d:|[2e|]\nV:3\nA|[32B:|c:|\n";
+    let (out, told, status) = said(run(&["played", "-"], text));
+    let wanted = "part 1 plays 8 measures: 1-4 1-3 5\npart 2 plays 0 measures\n";
+    let third = format!("part 3 plays 66 measures:{} 1-3 3\n", " 1 3".repeat(31));
+    assert_eq!((out, told.as_str(), status), (format!("{wanted}{third}"), "", 0));
+    assert_eq!(said(run(&["played", "-"], "K:C\nA\n")), ("part 1 plays 1 measure: 1\n".to_owned(), String::new(), 0));
+    assert_eq!(said(run(&["played", "-"], " A:|B:|\n")).0, "refused 1 0\n");
+    // A limit that just does, and one that does not: the other parts are listed.
+    let (out, told, status) = said(run(&["played", "--most", "66", "-"], text));
+    assert_eq!((out, told.as_str(), status), (format!("{wanted}{third}"), "", 0));
+    let (out, told, status) = said(run(&["played", "--most", "65", "-"], text));
+    assert_eq!((out, status), (format!("{wanted}part 3 plays more than 65 measures\n"), 1));
+    let says = "refused (20): more than 65 measures are played. Allow more with --most N";
+    assert_eq!(told, format!("standard input: part 3: {says}\n"));
+    let reader = format!("\"version\":\"{}\",\"commit\":\"{}\"", sindvaelo::VERSION, sindvaelo::COMMIT);
+    let (out, _, status) = said(run(&["played", "--json", "--most", "65", "-"], text));
+    let parts = format!("{{\"plays\":8,\"played\":[1,2,3,4,1,2,3,5]}},{{\"plays\":0,\"played\":[]}},{{\"refused\":20,\"says\":\"{says}\"}}");
+    assert_eq!((out, status), (format!("{{\"file\":\"standard input\",{reader},\"parts\":[{parts}]}}\n"), 1));
+    // The limit where none is given: k times `A|[32B:|` and then `c:|` play 31k(k + 3) / 2 + 2k + 2 measures.
+    let long = |k: usize| format!("K:C\n{}c:|\n", "A|[32B:|".repeat(k));
+    let (out, _, status) = said(run(&["played", "-"], &long(252)));
+    assert!(status == 0 && out.starts_with("part 1 plays 996536 measures: 1 3 5 "), "{}", &out[..80]);
+    let (out, told, status) = said(run(&["played", "-"], &long(253)));
+    assert_eq!((out.as_str(), status), ("part 1 plays more than 1000000 measures\n", 1));
+    assert!(told.contains("refused (20)") && told.contains("--most N"), "{told}");
+    let (out, _, status) = said(run(&["played", "--most", "2000000", "-"], &long(253)));
+    assert!(status == 0 && out.starts_with("part 1 plays 1004412 measures: "), "{}", &out[..80]);
 }
 
 #[test]

@@ -238,19 +238,117 @@ fn kept_bytes() {
     assert_eq!(Reading::from_bytes(&bytes[..]).unwrap().parts().count(), 1);
     assert!(Reading::from_bytes(&bytes[..bytes.len() - 1]).is_none());
     assert!(Reading::from_bytes(&[][..]).is_none());
-    let mut passed = 0;
+    let (mut viewed, mut whole) = (0, 0);
     for (at, change) in (0..bytes.len()).flat_map(|at| [1, 2, 0x41, 0x80, 0xff].map(|change| (at, change))) {
         let mut other = bytes.clone();
         other[at] ^= change;
+        whole += u32::from(is_whole(&other));
         if let Some(reading) = Reading::from_bytes(&other[..]) {
-            // Whatever passes can be walked, from both ends.
-            passed += 1;
+            // Whatever passes can be walked, from both ends, and played.
+            viewed += 1;
+            assert!(is_whole(&other));
             let _ = format!("{reading:?}");
             for part in &reading {
                 let _ = format!("{:?}{:?}", part.measures().rev().collect::<Vec<_>>(), part.lyrics().rev().collect::<Vec<_>>());
                 part.measures().rev().for_each(|measure| both_ends(measure.notes()));
+                assert!(part.played(10_000).is_ok());
             }
         }
     }
-    assert!(passed > 100);
+    assert!(viewed > 100 && whole > viewed);
+}
+
+/// A whole reading may have zeros behind it, as in a store; the reading is the same.
+#[test]
+fn zeros_behind_a_reading() {
+    let bytes = tune().into_bytes();
+    let mut store = bytes.clone();
+    store.resize(bytes.len() + 30, 0);
+    let reading = Reading::from_bytes(&store[..]).unwrap();
+    assert_eq!(reading, tune());
+    assert_eq!((reading.as_bytes(), reading.view().into_bytes()), (&bytes[..], &bytes[..]));
+    assert_eq!(reading.into_bytes(), &store[..]);
+    *store.last_mut().unwrap() = 1;
+    assert!(Reading::from_bytes(&store[..]).is_none() && !is_whole(&store));
+    // What a refusal leaves is a reading without parts.
+    assert_eq!(Reading::from_bytes([0; 9]).unwrap().parts().len(), 0);
+}
+
+/// What the views ask beside a whole reading: lyrics by note, texts in UTF-8.
+#[test]
+fn whole_and_viewable() {
+    let bytes = read("K:C\nAB\nw: one two\n").unwrap().into_bytes();
+    let lyrics = bytes.len() - 6 - 4 - 2 * 11;
+    assert_eq!((&bytes[lyrics..lyrics + 5], &bytes[bytes.len() - 6..]), (&[0, 0, 0, 0, 1][..], &b"onetwo"[..]));
+    let with = |at: usize, value: u8| {
+        let mut other = bytes.clone();
+        other[at] = value;
+        (is_whole(&other), Reading::from_bytes(other).is_some())
+    };
+    assert_eq!(with(0, 1), (true, true));
+    // The second lyric on the first note, and the first one on the second.
+    assert_eq!(with(lyrics + 11, 0), (true, true));
+    assert_eq!(with(lyrics, 1), (true, true));
+    let mut turned = bytes.clone();
+    (turned[lyrics], turned[lyrics + 11]) = (1, 0);
+    assert!(is_whole(&turned) && Reading::from_bytes(turned).is_none());
+    assert_eq!(with(bytes.len() - 1, 0xff), (true, false));
+    // No whole reading: a verse 0, dots beyond 3, an extend of 2, a note that is not there.
+    let note = 8 + 28 + 4;
+    for (at, value) in [(lyrics + 4, 0), (lyrics + 4, 33), (lyrics + 6, 2), (lyrics, 2), (note + 2, 4), (note + 3, 64)] {
+        assert_eq!(with(at, value), (false, false), "{at} {value}");
+    }
+}
+
+#[test]
+fn played() {
+    let reading = read("V:1\nV:2\nV:3\nK:C\nV:1\n|:A|[1B:|[2c|]\nV:3\nA|[2B:|c:|\nw: one\n").unwrap();
+    let lists: Vec<_> = reading.parts().map(|part| part.played(10).unwrap()).collect();
+    assert_eq!(lists, [&[1, 2, 1, 3][..], &[], &[1, 3, 1, 2, 3, 3]]);
+    // The call on the whole reading says the same of each part, in a store of just the length and a longer one.
+    for (part, list) in (1..).zip(&lists) {
+        for extra in [0, 1, 40] {
+            let mut store = vec![7; list_bytes(list.len()) + extra];
+            assert_eq!(played_measures(reading.as_bytes(), part, &mut store), Ok(list_bytes(list.len())));
+            let numbers: Vec<u32> = store.chunks_exact(4).map(|n| u32::from_le_bytes(n.try_into().unwrap())).collect();
+            assert_eq!((numbers[0] as usize, &numbers[1..=list.len()]), (list.len(), &list[..]));
+            assert!(store[list_bytes(list.len())..].iter().all(|byte| *byte == 0));
+        }
+        let mut store = vec![7; list_bytes(list.len()) - 1];
+        assert_eq!(played_measures(reading.as_bytes(), part, &mut store), Err(Refusal::ListShort));
+        assert!(store.iter().all(|byte| *byte == 0));
+    }
+    for part in [0, 4, u32::MAX] {
+        let mut store = [7; 100];
+        assert_eq!(played_measures(reading.as_bytes(), part, &mut store), Err(Refusal::NoSuchPart));
+        assert_eq!(store, [0; 100]);
+    }
+    // 19 before 20.
+    assert_eq!(played_measures(reading.as_bytes(), 0, &mut []), Err(Refusal::NoSuchPart));
+    assert_eq!(played_measures(&reading.as_bytes()[1..], 1, &mut [0; 100]), Err(Refusal::NoSuchPart));
+    assert_eq!(played_measures(&[0; 4], 1, &mut [0; 100]), Err(Refusal::NoSuchPart));
+    for (refusal, number) in [(Refusal::NoSuchPart, 19), (Refusal::ListShort, 20)] {
+        assert_eq!((refusal.number(), refusal.line(), refusal.is_senders()), (number, None, false));
+    }
+    assert!(Refusal::NoSuchPart.to_string().starts_with("refused (19): no whole reading, or no part of that number. Take "));
+    assert!(Refusal::ListShort.to_string().starts_with("refused (20): more measures are played than the list has room for. Lend "));
+}
+
+/// The store is doubled up to the limit, and no further.
+#[test]
+fn a_list_with_a_limit() {
+    for k in [1, 5, 20] {
+        let count = 31 * k * (k + 3) / 2 + 2 * k + 2;
+        let reading = read(format!("K:C\n{}c:|\n", "A|[32B:|".repeat(k))).unwrap();
+        let part = reading.parts().next().unwrap();
+        assert_eq!(part.measures().len(), 2 * k + 1);
+        for most in [count, count + 1, 2 * count, usize::MAX] {
+            assert_eq!(part.played(most).map(|list| list.len()), Ok(count));
+        }
+        for most in [0, 1, 2 * k, 4 * k + 2, count / 2, count - 1] {
+            assert_eq!(part.played(most), Err(Refusal::ListShort), "{k} {most}");
+        }
+    }
+    // An empty list asks for no number.
+    assert_eq!(read("K:C\n[2A|B").unwrap().parts().next().unwrap().played(0), Ok(vec![]));
 }

@@ -44,6 +44,15 @@ pub fn tally(name: &str, reading: &Reading<&[u8]>) -> String {
     format!("{{\"file\":{},{},\"parts\":{}}}\n", string(name), reader(), list(parts))
 }
 
+/// Each part's measures as they are played, or why they are not listed.
+pub fn played(name: &str, parts: &[Result<Vec<u32>, Refusal>], says: impl Fn(&Refusal) -> String) -> String {
+    let parts = parts.iter().map(|part| match part {
+        Ok(played) => format!("{{\"plays\":{},\"played\":{}}}", played.len(), list(played.iter().map(u32::to_string))),
+        Err(refusal) => format!("{{\"refused\":{},\"says\":{}}}", refusal.number(), string(&says(refusal))),
+    });
+    format!("{{\"file\":{},{},\"parts\":{}}}\n", string(name), reader(), list(parts))
+}
+
 pub fn read(name: &str, reading: &Reading<&[u8]>) -> String {
     let parts = reading.parts().map(|part| {
         let measures = part.measures().map(|m| {

@@ -1,4 +1,4 @@
-//! `sindvaelo`: the tally, the reading and a picture of tunes in ABC notation, of any length, by the proved library.
+//! `sindvaelo`: the tally, the measures as they are played, the reading and a picture of tunes in ABC notation, of any length, by the proved library.
 mod files;
 mod json;
 mod show;
@@ -6,7 +6,7 @@ mod table;
 mod words;
 
 use files::{in_order, shown, text_of};
-use sindvaelo::{Reader, Reading};
+use sindvaelo::{Reader, Reading, Refusal};
 use std::ffi::{OsStr, OsString};
 use std::io::Write;
 use std::process::ExitCode;
@@ -17,6 +17,10 @@ sindvaelo: what a tune in ABC notation is charged by, as the proved reader finds
   sindvaelo tally [--json] FILE...   the tally: for each part its measures, sounded notes, rests and syllables.
                                      One FILE prints the lines of the program tally; several print a line each,
                                      after the file's name, in the order given
+  sindvaelo played [--json] [--most N] FILE
+                                     for each part how many measures are played, repeats and endings followed, and
+                                     which, in order: part 1 plays 8 measures: 1-4 1-3 5
+                                     At most N of a part (1000000): more are refused with 20
   sindvaelo read [--json] FILE       the reading: parts, measures with barlines, endings and keys, notes with
                                      values, pitches and syllables
   sindvaelo show FILE >tune.svg      a picture of the reading, one SVG file for a browser
@@ -28,9 +32,12 @@ FILE - is standard input. --json prints one JSON object a line for each FILE.
 A text may have up to 67,108,864 bytes and is read with up to 55 bytes of memory for each of its own.
 Several files go to all processors.
 
-Exit status: 0; 1 where a text is refused (standard error shows the line and says what its sender can do);
+Exit status: 0; 1 where a text or a list is refused (standard error says what can be done, and shows the line);
 2 for an error, as a file that cannot be read.
 ";
+
+/// How many measures of a part `played` lists where nothing else is said: a list of 4 MB.
+const MOST_PLAYED: usize = 1_000_000;
 
 /// How a command ends.
 #[derive(Clone, Copy, PartialEq, Eq, PartialOrd, Ord)]
@@ -43,11 +50,16 @@ enum End {
 fn main() -> ExitCode {
     let words: Vec<_> = std::env::args_os().skip(1).collect();
     let mut names = Vec::new();
-    let (mut json, mut only_names) = (false, false);
-    for word in words.iter().skip(1) {
+    let (mut json, mut only_names, mut most) = (false, false, None);
+    let mut rest = words.iter().skip(1);
+    while let Some(word) = rest.next() {
         match word.to_str() {
             Some("--") if !only_names => only_names = true,
             Some("--json") if !only_names => json = true,
+            Some("--most") if !only_names => match rest.next().and_then(|n| n.to_str()?.parse().ok()) {
+                Some(n) => most = Some(n),
+                None => return wrong("--most takes a number"),
+            },
             Some("--help" | "-h") if !only_names => return print(HELP),
             Some(option) if !only_names && option.starts_with('-') && option != "-" => return wrong(&format!("no option {option}")),
             _ => names.push(word.clone()),
@@ -57,12 +69,14 @@ fn main() -> ExitCode {
     let end = match (command.as_deref(), names.len()) {
         (Some("--help" | "-h" | "help"), _) => return print(HELP),
         (Some("--version" | "-V" | "version"), _) => return print(&version()),
-        (Some("tally" | "read" | "show"), 0) => return wrong("no FILE (- is standard input)"),
+        (Some("tally" | "read" | "show"), _) if most.is_some() => return wrong("--most is for played"),
+        (Some("tally" | "played" | "read" | "show"), 0) => return wrong("no FILE (- is standard input)"),
         (Some("tally"), 1) if json => one(&names[0], Form::Json, |reading| json::tally(&shown(&names[0]), reading)),
         (Some("tally"), 1) => one(&names[0], Form::Words, tally),
         (Some("tally"), _) => many(&names, json),
-        (Some("show"), _) if json => return wrong("show draws; --json is for tally and read"),
-        (Some("read" | "show"), 2..) => return wrong("one FILE at a time; tally takes several"),
+        (Some("show"), _) if json => return wrong("show draws; --json is for tally, played and read"),
+        (Some("played" | "read" | "show"), 2..) => return wrong("one FILE at a time; tally takes several"),
+        (Some("played"), _) => one(&names[0], if json { Form::Json } else { Form::Words }, |reading| played(&shown(&names[0]), reading, json, most.unwrap_or(MOST_PLAYED))),
         (Some("read"), _) if json => one(&names[0], Form::Json, |reading| json::read(&shown(&names[0]), reading)),
         (Some("read"), _) => one(&names[0], Form::Words, table::read),
         (Some("show"), _) => one(&names[0], Form::Picture, show::picture),
@@ -123,7 +137,35 @@ struct Answer {
     end: End,
 }
 
-fn answer(reader: &mut Reader, name: &OsStr, form: Form, accepted: impl Fn(&Reading<&[u8]>) -> String) -> Answer {
+impl From<String> for Answer {
+    fn from(out: String) -> Self {
+        Self { out, told: String::new(), end: End::Fine }
+    }
+}
+
+/// Each part's measures as they are played, `most` of them at most.
+fn played(name: &str, reading: &Reading<&[u8]>, json: bool, most: usize) -> Answer {
+    let parts: Vec<_> = reading.parts().map(|part| part.played(most)).collect();
+    // Of a reading's own part nothing else is refused.
+    let says = |refusal: &Refusal| format!("refused ({}): more than {most} measures are played. Allow more with --most N", refusal.number());
+    let (mut out, mut told) = (String::new(), String::new());
+    for (part, list) in (1..).zip(&parts) {
+        match list {
+            Ok(list) => {
+                let (s, colon) = (if list.len() == 1 { "" } else { "s" }, if list.is_empty() { "" } else { ":" });
+                out += &format!("part {part} plays {} measure{s}{colon}{}\n", list.len(), words::runs(list));
+            }
+            Err(refusal) => {
+                out += &format!("part {part} plays more than {most} measures\n");
+                told += &format!("{name}: part {part}: {}\n", says(refusal));
+            }
+        }
+    }
+    let end = if told.is_empty() { End::Fine } else { End::Refused };
+    Answer { out: if json { json::played(name, &parts, says) } else { out }, told, end }
+}
+
+fn answer<A: Into<Answer>>(reader: &mut Reader, name: &OsStr, form: Form, accepted: impl Fn(&Reading<&[u8]>) -> A) -> Answer {
     let shown = shown(name);
     let text = match text_of(name) {
         Ok(text) => text,
@@ -133,7 +175,7 @@ fn answer(reader: &mut Reader, name: &OsStr, form: Form, accepted: impl Fn(&Read
         }
     };
     match reader.read(&text) {
-        Ok(reading) => Answer { out: accepted(&reading), told: String::new(), end: End::Fine },
+        Ok(reading) => accepted(&reading).into(),
         Err(refusal) => {
             let out = match form {
                 Form::Words => format!("refused {} {}\n", refusal.number(), refusal.line().unwrap_or(0)),
@@ -145,7 +187,7 @@ fn answer(reader: &mut Reader, name: &OsStr, form: Form, accepted: impl Fn(&Read
     }
 }
 
-fn one(name: &OsStr, form: Form, accepted: impl Fn(&Reading<&[u8]>) -> String) -> End {
+fn one<A: Into<Answer>>(name: &OsStr, form: Form, accepted: impl Fn(&Reading<&[u8]>) -> A) -> End {
     let Answer { out, told, end } = answer(&mut Reader::new(), name, form, accepted);
     let put = put(&out);
     eprint!("{told}");

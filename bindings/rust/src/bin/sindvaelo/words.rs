@@ -110,6 +110,19 @@ pub fn passes(volta: &VoltaBracket) -> String {
     out
 }
 
+/// Measures as they are played, each run of neighbours as one, as 1-4 1-3 5.
+pub fn runs(list: &[u32]) -> String {
+    let mut out = String::new();
+    let mut rest = list;
+    while let Some(&first) = rest.first() {
+        let run = rest.iter().zip(first..).take_while(|(a, b)| **a == *b).count();
+        let last = rest[run - 1];
+        let _ = if run == 1 { write!(out, " {first}") } else { write!(out, " {first}-{last}") };
+        rest = &rest[run..];
+    }
+    out
+}
+
 /// A text with control characters made visible, and at most `most` characters of it.
 fn visible(bytes: &[u8], most: usize) -> String {
     let text = String::from_utf8_lossy(bytes);
