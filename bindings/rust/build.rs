@@ -31,8 +31,8 @@ fn main() {
             if has("abc_version") {
                 println!("cargo:rustc-cfg=abc_version");
             }
-            if !has("abc_played") {
-                println!("cargo:warning={} is from before version 0.3.0 and has no abc_played, which linking will miss: {MISSING}", library.display());
+            if let Some((call, version)) = [("abc_played", "0.3.0"), ("abc_parse_2_1", "0.4.0")].into_iter().find(|(call, _)| !has(call)) {
+                println!("cargo:warning={} is from before version {version} and has no {call}, which linking will miss: {MISSING}", library.display());
             }
             if let Some(newer) = root.as_deref().and_then(|root| newer_source(root, &library)) {
                 stale = true;

@@ -62,7 +62,7 @@ class Decisions(unittest.TestCase):
         found = answers.decisions(self.document)
         self.assertGreater(len(found), 100)
         for _, text, words in found:
-            self.assertRegex(words, r'\||^Err |^HANG|^a reading of|^not UTF-8', text)
+            self.assertRegex(words, r'\||^Err |^HANG|^a reading of|^not UTF-8' + (r'|^refused \d+ \d+$' if text.startswith(answers.SECOND) else ''), text)
         indented = [line for line in self.document.split('\n') if line.startswith('    ')]
         self.assertEqual(len(indented), len(found))
 

@@ -12,6 +12,7 @@ FILES = {
     'answer': 'crates/reader/specs/Answer.antt',
     'scan': 'crates/reader/specs/Scan.antt',
     'lines': 'crates/reader/specs/Lines.antt',
+    'fields': 'crates/reader/specs/Fields.antt',
     'inline': 'crates/reader/specs/Inline.antt',
     'passes': 'crates/reader/specs/PassLists.antt',
     'tokens': 'crates/reader/specs/Tokens.antt',
@@ -119,7 +120,7 @@ def specified(t):
     first, last = re.findall(r'\nbeamable k value = [^\n]*leb (\d+) value && leb value (\d+)', t['notes'])[0]
     facts['beamable'] = {int(first): 'eighth', int(last): 'hundredtwentyeighth'}
     told = set()
-    for name in ('answer', 'scan', 'lines', 'inline', 'passes', 'tokens', 'sounds'):
+    for name in ('answer', 'scan', 'lines', 'fields', 'inline', 'passes', 'tokens', 'sounds'):
         told |= {int(n) for n in re.findall(r'\b(?:refusedWith|refused|refuses|refuse|faulty|some) (\d+)\b', t[name])}
     # Those of the played list: as the definition has them, or the code's call that clears the list.
     told |= {int(n) for n in re.findall(r'\b(?:refused |refuse\(list, )(\d+)\b', t['played'])}
@@ -284,22 +285,23 @@ def differences(t):
 SPOILED = [
     ('records', 'noteWidth = 12', 'noteWidth = 13'), ('records', 'm .left) ∷ barlineCode (m .right)', 'm .right) ∷ barlineCode (m .left)'),
     ('records', 'bit (f .slurStart) 4', 'bit (f .slurStart) 64'), ('codes', 'kindCode barRest = 3', 'kindCode barRest = 5'), ('answer', '32 * (n + 256)', '32 * (n + 128)'),
-    ('answer', 'mostBytes = 67108864', 'mostBytes = 67108865'), ('scan', 'mostVoices = 32', 'mostVoices = 16'), ('answer', 'refusedWith 16 0', 'refusedWith 21 0'),
+    ('answer', 'mostBytes = 67108864', 'mostBytes = 67108865'), ('scan', 'mostVoices = 32', 'mostVoices = 16'), ('answer', 'refusedWith 16 0', 'refusedWith 22 0'),
     ('passes', 'leb n 32', 'leb n 33'), ('passes', 'tested none = faulty 14', 'tested none = faulty 18'),
     ('passes', '| false ↦ faulty 17', '| false ↦ faulty 18'), ('bound', '→ 23 * length text ≤ rl', '→ 24 * length text ≤ rl'), ('packed', 'numberUnit = 4294967296', 'numberUnit = 65536'),
-    ('header', 'ABC_PITCH_BYTES 5', 'ABC_PITCH_BYTES 6'), ('header', '#define ABC_MIDDLE 10', '#define ABC_MIDDLE 21'),
+    ('header', 'ABC_PITCH_BYTES 5', 'ABC_PITCH_BYTES 6'), ('header', '#define ABC_MIDDLE 10', '#define ABC_MIDDLE 22'),
     ('header', 'ABC_BAR_DOUBLE, ABC_BAR_FINAL', 'ABC_BAR_FINAL, ABC_BAR_DOUBLE'), ('header', 'ABC_GRACE = 16', 'ABC_GRACE = 64'), ('header', '10,000th', '1,000th'),
-    ('header', 'ABC_VERSION_MINOR 3', 'ABC_VERSION_MINOR 4'), ('header', 'ABC_PASS_RANGE 17', 'ABC_PASS_RANGE 14'), ('rust', '67_108_864', '67_108_863'), ('rust', 'saturating_mul(23)', 'saturating_mul(22)'),
+    ('header', 'ABC_VERSION_MINOR 4', 'ABC_VERSION_MINOR 5'), ('header', 'ABC_PASS_RANGE 17', 'ABC_PASS_RANGE 14'), ('rust', '67_108_864', '67_108_863'), ('rust', 'saturating_mul(23)', 'saturating_mul(22)'),
     ('rust', 'answer >> 32', 'answer >> 33'), ('views', 'const LYRIC: usize = 11', 'const LYRIC: usize = 12'), ('views', 'self.byte(3) & 8', 'self.byte(3) & 4'),
     ('views', 'verse: record[4]', 'verse: record[5]'), ('views', '2 Minor "', '3 Minor "'), ('views', 'Barline::of(self.record[17])', 'Barline::of(self.record[16])'),
     ('refusals', '            9 => Self::TooManyVoices { line }', '            9 => Self::Middle { line }'), ('refusals', '17 => Self::PassRange', '17 => Self::PassOrder'),
     ('refusals', 'Self::PassOrder { .. } => 18', 'Self::PassOrder { .. } => 17'), ('refusals', '1,048,576', '1,048,575'),
-    ('cargo', 'version = "0.3.0"', 'version = "0.3.1"'), ('packed', '\nversion = ', '\nversion = 9'), ('c', 'ABC_NOTE_BYTES', '12'),
+    ('cargo', 'version = "0.4.0"', 'version = "0.4.1"'), ('packed', '\nversion = ', '\nversion = 9'), ('c', 'ABC_NOTE_BYTES', '12'),
     ('c played', 'ABC_LIST_BYTES', 'list_bytes'), ('c played', 'ABC_LIST_SHORT', '20'), ('header', 'ABC_LIST_SHORT 20', 'ABC_LIST_SHORT 19'), ('header', '(size_t)4 * (size_t)(count)', '(size_t)8 * (size_t)(count)'),
     ('header', 'size_t reading_len, uint32_t part, uint8_t *list', 'size_t reading_len, uint8_t *list'), ('header', 'bool abc_is_whole', 'int abc_is_whole'),
     ('rust', 'count.saturating_mul(4)', 'count.saturating_mul(8)'), ('rust', 'part: u32, list: *mut u8', 'part: u64, list: *mut u8'), ('rust', 'reading_len: usize) -> bool', 'reading_len: usize) -> u8'),
     ('refusals', '19 => Self::NoSuchPart', '19 => Self::ListShort'), ('library', 'fn abc_played(reading: &[u8], part: u32', 'fn abc_played(part: u32, reading: &[u8]'),
-    ('library', 'fn abc_is_whole', 'fn abc_whole'), ('played', '20', '21'),
+    ('library', 'fn abc_is_whole', 'fn abc_whole'), ('played', '20', '22'), ('header', 'ABC_KEY_BEYOND 21', 'ABC_KEY_BEYOND 22'), ('refusals', '21 => Self::KeyBeyond', '21 => Self::Middle'), ('fields', '(some 21)', '(some 22)'),
+    ('library', 'fn abc_parse_2_1', 'fn abc_parse_21'),
 ]
 
 
@@ -320,10 +322,10 @@ class Doors(unittest.TestCase):
                 self.assertTrue(found)
 
     def test_the_calls(self):
-        self.assertEqual(set(calls(self.texts['library'])), {'abc_parse', 'abc_played', 'abc_is_whole', 'abc_version'})
+        self.assertEqual(set(calls(self.texts['library'])), {'abc_parse', 'abc_parse_2_1', 'abc_played', 'abc_is_whole', 'abc_version'})
 
-    def test_twenty_refusals(self):
-        self.assertEqual(specified(self.texts)['refused numbers'], set(range(1, 21)))
+    def test_twenty_one_refusals(self):
+        self.assertEqual(specified(self.texts)['refused numbers'], set(range(1, 22)))
 
 
 if __name__ == '__main__':

@@ -21,6 +21,17 @@
 //! # Ok::<(), sindvaelo::Refusal>(())
 //! ```
 //!
+//! A text is read in one of two [editions](Edition): the first is acorde's reading; the second is ABC 2.1's in keys, tuplets and lyrics.
+//!
+//! ```
+//! use sindvaelo::{Edition, read, read_edition};
+//!
+//! let fifths = |reading: &sindvaelo::Reading<Vec<u8>>| reading.parts().next()?.measures().next()?.key_sig().map(|key| key.fifths);
+//! assert_eq!(fifths(&read("K:Ador\nF")?), Some(0));
+//! assert_eq!(fifths(&read_edition("K:Ador\nF", Edition::Abc21)?), Some(1));
+//! # Ok::<(), sindvaelo::Refusal>(())
+//! ```
+//!
 //! Names, fields and their order stand beside acorde's: docs/SWITCHING.md.
 //!
 //! # Memory
@@ -43,6 +54,8 @@ mod ffi {
         /// include/abc.h. A slice passes as a pointer and a length.
         pub fn abc_parse(text: *const u8, text_len: usize, reading: *mut u8, reading_len: usize, scratch: *mut u8, scratch_len: usize) -> u64;
 
+        pub fn abc_parse_2_1(text: *const u8, text_len: usize, reading: *mut u8, reading_len: usize, scratch: *mut u8, scratch_len: usize) -> u64;
+
         pub fn abc_played(reading: *const u8, reading_len: usize, part: u32, list: *mut u8, list_len: usize) -> u64;
 
         pub fn abc_is_whole(reading: *const u8, reading_len: usize) -> bool;
@@ -52,7 +65,18 @@ mod ffi {
     }
 }
 
-/// The crate's version, as in `0.3.0`.
+/// How a text is read. Every call that does not name an edition reads the first.
+#[derive(Debug, Clone, Copy, PartialEq, Eq, Hash, Default)]
+pub enum Edition {
+    /// As acorde reads it.
+    #[default]
+    First,
+    /// As the first, but by ABC 2.1 in this: the header's key holds for every voice; modes are read; tuplets of 5 to 9 have its defaults, and so has an empty part behind a `:`; grace notes take no
+    /// syllable; a `|` in a lyric line goes on to the next measure. A key of more than seven sharps or flats is refused (21).
+    Abc21,
+}
+
+/// The crate's version, as in `0.4.0`.
 pub const VERSION: &str = env!("CARGO_PKG_VERSION");
 
 /// The commit that this crate and its library were built from, for a quote to bear: `-dirty` behind it where sources differed from that commit, `-stale`
@@ -98,9 +122,18 @@ pub const fn scratch_bytes(n: usize) -> usize {
 /// assert_eq!(parse_abc(text, &mut [], &mut scratch), Err(Refusal::ReadingShort));
 /// ```
 pub fn parse_abc(text: impl AsRef<[u8]>, reading: &mut [u8], scratch: &mut [u8]) -> Result<usize, Refusal> {
+    parse_abc_edition(text, reading, scratch, Edition::First)
+}
+
+/// [`parse_abc`] in either edition; the second is C's `abc_parse_2_1`.
+pub fn parse_abc_edition(text: impl AsRef<[u8]>, reading: &mut [u8], scratch: &mut [u8], edition: Edition) -> Result<usize, Refusal> {
     let text = text.as_ref();
-    // The contract of abc_parse asks nothing of lengths and contents; slices of Rust are valid, and mutable ones overlap nothing.
-    unpacked(unsafe { ffi::abc_parse(text.as_ptr(), text.len(), reading.as_mut_ptr(), reading.len(), scratch.as_mut_ptr(), scratch.len()) })
+    let parse = match edition {
+        Edition::First => ffi::abc_parse,
+        Edition::Abc21 => ffi::abc_parse_2_1,
+    };
+    // The contract of both asks nothing of lengths and contents; slices of Rust are valid, and mutable ones overlap nothing.
+    unpacked(unsafe { parse(text.as_ptr(), text.len(), reading.as_mut_ptr(), reading.len(), scratch.as_mut_ptr(), scratch.len()) })
 }
 
 /// An answer of the library: a length in bytes, or a refusal's number and line.
@@ -170,7 +203,12 @@ pub fn is_whole(reading: &[u8]) -> bool {
 /// assert_eq!(parts.map(|part| part.notes().len()).sum::<usize>(), 3);
 /// ```
 pub fn read_into<'a>(text: impl AsRef<[u8]>, reading: &'a mut [u8], scratch: &mut [u8]) -> Result<Reading<&'a [u8]>, Refusal> {
-    let length = parse_abc(text, reading, scratch)?;
+    read_into_edition(text, reading, scratch, Edition::First)
+}
+
+/// [`read_into`] in either edition.
+pub fn read_into_edition<'a>(text: impl AsRef<[u8]>, reading: &'a mut [u8], scratch: &mut [u8], edition: Edition) -> Result<Reading<&'a [u8]>, Refusal> {
+    let length = parse_abc_edition(text, reading, scratch, edition)?;
     Ok(Reading::trusted(&reading[..length]))
 }
 
@@ -182,5 +220,17 @@ pub fn read_into<'a>(text: impl AsRef<[u8]>, reading: &'a mut [u8], scratch: &mu
 /// assert_eq!(refusal.to_string(), "refused (7) at line 3: an X: line after the first K: line. Send one tune in a text");
 /// ```
 pub fn read(text: impl AsRef<[u8]>) -> Result<Reading<Vec<u8>>, Refusal> {
-    Reader::new().read_owned(text.as_ref())
+    read_edition(text, Edition::First)
+}
+
+/// [`read`] in either edition.
+///
+/// ```
+/// use sindvaelo::{Edition, Refusal, read_edition};
+///
+/// assert_eq!(read_edition("K:C\nA[K:G#]", Edition::Abc21), Err(Refusal::KeyBeyond { line: 2 }));
+/// assert!(read_edition("K:C\nA[K:G#]", Edition::First).is_ok());
+/// ```
+pub fn read_edition(text: impl AsRef<[u8]>, edition: Edition) -> Result<Reading<Vec<u8>>, Refusal> {
+    Reader::with_edition(edition).read_owned(text.as_ref())
 }

@@ -1,5 +1,5 @@
 //! Text after text with the same stores.
-use crate::{MOST_BYTES, Reading, Refusal, parse_abc, reading_bytes, scratch_bytes};
+use crate::{Edition, MOST_BYTES, Reading, Refusal, parse_abc_edition, reading_bytes, scratch_bytes};
 
 /// Reads text after text with the same two stores, which grow with need. Nothing of a text shows in the reading of another.
 ///
@@ -18,6 +18,7 @@ pub struct Reader {
     reading: Vec<u8>,
     scratch: Vec<u8>,
     limit: usize,
+    edition: Edition,
 }
 
 impl Default for Reader {
@@ -41,14 +42,33 @@ fn grow(store: &mut Vec<u8>, n: usize) {
 }
 
 impl Reader {
-    /// A reader without stores yet, for texts of any length that the contract allows.
+    /// A reader without stores yet, for texts of any length that the contract allows, in the first edition.
     pub fn new() -> Self {
         Self::default()
     }
 
     /// A reader that refuses texts of more than `limit` bytes.
     pub fn with_limit(limit: usize) -> Self {
-        Self { reading: Vec::new(), scratch: Vec::new(), limit }
+        Self { reading: Vec::new(), scratch: Vec::new(), limit, edition: Edition::First }
+    }
+
+    /// A reader of an edition.
+    ///
+    /// ```
+    /// use sindvaelo::{Edition, Reader};
+    ///
+    /// let mut reader = Reader::with_edition(Edition::Abc21);
+    /// reader.set_limit(100_000);
+    /// assert_eq!(reader.read("K:C\n(5A")?.parts().next().unwrap().notes().next().unwrap().tuplet().unwrap().normal_notes, 2);
+    /// # Ok::<(), sindvaelo::Refusal>(())
+    /// ```
+    pub fn with_edition(edition: Edition) -> Self {
+        Self { edition, ..Self::default() }
+    }
+
+    /// The edition that this reader reads.
+    pub fn edition(&self) -> Edition {
+        self.edition
     }
 
     /// The most bytes of a text that this reader takes.
@@ -87,16 +107,16 @@ impl Reader {
     }
 
     fn parse(&mut self, text: &[u8]) -> Result<usize, Refusal> {
-        let n = text.len();
+        let (n, edition) = (text.len(), self.edition);
         if n > MOST_BYTES {
-            return parse_abc(text, &mut [], &mut []);
+            return parse_abc_edition(text, &mut [], &mut [], edition);
         }
         if n > self.limit {
             return Err(Refusal::OverLimit { limit: self.limit });
         }
         if self.scratch.len() < scratch_bytes(n) || self.reading.len() < first_bytes(n) {
             // Refusals 2, 3 and a blank text's 1 come before 15: they need no store.
-            match parse_abc(text, &mut [], &mut []) {
+            match parse_abc_edition(text, &mut [], &mut [], edition) {
                 Err(Refusal::ScratchShort) => {}
                 other => return other,
             }
@@ -105,10 +125,10 @@ impl Reader {
         grow(&mut self.reading, first_bytes(n));
         // Only as much of them as this text can need: a call clears all that it is lent.
         let lent = self.reading.len().min(reading_bytes(n));
-        match parse_abc(text, &mut self.reading[..lent], &mut self.scratch[..scratch_bytes(n)]) {
+        match parse_abc_edition(text, &mut self.reading[..lent], &mut self.scratch[..scratch_bytes(n)], edition) {
             Err(Refusal::ReadingShort) => {
                 grow(&mut self.reading, reading_bytes(n));
-                parse_abc(text, &mut self.reading[..reading_bytes(n)], &mut self.scratch[..scratch_bytes(n)])
+                parse_abc_edition(text, &mut self.reading[..reading_bytes(n)], &mut self.scratch[..scratch_bytes(n)], edition)
             }
             other => other,
         }

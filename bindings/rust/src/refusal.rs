@@ -84,6 +84,11 @@ pub enum Refusal {
     NoSuchPart,
     /// 20: the list's store is shorter than [`list_bytes`](crate::list_bytes) of its numbers, or the list has over 4,294,967,295 of them; of [`Part::played`](crate::Part::played): it has more than were allowed.
     ListShort,
+    /// 21: a key of more than seven sharps or flats, as `K:G#`, in the second edition ([`Edition::Abc21`](crate::Edition::Abc21)).
+    KeyBeyond {
+        /// The line, from 1.
+        line: u32,
+    },
     /// No number of the contract: the text is longer than the limit of a [`Reader`](crate::Reader).
     OverLimit {
         /// The reader's limit.
@@ -121,11 +126,12 @@ impl Refusal {
             18 => Self::PassOrder { line },
             19 => Self::NoSuchPart,
             20 => Self::ListShort,
+            21 => Self::KeyBeyond { line },
             _ => Self::Other { number, line },
         }
     }
 
-    /// Its number in the contract, 1 to 20; 0 for a reader's own limit.
+    /// Its number in the contract, 1 to 21; 0 for a reader's own limit.
     pub fn number(&self) -> u8 {
         match self {
             Self::NoMusic => 1,
@@ -148,6 +154,7 @@ impl Refusal {
             Self::PassOrder { .. } => 18,
             Self::NoSuchPart => 19,
             Self::ListShort => 20,
+            Self::KeyBeyond { .. } => 21,
             Self::OverLimit { .. } => 0,
             Self::Other { number, .. } => *number,
         }
@@ -180,6 +187,7 @@ impl Refusal {
             | Self::Passes { line }
             | Self::PassRange { line }
             | Self::PassOrder { line }
+            | Self::KeyBeyond { line }
             | Self::Other { line, .. } => (*line > 0).then_some(*line),
         }
     }
@@ -215,6 +223,7 @@ impl fmt::Display for Refusal {
             Self::PassOrder { .. } => ": an ending whose passes do not rise. Write each above the one before it: [1-3 for [3-1, [1,2 for [2,1",
             Self::NoSuchPart => ": no whole reading, or no part of that number. Take the bytes of a reading as it was read, and a part from 1 to its count of parts",
             Self::ListShort => ": more measures are played than the list has room for. Lend a store twice as long, or allow more numbers",
+            Self::KeyBeyond { .. } => ": a key of more than seven sharps or flats, as in K:G# or K:Fb. Name the key that sounds the same: K:Ab for K:G#, K:E for K:Fb",
             Self::OverLimit { .. } => unreachable!("said above"),
             Self::Other { .. } => ": this version of the crate has no name for it",
         })

@@ -93,6 +93,10 @@ fn errors() {
         (&["played", "--most"], "sindvaelo: --most takes a number"),
         (&["played", "--most", "-1", "-"], "sindvaelo: --most takes a number"),
         (&["tally", "--most", "3", "-"], "sindvaelo: --most is for played"),
+        (&["tally", "--edition", "2.1", "-"], "sindvaelo: the tally is of the first edition; --edition 2.1 is for played, read and show"),
+        (&["tally", "--edition", "2.1", "a", "b"], "sindvaelo: the tally is of the first edition"),
+        (&["read", "--edition"], "sindvaelo: --edition takes first or 2.1"),
+        (&["read", "--edition", "2", "-"], "sindvaelo: --edition takes first or 2.1"),
         (&["tally", "--jsn", "-"], "sindvaelo: no option --jsn"),
         (&["sing"], "sindvaelo: no command sing"),
         (&[], "sindvaelo: no command"),
@@ -192,6 +196,40 @@ measure 2  | .. |]
 ";
     assert_eq!(out, format!("{wanted}read by sindvaelo {}, commit {}\n", sindvaelo::VERSION, sindvaelo::COMMIT));
     assert_eq!((told.as_str(), status), ("", 0));
+}
+
+#[test]
+fn editions() {
+    let text = "K:Ador\n|:{A}B|c:|\nw: a | b\n";
+    let (out, told, status) = said(run(&["read", "--edition", "2.1", "-"], text));
+    let wanted = "\
+part 1 of 1: measures 2 sounded 3 rests 0 syllables 2
+  note  value   pitches  marks        verse 1
+measure 1  |: .. |  meter 4/4  key G major, 1 sharp
+     1  eighth  A4       grace beam[
+     2  eighth  B4       ]beam        a
+measure 2  | .. :|
+     3  eighth  C5                    b
+";
+    let by = format!("read by sindvaelo {}, commit {}", sindvaelo::VERSION, sindvaelo::COMMIT);
+    assert_eq!((out, told.as_str(), status), (format!("{wanted}{by}, edition 2.1\n"), "", 0));
+    // The first edition is what is read where none is named, and nothing is said of it.
+    let first = said(run(&["read", "-"], text));
+    assert_eq!(said(run(&["read", "--edition", "first", "-"], text)), first);
+    assert!(first.0.ends_with(&format!("{by}\n")) && first.0.contains("key C major"), "{}", first.0);
+    assert_eq!(said(run(&["tally", "--edition", "first", "-"], text)), said(run(&["tally", "-"], text)));
+    let reader = format!("\"version\":\"{}\",\"commit\":\"{}\",\"edition\":\"2.1\"", sindvaelo::VERSION, sindvaelo::COMMIT);
+    let (out, _, status) = said(run(&["played", "--edition", "2.1", "--json", "-"], text));
+    assert_eq!((out, status), (format!("{{\"file\":\"standard input\",{reader},\"parts\":[{{\"plays\":4,\"played\":[1,2,1,2]}}]}}\n"), 0));
+    let (out, _, _) = said(run(&["read", "--json", "--edition", "2.1", "-"], text));
+    assert!(out.starts_with(&format!("{{\"file\":\"standard input\",{reader},\"parts\":[")), "{out}");
+    let (out, _, _) = said(run(&["show", "--edition", "2.1", "-"], text));
+    assert!(out.contains(&format!("{by}, edition 2.1<")), "{out}");
+    let (out, told, status) = said(run(&["read", "--edition", "2.1", "-"], "X:1\nK:G#\nA\n"));
+    assert_eq!((out.as_str(), status), ("refused 21 2\n", 1));
+    assert!(told.starts_with("standard input: refused (21) at line 2: a key of more than seven sharps or flats") && told.ends_with("      1 | X:1\n>     2 | K:G#\n      3 | A\n"), "{told}");
+    let (out, _, _) = said(run(&["played", "--edition", "2.1", "--json", "-"], "K:G#\nA\n"));
+    assert!(out.starts_with(&format!("{{\"file\":\"standard input\",{reader},\"refused\":21,\"line\":1,")), "{out}");
 }
 
 #[test]

@@ -223,6 +223,85 @@ fn three_refusals_of_a_pass_list() {
     }
 }
 
+/// The first reads as before; the second by ABC 2.1 where the request says so.
+#[test]
+fn editions() {
+    let part = |text: &str, edition: Edition| {
+        let reading = read_edition(text, edition).unwrap();
+        let part = reading.parts().next().unwrap();
+        let keys: Vec<i8> = part.measures().filter_map(|measure| measure.key_sig()).map(|key| key.fifths).collect();
+        let tuplets: Vec<_> = part.notes().filter_map(|note| note.tuplet()).map(|tuplet| (tuplet.actual_notes, tuplet.normal_notes)).collect();
+        let alters: Vec<i8> = part.pitches().map(|pitch| pitch.alter).collect();
+        let sung: Vec<String> = part.lyrics().map(|lyric| format!("{}@{}", lyric.text, lyric.note)).collect();
+        (keys, tuplets, alters, sung.join(" "))
+    };
+    let sung = |text: &str| text.to_owned();
+    let cases = [
+        ("K:Ador\nF", (vec![0], vec![], vec![0], sung("")), (vec![1], vec![], vec![1], sung(""))),
+        ("V:1\nV:2\nK:G\nV:1\nF", (vec![1], vec![], vec![0], sung("")), (vec![1], vec![], vec![1], sung(""))),
+        ("M:6/8\nK:C\n(5A", (vec![0], vec![(5, 4)], vec![0], sung("")), (vec![0], vec![(5, 3)], vec![0], sung(""))),
+        ("K:C\n(3:A", (vec![0], vec![], vec![0], sung("")), (vec![0], vec![(3, 2)], vec![0], sung(""))),
+        ("K:C\n{A}B|c\nw:a | b", (vec![0], vec![], vec![0; 3], sung("a@0 b@1")), (vec![0], vec![], vec![0; 3], sung("a@1 b@2"))),
+    ];
+    for (text, first, second) in cases {
+        assert_eq!((part(text, Edition::First), part(text, Edition::Abc21)), (first, second), "{text}");
+        assert_eq!(read(text), read_edition(text, Edition::First), "{text}");
+        assert_ne!(read(text), read_edition(text, Edition::Abc21), "{text}");
+    }
+    assert_eq!(tune(), read_edition(TUNE, Edition::Abc21).unwrap());
+    assert_eq!(Edition::default(), Edition::First);
+}
+
+/// Every way to name an edition gives the same bytes and the same stores.
+#[test]
+fn doors_of_an_edition() {
+    let text = "K:Ador\n{A}B|c\nw:a | b\n";
+    for edition in [Edition::First, Edition::Abc21] {
+        let bytes = read_edition(text, edition).unwrap().into_bytes();
+        let mut reader = Reader::with_edition(edition);
+        assert_eq!(reader.edition(), edition);
+        for _ in 0..2 {
+            assert_eq!(reader.read(text).unwrap().as_bytes(), bytes);
+            assert_eq!(reader.read("  "), Err(Refusal::NoMusic));
+        }
+        reader.set_limit(10);
+        assert_eq!(reader.read(text), Err(Refusal::OverLimit { limit: 10 }));
+        for (reading, scratch, wanted) in [
+            (bytes.len(), scratch_bytes(text.len()), Ok(bytes.len())),
+            (bytes.len() + 9, scratch_bytes(text.len()) + 1, Ok(bytes.len())),
+            (bytes.len() - 1, scratch_bytes(text.len()), Err(Refusal::ReadingShort)),
+            (bytes.len(), scratch_bytes(text.len()) - 1, Err(Refusal::ScratchShort)),
+        ] {
+            let (mut store, mut scratch) = (vec![7; reading], vec![9; scratch]);
+            assert_eq!(parse_abc_edition(text, &mut store, &mut scratch, edition), wanted);
+            let length = wanted.unwrap_or(0);
+            assert!(store[..length] == bytes[..length] && store[length..].iter().chain(&scratch).all(|byte| *byte == 0));
+            scratch.fill(5);
+            assert_eq!(read_into_edition(text, &mut store, &mut scratch, edition).map(|reading| reading.as_bytes().len()), wanted);
+        }
+    }
+    assert_eq!(Reader::new().edition(), Edition::First);
+    assert_eq!(Reader::with_limit(5).edition(), Edition::First);
+}
+
+#[test]
+fn a_key_beyond_seven() {
+    for (text, line) in [("K:G#\nA", 1), ("K:C\nA|\nK:Fb\nB", 3), ("K:C\nA[K:C#lyd]", 2)] {
+        assert_eq!(read_edition(text, Edition::Abc21), Err(Refusal::KeyBeyond { line }), "{text}");
+        assert!(read(text).is_ok(), "{text}");
+    }
+    let refusal = Refusal::KeyBeyond { line: 3 };
+    assert_eq!((refusal.number(), refusal.line(), refusal.is_senders()), (21, Some(3), true));
+    assert_eq!(
+        refusal.to_string(),
+        "refused (21) at line 3: a key of more than seven sharps or flats, as in K:G# or K:Fb. Name the key that sounds the same: K:Ab for K:G#, K:E for K:Fb"
+    );
+    // What it advises is read.
+    for key in ["Ab", "E", "Db lyd"] {
+        assert!(read_edition(format!("K:{key}\nA"), Edition::Abc21).is_ok(), "{key}");
+    }
+}
+
 #[test]
 fn a_reader_is_used_again() {
     let mut reader = Reader::new();

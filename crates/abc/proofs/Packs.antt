@@ -7,6 +7,7 @@ use native.Mathlib.Omega.{arith}
 use lib.Dec.{leb}
 use borrow.Author.Tests.{lt-ltb, le-ltb, leb-true}
 use lib.ListN.{length}
+use Rattle.editions.specs.declared.Edition.{Edition}
 use Rattle.reader.specs.Answer.{Outcome, Answer, read, refused, refusedWith, written, parseAbc, answerOf}
 use Rattle.laws.proofs.Bools.{by-test, and-right}
 use Rattle.bounds.proofs.Reading.{outcome-cases}
@@ -31,14 +32,14 @@ refused-back n l hn hl =
     rw (le-ltb (refusedBit + n * numberUnit + l) refusedBit (omega arith)) (λ i. refused (q i) (r i))
 
 -- a reading is at most 23 times as long as its text, which is no longer than 67,108,864 bytes
-pub short-answer : (text : List ℕ) (rl sl : ℕ) → Short (answerOf (parseAbc text rl sl .verdict))
+pub short-answer : (ed : Edition) (text : List ℕ) (rl sl : ℕ) → Short (answerOf (parseAbc ed text rl sl .verdict))
 unfolding refusedWith written answerOf
-short-answer text rl sl =
-    outcome-cases (λ (w : Outcome). Short (answerOf (w .verdict))) text rl sl (λ n l h. tt) (λ h. tt) (λ t a h f len short. omega (arith, len, short))
+short-answer ed text rl sl =
+    outcome-cases ed (λ (w : Outcome). Short (answerOf (w .verdict))) text rl sl (λ n l h. tt) (λ h. tt) (λ t a h f len short. omega (arith, len, short))
 
 -- the same of an answer that means it
-pub short-as : (text : List ℕ) (rl sl : ℕ) (a : Answer) → a ≡ answerOf (parseAbc text rl sl .verdict) → Short a
-short-as text rl sl a e = subst Short (sym e) (short-answer text rl sl)
+pub short-as : (ed : Edition) (text : List ℕ) (rl sl : ℕ) (a : Answer) → a ≡ answerOf (parseAbc ed text rl sl .verdict) → Short a
+short-as ed text rl sl a e = subst Short (sym e) (short-answer ed text rl sl)
 
 -- a list has at most 4,294,967,295 numbers
 pub short-list : (s : List ℕ) (q n : ℕ) → Short (playedMeasures s q n .answer)

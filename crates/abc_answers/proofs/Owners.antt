@@ -11,6 +11,7 @@ use lib.ListN.{length, length-append}
 use Rattle.laws.specs.Lists.{All, elem, indexOf}
 use Rattle.laws.proofs.Bools.{by-test}
 use Rattle.laws.proofs.Lists.{All-append, All-map, index-lt}
+use Rattle.editions.specs.declared.Edition.{Edition}
 use Rattle.reader.specs.Tokens.{Effect}
 use Rattle.reader.specs.Lines.{Kind, blank, refused, lyric, voice, key, meter, unit, tune, other, music, kindOf}
 use Rattle.reader.specs.Steps.{TextLine, refuse, on, run}
@@ -75,9 +76,9 @@ act-owned s (music hi es l) true p = same-none s _ refl refl p
 act-owned s (music true es l) false p = tt
 act-owned s (music false es l) false p = play-owned s es l (firstRefusal (s .notes) es) p
 
-step-owned : (s : ScanState) (r : TextLine) → s .part < voiceCount s → Holds (Owned s) (step s r)
+step-owned : (ed : Edition) (s : ScanState) (r : TextLine) → s .part < voiceCount s → Holds (Owned s) (step ed s r)
 unfolding step Holds
-step-owned s r p = by-test (ltb (s .lines) mostLines) (λ e. rw e (act-owned s (kindOf r) (s .env .inHeader) p)) (λ e. rw e tt)
+step-owned ed s r p = by-test (ltb (s .lines) mostLines) (λ e. rw e (act-owned s (kindOf ed r) (s .env .inHeader) p)) (λ e. rw e tt)
 
 join : (s t u : ScanState) (a b : Items) → Owned s t a → Owned t u b → Owned s u (a ++ b)
 join s t u a b f g =
@@ -87,13 +88,13 @@ join s t u a b f g =
       below = All-append _ a b (All-map _ _ (λ x h. omega (arith, h, g .grows)) a (f .below)) (g .below);
     }
 
-run-owned : (rs : List TextLine) (s : ScanState) → s .part < voiceCount s → Holds (Owned s) (run step s rs)
+run-owned : (ed : Edition) (rs : List TextLine) (s : ScanState) → s .part < voiceCount s → Holds (Owned s) (run (step ed) s rs)
 unfolding Holds
-run-owned [] s p = same-none s s refl refl p
-run-owned (r ∷ rs) s p =
-    holds-run (Owned s) (Owned s) (λ t a u b. Owned t u b) s r rs (step-owned s r p) (λ t a h. run-owned rs t (h .part-in)) (λ t a u b f g. join s t u a b f g)
+run-owned ed [] s p = same-none s s refl refl p
+run-owned ed (r ∷ rs) s p =
+    holds-run ed (Owned s) (Owned s) (λ t a u b. Owned t u b) s r rs (step-owned ed s r p) (λ t a h. run-owned ed rs t (h .part-in)) (λ t a u b f g. join s t u a b f g)
 
 -- the items of a text
-pub items-owned : (rs : List TextLine) (t : ScanState) (a : Items) → scan rs ≡ on t a → Below (voiceCount t) a
+pub items-owned : (ed : Edition) (rs : List TextLine) (t : ScanState) (a : Items) → scan ed rs ≡ on t a → Below (voiceCount t) a
 unfolding scan begin Holds
-items-owned rs t a e = subst (Holds (Owned begin)) e (run-owned rs begin (omega arith)) .below
+items-owned ed rs t a e = subst (Holds (Owned begin)) e (run-owned ed rs begin (omega arith)) .below

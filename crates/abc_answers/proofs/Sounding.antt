@@ -11,10 +11,11 @@ use Rattle.laws.specs.Lists.{foldl, any, sum}
 use Rattle.laws.proofs.Bools.{by-test}
 use Rattle.laws.proofs.Lists.{length-onFirst, sum-reverse}
 use Rattle.standard.specs.Keys.{Key}
+use Rattle.editions.specs.declared.Edition.{Edition}
 use Rattle.reader.specs.Tokens.{tokens}
 use Rattle.reader.specs.Scan.{Item, voiceDeclared, reset, keyInHeader, keyChange, meterChange, lyricLine, musicLine, Env}
 use Rattle.reader.specs.State.{PartState, Measure, isEmpty, onOpen, newPart}
-use Rattle.reader.specs.Part.{Part, hears, onLyric, onKey, onItem, onLine, lineBegins, dropped, inOrder, marked, finished, build}
+use Rattle.reader.specs.Part.{Part, hears, onLyric, onKey, onItem, onLine, lineBegins, dropped, inOrder, marked, finished, build, finishedMeasures}
 use Rattle.reader.specs.Voltas.{starts, endsAt, close, closed}
 use Rattle.reader.specs.Answer.{isMusic, built, parts, measureCount}
 use Rattle.reader.proofs.LineLaws.{Kept, kept-item, ready-begins, ready-after}
@@ -30,40 +31,40 @@ key-some header k [] s h = h
 key-some header k (m ∷ ms) s h = open-some _ _ h
 
 -- a music line opens one
-line-some : (header : Key) (s : PartState) (u : ℕ) (t : ℕ × ℕ) (l : List ℕ) → Kept s → 0 < length (onItem header s (musicLine u t l) .measures)
+line-some : (ed : Edition) (header : Key) (s : PartState) (u : ℕ) (t : ℕ × ℕ) (l : List ℕ) → Kept s → 0 < length (onItem ed header s (musicLine u t l) .measures)
 unfolding onItem onLine
-line-some header s u t l k = ready-after (lineBegins u t s) (tokens 0 l) (ready-begins u t s (k .voices-kept) (k .scopes-kept)) .is-open
+line-some ed header s u t l k = ready-after (lineBegins u t s) (tokens ed 0 l) (ready-begins u t s (k .voices-kept) (k .scopes-kept)) .is-open
 
-item-some : (header : Key) (s : PartState) (i : Item) → Kept s → 0 < length (s .measures) → 0 < length (onItem header s i .measures)
+item-some : (ed : Edition) (header : Key) (s : PartState) (i : Item) → Kept s → 0 < length (s .measures) → 0 < length (onItem ed header s i .measures)
 unfolding onItem onLyric
-item-some header s (voiceDeclared b) k h = h
-item-some header s reset k h = h
-item-some header s keyInHeader k h = h
-item-some header s (keyChange q) k h = key-some header q (s .measures) s h
-item-some header s (meterChange t) k h = open-some _ s h
-item-some header s (lyricLine b t) k h = h
-item-some header s (musicLine u t l) k h = line-some header s u t l k
+item-some ed header s (voiceDeclared b) k h = h
+item-some ed header s reset k h = h
+item-some ed header s keyInHeader k h = h
+item-some ed header s (keyChange q) k h = key-some header q (s .measures) s h
+item-some ed header s (meterChange t) k h = open-some _ s h
+item-some ed header s (lyricLine b t) k h = h
+item-some ed header s (musicLine u t l) k h = line-some ed header s u t l k
 
-items-some : (header : Key) (is : List Item) (s : PartState) → Kept s → 0 < length (s .measures) → 0 < length (foldl (onItem header) s is .measures)
-items-some header [] s k h = h
-items-some header (i ∷ is) s k h = items-some header is (onItem header s i) (kept-item header s i k) (item-some header s i k h)
+items-some : (ed : Edition) (header : Key) (is : List Item) (s : PartState) → Kept s → 0 < length (s .measures) → 0 < length (foldl (onItem ed header) s is .measures)
+items-some ed header [] s k h = h
+items-some ed header (i ∷ is) s k h = items-some ed header is (onItem ed header s i) (kept-item ed header s i k) (item-some ed header s i k h)
 
 -- the first music line
-music-some : (header : Key) (s : PartState) (i : Item) → Kept s → isMusic i ≡ true → 0 < length (onItem header s i .measures)
+music-some : (ed : Edition) (header : Key) (s : PartState) (i : Item) → Kept s → isMusic i ≡ true → 0 < length (onItem ed header s i .measures)
 unfolding isMusic
-music-some header s (voiceDeclared b) k e = absurd (false≢true e)
-music-some header s reset k e = absurd (false≢true e)
-music-some header s keyInHeader k e = absurd (false≢true e)
-music-some header s (keyChange q) k e = absurd (false≢true e)
-music-some header s (meterChange t) k e = absurd (false≢true e)
-music-some header s (lyricLine b t) k e = absurd (false≢true e)
-music-some header s (musicLine u t l) k e = line-some header s u t l k
+music-some ed header s (voiceDeclared b) k e = absurd (false≢true e)
+music-some ed header s reset k e = absurd (false≢true e)
+music-some ed header s keyInHeader k e = absurd (false≢true e)
+music-some ed header s (keyChange q) k e = absurd (false≢true e)
+music-some ed header s (meterChange t) k e = absurd (false≢true e)
+music-some ed header s (lyricLine b t) k e = absurd (false≢true e)
+music-some ed header s (musicLine u t l) k e = line-some ed header s u t l k
 
-played-some : (header : Key) (is : List Item) (s : PartState) → Kept s → any isMusic is ≡ true → 0 < length (foldl (onItem header) s is .measures)
-played-some header [] s k e = absurd (false≢true e)
-played-some header (i ∷ is) s k e =
-    by-test (isMusic i) (λ m. items-some header is (onItem header s i) (kept-item header s i k) (music-some header s i k m))
-    (λ m. played-some header is (onItem header s i) (kept-item header s i k) (rw m at e))
+played-some : (ed : Edition) (header : Key) (is : List Item) (s : PartState) → Kept s → any isMusic is ≡ true → 0 < length (foldl (onItem ed header) s is .measures)
+played-some ed header [] s k e = absurd (false≢true e)
+played-some ed header (i ∷ is) s k e =
+    by-test (isMusic i) (λ m. items-some ed header is (onItem ed header s i) (kept-item ed header s i k) (music-some ed header s i k m))
+    (λ m. played-some ed header is (onItem ed header s i) (kept-item ed header s i k) (rw m at e))
 
 -- THE END keeps one
 dropped-some : (ms : List Measure) → 0 < length ms → 0 < length (dropped ms)
@@ -97,9 +98,9 @@ count-sum (m ∷ ms) = omega (arith, count-sum ms)
 length-back : (ms : List Measure) → length (reverse ms) ≡ length ms
 length-back ms = sym (count-sum (reverse ms)) ∙ sum-reverse (λ m. 1) ms ∙ count-sum ms
 
-finished-some : (header : Key) (s : PartState) → 0 < length (s .measures) → 0 < length (finished header s .measures)
-unfolding finished closed
-finished-some header s h =
+finished-some : (ed : Edition) (header : Key) (s : PartState) → 0 < length (s .measures) → 0 < length (finished ed header s .measures)
+unfolding finished finishedMeasures closed
+finished-some ed header s h =
     let d = dropped (s .measures) in
     omega (
       arith,
@@ -111,10 +112,10 @@ finished-some header s h =
     )
 
 -- a part that is played
-pub build-some : (header : Key) (is : List Item) → any isMusic is ≡ true → 0 < length (build header is .measures)
+pub build-some : (ed : Edition) (header : Key) (is : List Item) → any isMusic is ≡ true → 0 < length (build ed header is .measures)
 unfolding build newPart
-build-some header is e = finished-some header (foldl (onItem header) newPart is) (played-some header is newPart (record { scopes-kept = refl; voices-kept = tt }) e)
+build-some ed header is e = finished-some ed header (foldl (onItem ed header) newPart is) (played-some ed header is newPart (record { scopes-kept = refl; voices-kept = tt }) e)
 
-pub built-some : (e : Env) (is : List Item) → any isMusic is ≡ true → 1 ≤ measureCount (built e is)
+pub built-some : (ed : Edition) (e : Env) (is : List Item) → any isMusic is ≡ true → 1 ≤ measureCount (built ed e is)
 unfolding built measureCount
-built-some e is m = rw m (build-some (e .headerKey) is m)
+built-some ed e is m = rw m (build-some ed (e .headerKey) is m)

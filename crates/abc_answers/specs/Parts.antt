@@ -5,6 +5,7 @@ use mathlib.Core.List.{List, [], _++_}
 use Rattle.laws.specs.Lists.{any}
 use Rattle.laws.specs.Bytes.{le32}
 use Rattle.standard.specs.Keys.{Key}
+use Rattle.editions.specs.declared.Edition.{Edition}
 use Rattle.reader.specs.Steps.{itemsOf}
 use Rattle.reader.specs.Scan.{Item, Items}
 use Rattle.reader.specs.Part.{build}
@@ -12,13 +13,13 @@ use Rattle.reader.specs.Records.{sections}
 use Rattle.reader.specs.Answer.{isMusic}
 
 -- the sections of the parts 0 up to n of the items a, with the header's key k
-unfoldable pub partsOf : Key → Items → ℕ → List ℕ
-partsOf k a zero = []
-partsOf k a (suc n) = partsOf k a n ++ sections (build k (itemsOf n a))
+unfoldable pub partsOf : Edition → Key → Items → ℕ → List ℕ
+partsOf ed k a zero = []
+partsOf ed k a (suc n) = partsOf ed k a n ++ sections (build ed k (itemsOf n a))
 
 -- behind their count
-unfoldable pub bytesOf : Key → Items → ℕ → List ℕ
-bytesOf k a n = le32 n ++ partsOf k a n
+unfoldable pub bytesOf : Edition → Key → Items → ℕ → List ℕ
+bytesOf ed k a n = le32 n ++ partsOf ed k a n
 
 -- some item is of a music line
 abbrev pub hasMusic : Items → Bool

@@ -1,1 +1,2 @@
+pub mod Singing
 pub mod Reading

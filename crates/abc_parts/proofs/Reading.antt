@@ -8,15 +8,17 @@ use lib.ListN.{length, replicate}
 use Rattle.laws.specs.Lists.{All}
 use Rattle.standard.specs.Keys.{Key}
 use Rattle.standard.specs.Pitches.{Pitch}
+use Rattle.editions.specs.declared.Edition.{Edition}
 use Rattle.reader.specs.State.{Note}
-use Rattle.reader.specs.Lyrics.{Syllable, sungBy}
+use Rattle.reader.specs.Lyrics.{Syllable, sungIn}
 use Rattle.reader.specs.Steps.{itemsOf}
 use Rattle.reader.specs.Records as Records
 use Rattle.reader.specs.Records.{pitchBytes, measureWidth}
 use Rattle.reader.specs.Part as Part
 use Rattle.part_layout.specs.Log.{Head, LogState}
-use Rattle.part_layout.specs.Ends.{dropped, close, marked, finished, build}
+use Rattle.part_layout.specs.Ends.{dropped, close, marked, takersIn, finishedHeads, finished, build}
 use Rattle.part_layout.specs.Sections as layout
+use Rattle.part_layout.proofs.Sounded.{items-sounded}
 use Rattle.part_layout.proofs.Counts.{items-fit, build-fits}
 use Rattle.part_layout.proofs.Same.{same-sections}
 use Rattle.part_rows.specs.Table.{Table, Only}
@@ -28,9 +30,10 @@ use Rattle.part_ends.proofs.Closing.{fits-small, length-end}
 use Rattle.scan_table.specs.Rows.{itemsIn, tableEnd}
 use Rattle.scan_table.proofs.Rows.{items-front}
 use Rattle.lyrics.specs.declared.Sheet.{Sheet}
-use Rattle.lyrics.specs.Sheet.{syllablesIn, lyricHeadWidth, lyricRowWidth}
-use Rattle.lyrics.specs.Items.{linesIn, AllSung}
-use Rattle.lyrics.proofs.Applying.{lines-front}
+use Rattle.lyrics.specs.Sheet.{syllablesIn, lyricRowWidth}
+use Rattle.lyrics.specs.Items.{linesIn}
+use Rattle.lyrics.proofs.Items.{lines-front}
+use Rattle.part_stops.proofs.Bars.{stops-ready}
 use Rattle.store_sections.specs.declared.Wrote.{Wrote}
 use Rattle.store_sections.specs.Writes.{WroteIs}
 use Rattle.write_notes.specs.declared.PartTables.{PartTables}
@@ -46,12 +49,12 @@ use Rattle.part_sizing.specs.Room.{musicAt, Sized}
 use Rattle.part_sizing.proofs.Fits.{sheet-fits}
 use Rattle.part_items.specs.Items.{after, Built}
 use Rattle.abc_parts.specs.declared.Ended.{Ended}
-use Rattle.abc_parts.specs.Parts.{laidOf, sheetAt, PartRead}
+use Rattle.abc_parts.specs.Parts.{laidOf, sheetAt, stopsAt, HoldsNotes, StopsReady, PartRead, PartSung}
 
 -- THE ITEMS ARE READ
-module _ (text s : List ℕ) (n p : ℕ) (header : Key) (t : Tables) (z : Sized text s n p t) (s₁ : List ℕ) (r : Registers) (b : Built text t header p n s s₁ r) where
+module _ (ed : Edition) (text s : List ℕ) (n p : ℕ) (header : Key) (t : Tables) (z : Sized text s n p t) (s₁ : List ℕ) (r : Registers) (b : Built ed text t header p n s s₁ r) where
   abbrev state : LogState
-  state = after header text s p n
+  state = after ed header text s p n
 
   pub heads-inside : t .heads + measureWidth * r .counts .heads ≤ length s₁
   heads-inside = omega (arith, b .room .for-heads, b .room .for-notes, b .room .for-pitches, b .room .for-scopes, b .room .ends)
@@ -60,7 +63,7 @@ module _ (text s : List ℕ) (n p : ℕ) (header : Key) (t : Tables) (z : Sized 
   log-small = omega (arith, b .represents .stored .notes-are, b .room .for-notes, b .room .for-pitches, b .room .for-scopes, b .room .small)
 
   heads-small : All Small (state .heads)
-  heads-small = fits-small (state .heads) (state .log) (items-fit header (itemsOf p (itemsIn text s n))) log-small
+  heads-small = fits-small (state .heads) (state .log) (items-fit ed header (itemsOf p (itemsIn text s n))) log-small
 
   -- and the part's end is done
   module _ (short : length text ≤ 67108864) (s₂ : List ℕ) (m : ℕ) (o : Only (t .heads) (t .heads + measureWidth * r .counts .heads) s₁ s₂)
@@ -86,8 +89,8 @@ module _ (text s : List ℕ) (n p : ℕ) (header : Key) (t : Tables) (z : Sized 
     pitches-count : length (pitchesIn (state .log)) ≡ r .counts .pitches
     pitches-count = ap length (sym (append-nil (pitchesIn (state .log)))) ∙ sym (b .represents .stored .pitches-are)
 
-    music-read : Represents s₂ tables-left (laidOf header text s n p .heads) (laidOf header text s n p .log)
-    unfolding build finished
+    music-read : Represents s₂ tables-left (laidOf ed header text s n p .heads) (laidOf ed header text s n p .log)
+    unfolding build finished finishedHeads
     music-read =
         record {
           measures-table = ended .1;
@@ -98,7 +101,7 @@ module _ (text s : List ℕ) (n p : ℕ) (header : Key) (t : Tables) (z : Sized 
           pitches-are = pitches-count;
           few-notes = omega (arith, b .represents .stored .notes-are, log-small);
           few-pitches = omega (arith, b .room .for-pitches, b .room .for-scopes, b .room .small);
-          fits = build-fits header (itemsOf p (itemsIn text s n));
+          fits = build-fits ed header (itemsOf p (itemsIn text s n));
         }
 
     before-heads : tableEnd n ≤ t .heads
@@ -118,12 +121,13 @@ module _ (text s : List ℕ) (n p : ℕ) (header : Key) (t : Tables) (z : Sized 
     sounded-most =
         omega (arith, b .represents .sounded-most, b .room .for-notes, ap (λ (x : Tables). x .notes) (z .is), ap (λ (x : Tables). x .pitches) (z .is))
 
-    pub part-read : PartRead text s n p header t s₂ left
+    pub part-read : PartRead ed text s n p header t s₂ left
     unfolding build finished
     part-read =
         record {
           music = music-read;
-          words = λ i. sungBy (sym lines-now i) (replicate (sym (b .represents .sounded-is) i) []);
+          words = λ i. sungIn ed (takersIn 0 (laidOf ed header text s n p .heads) (laidOf ed header text s n p .log)) (sym lines-now i) (replicate (sym (b .represents .sounded-is) i) []);
+          sung-notes = items-sounded ed header (itemsOf p (itemsIn text s n)) ∙ sym (b .represents .sounded-is);
           for-measures = omega (arith, behind, most);
           for-notes = omega (arith, b .room .for-notes);
           for-pitches = omega (arith, b .room .for-pitches);
@@ -133,10 +137,25 @@ module _ (text s : List ℕ) (n p : ℕ) (header : Key) (t : Tables) (z : Sized 
           same-length = length-now;
         }
 
+-- WHAT THE STOPS ASK FOR
+-- the measures and notes are there
+holds-part : {s : List ℕ} {d : PartTables} {ms : List Head} {log : List (ℕ × Note)} → Represents s d ms log → HoldsNotes s d ms log
+holds-part h =
+    record { measures-table = h .measures-table; measures-are = h .measures-are; notes-table = h .notes-table; few-notes = omega (arith, h .notes-are, h .few-notes); fits = h .fits }
+
+-- and there is room behind them
+pub stops-room : (ed : Edition) (text s : List ℕ) (n p : ℕ) (header : Key) (t : Tables) (s₂ : List ℕ) (d : Ended) → PartRead ed text s n p header t s₂ d → StopsReady s₂ (d .tables) (stopsAt t (d .sounded))
+stops-room ed text s n p header t s₂ d q =
+    let b = laidOf ed header text s n p in
+    stops-ready s₂ (d .tables .measures .at) (d .tables .measures .count) (d .tables .notes .at) (b .heads) (b .log) (holds-part (q .music)) (stopsAt t (d .sounded)) (q .sung-notes)
+    (omega (arith, q .for-measures, q .for-notes, q .for-pitches))
+    (omega (arith, q .music .notes-are, q .for-notes, q .for-pitches))
+    (omega (arith, q .sheet .apart, q .sheet .inside))
+
 -- ITS LYRICS ARE SUNG
-module _ (text s : List ℕ) (n p : ℕ) (header : Key) (t : Tables) (s₂ : List ℕ) (d : Ended) (q : PartRead text s n p header t s₂ d) (s₃ : List ℕ) (sheet : Sheet) (at : sheet ≡ sheetAt t (d .sounded) (sheet .count))
-    (u : AllSung text s₂ s₃ n p (sheetAt t (d .sounded) 0) (replicate (d .sounded) []) (sheet .count)) where
-  sung-only : Only (t .scopes) (t .scopes + lyricHeadWidth * d .sounded + lyricRowWidth * sheet .count) s₂ s₃
+module _ (ed : Edition) (text s : List ℕ) (n p : ℕ) (header : Key) (t : Tables) (s₂ : List ℕ) (d : Ended) (q : PartRead ed text s n p header t s₂ d) (s₃ : List ℕ) (sheet : Sheet) (at : sheet ≡ sheetAt t (d .sounded) (sheet .count))
+    (u : PartSung ed text s₂ s₃ n p t d (sheet .count)) where
+  sung-only : Only (t .scopes) (sheetAt t (d .sounded) (sheet .count) .log + lyricRowWidth * sheet .count) s₂ s₃
   sung-only = record { same-length = u .outside .same-length; front = u .outside .low; back = u .outside .high }
 
   pub sung-items : itemsIn text s₃ n ≡ itemsIn text s n
@@ -145,7 +164,7 @@ module _ (text s : List ℕ) (n p : ℕ) (header : Key) (t : Tables) (s₂ : Lis
   pub sung-length : length s₃ ≡ length s
   sung-length = u .outside .same-length ∙ q .same-length
 
-  music-sung : Represents s₃ (d .tables) (laidOf header text s n p .heads) (laidOf header text s n p .log)
+  music-sung : Represents s₃ (d .tables) (laidOf ed header text s n p .heads) (laidOf ed header text s n p .log)
   music-sung =
       let h = q .music in
       record {
@@ -187,9 +206,9 @@ module _ (text s : List ℕ) (n p : ℕ) (header : Key) (t : Tables) (s₂ : Lis
   -- and are the part's
   pub part-wrote : {to to′ : List ℕ} {r : Wrote} → ((ms : List Head) (log : List (ℕ × Note)) → Represents s₃ (d .tables) ms log
       → WroteIs to (layout.sections (record { heads = ms; log = log; words = syllablesIn text s₃ sheet })) to′ r)
-      → WroteIs to (Records.sections (Part.build header (itemsOf p (itemsIn text s n)))) to′ r
+      → WroteIs to (Records.sections (Part.build ed header (itemsOf p (itemsIn text s n)))) to′ r
   part-wrote w =
-      let b = laidOf header text s n p in
-      let words : syllablesIn text s₃ sheet ≡ b .words = ap (syllablesIn text s₃) at ∙ u .sung ∙ sym (q .words) in
+      let b = laidOf ed header text s n p in
+      let words : syllablesIn text s₃ sheet ≡ b .words = ap (syllablesIn text s₃) at ∙ u .sung (b .heads) (b .log) (holds-part (q .music)) ∙ sym (q .words) in
       wrote-as (w (b .heads) (b .log) music-sung)
-      (ap (λ (ws : List (List Syllable)). layout.sections (record { heads = b .heads; log = b .log; words = ws })) words ∙ same-sections header (itemsOf p (itemsIn text s n)))
+      (ap (λ (ws : List (List Syllable)). layout.sections (record { heads = b .heads; log = b .log; words = ws })) words ∙ same-sections ed header (itemsOf p (itemsIn text s n)))

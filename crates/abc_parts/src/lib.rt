@@ -1,18 +1,19 @@
 // A part from its items: its tables in scratch, its items in order, its end, its lyrics, and its five sections.
 ghost use mathlib.Core.Path.{_≡_};
-ghost use mathlib.Core.List.{[]};
 ghost use Prim.Native.Nat.{_≤_};
-ghost use lib.ListN.{length, replicate};
+ghost use lib.ListN.{length};
 ghost use Rattle.reader.specs.Part.{build};
 ghost use Rattle.reader.specs.Records as Records;
 ghost use Rattle.reader.specs.Steps.{itemsOf};
 ghost use Rattle.field_keys.specs.Passed.{keyAs};
 ghost use Rattle.scan_table.specs.Rows.{itemsIn};
-ghost use Rattle.lyrics.specs.Items.{Fits, AllSung};
+ghost use Rattle.lyrics.specs.Items.{Fits};
 ghost use Rattle.store_sections.specs.Writes.{WroteIs};
 ghost use Rattle.part_sizing.specs.Room.{PartRoom, Sized};
-ghost use Rattle.abc_parts.specs.Parts.{sheetAt, PartRead};
+ghost use Rattle.abc_parts.specs.Parts.{sheetAt, stopsAt, StopsReady, PartRead, StopsPut, PartSung};
+use editions::Edition;
 use field_keys::Key;
+use lyric_stops::Stops;
 use lyrics::Sheet;
 use part_registers::Tables;
 use store_sections::Wrote;
@@ -26,11 +27,19 @@ pub struct Ended {
 }
 
 // The part's items in order, and its end.
-fn read_part(text: &[u8], scratch: &mut [u8], n: usize, part: u8, t: Tables, key: Key) -> Ended
+fn read_part(
+    edition: Edition,
+    text: &[u8],
+    scratch: &mut [u8],
+    n: usize,
+    part: u8,
+    t: Tables,
+    key: Key,
+) -> Ended
     requires { ⌜ (length (now text) ≤ 67108864) × Sized (now text) (now scratch) n part t ⌝ }
-    ensures { λ r. ⌜ PartRead (now (text .entry)) (now (scratch .entry)) n part (keyAs key) t (now (scratch .exit)) r ⌝ }
+    ensures { λ r. ⌜ PartRead edition (now (text .entry)) (now (scratch .entry)) n part (keyAs key) t (now (scratch .exit)) r ⌝ }
 {
-    let r = part_items::build_items(text, scratch, n, part, t, key);
+    let r = part_items::build_items(edition, text, scratch, n, part, t, key);
     let counts = r.counts;
     let verses = r.verses;
     let count = part_ends::end_part(scratch, t.heads, counts.heads as usize, key);
@@ -54,27 +63,44 @@ fn read_part(text: &[u8], scratch: &mut [u8], n: usize, part: u8, t: Tables, key
     }
 }
 
+// The stops of the part's notes, which the second edition asks for.
+fn put_stops(edition: Edition, scratch: &mut [u8], d: PartTables, stops: Stops)
+    requires { ⌜ StopsReady (now scratch) d stops ⌝ }
+    ensures { λ _. ⌜ StopsPut edition (now (scratch .entry)) (now (scratch .exit)) d stops ⌝ }
+{
+    if let Edition::First = edition {
+        return;
+    }
+    part_stops::write_stops(scratch, d.measures.at, d.measures.count, d.notes.at, stops);
+}
+
 // The part's lyric lines, sung to its notes: the sheet stands where the accidentals in force stood, which are over.
 fn sing_part(
+    edition: Edition,
     text: &[u8],
     scratch: &mut [u8],
     n: usize,
     part: u8,
     t: Tables,
-    sounded: usize,
+    d: Ended,
 ) -> Sheet
-    requires { ⌜ Fits (now text) (now scratch) n part (sheetAt t sounded 0) ⌝ }
-    ensures { λ r. ⌜ (r ≡ sheetAt t sounded (r .count)) × AllSung (now (text .entry)) (now (scratch .entry)) (now (scratch .exit)) n part (sheetAt t sounded 0) (replicate sounded []) (r .count) ⌝ }
+    requires { ⌜ Fits (now text) (now scratch) n part (sheetAt t (d .sounded) 0) × StopsReady (now scratch) (d .tables) (stopsAt t (d .sounded)) ⌝ }
+    ensures { λ r. ⌜ (r ≡ sheetAt t (d .sounded) (r .count)) × PartSung edition (now (text .entry)) (now (scratch .entry)) (now (scratch .exit)) n part t d (r .count) ⌝ }
 {
     let heads = t.scopes;
-    let log = heads + lyrics::HEAD * sounded;
+    let sounded = d.sounded;
+    let at = heads + lyrics::HEAD * sounded;
+    let log = at + lyric_stops::STOP * sounded;
+    let tables = d.tables;
+    let stops = Stops { at, count: sounded };
+    put_stops(edition, scratch, tables, stops);
     let sheet = Sheet {
         heads,
         sounded,
         log,
         count: 0,
     };
-    let count = lyrics::apply_abc_lyrics(text, scratch, n, part, sheet);
+    let count = lyric_items::apply_abc_lyrics(edition, text, scratch, n, part, sheet);
     Sheet {
         heads,
         sounded,
@@ -85,6 +111,7 @@ fn sing_part(
 
 // The five sections of a part, whose items are among the first n; the line table stays as it is but for verses and first notes of the part's lyric lines.
 pub fn write_part(
+    edition: Edition,
     text: &[u8],
     scratch: &mut [u8],
     n: usize,
@@ -93,11 +120,12 @@ pub fn write_part(
     to: &mut [u8],
 ) -> Wrote
     requires { ⌜ PartRoom (now text) (now scratch) n part ⌝ }
-    ensures { λ r. ⌜ WroteIs (now (to .entry)) (Records.sections (build (keyAs key) (itemsOf part (itemsIn (now (text .entry)) (now (scratch .entry)) n)))) (now (to .exit)) r ⌝ }
+    ensures { λ r. ⌜ WroteIs (now (to .entry)) (Records.sections (build edition (keyAs key) (itemsOf part (itemsIn (now (text .entry)) (now (scratch .entry)) n)))) (now (to .exit)) r ⌝ }
     ensures { λ _. ⌜ (itemsIn (now (text .entry)) (now (scratch .exit)) n ≡ itemsIn (now (text .entry)) (now (scratch .entry)) n) × (length (now (scratch .exit)) ≡ length (now (scratch .entry))) ⌝ }
 {
     let t = part_sizing::size_part(text, scratch, n, part);
-    let d = read_part(text, scratch, n, part, t, key);
-    let sheet = sing_part(text, scratch, n, part, t, d.sounded);
-    write_part::write_sections(text, scratch, d.tables, sheet, to)
+    let d = read_part(edition, text, scratch, n, part, t, key);
+    let sheet = sing_part(edition, text, scratch, n, part, t, d);
+    let tables = d.tables;
+    write_part::write_sections(text, scratch, tables, sheet, to)
 }

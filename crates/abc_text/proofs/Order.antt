@@ -8,6 +8,7 @@ use native.Mathlib.Omega.{arith}
 use lib.ListN.{length, getElem?}
 use Rattle.laws.specs.Lists.{elem, indexOf}
 use Rattle.laws.specs.Bytes.{zeros}
+use Rattle.editions.specs.declared.Edition.{Edition}
 use Rattle.reader.specs.Steps.{TextLine}
 use Rattle.reader.specs.Part.{Part}
 use Rattle.reader.specs.Answer as answers
@@ -51,10 +52,10 @@ read-accepted (refusal k l) n e = absurd (read≢refused n k l e)
 read-accepted (reading ps) n e = tt
 
 -- THE FIRST HALF
-pub in-any-order : In-any-order
-in-any-order text rl sl m bs mv r r′ d d′ s s′ c c′ =
-    let e : parseAbc (rebuilt text bs) rl sl ≡ parseAbc text rl sl = demand-3 text rl sl m .moved bs mv in (
-      accepted-read (parseAbc text rl sl .verdict) (m .accepted) r (c .0),
+pub in-any-order : (ed : Edition) → In-any-order ed
+in-any-order ed text rl sl m bs mv r r′ d d′ s s′ c c′ =
+    let e : parseAbc ed (rebuilt text bs) rl sl ≡ parseAbc ed text rl sl = demand-3 ed text rl sl m .moved bs mv in (
+      accepted-read (parseAbc ed text rl sl .verdict) (m .accepted) r (c .0),
       (
         same-answer r′ r (c′ .0 ∙ ap (λ (w : Outcome). answerOf (w .verdict)) e ∙ sym (c .0)),
         (
@@ -69,32 +70,32 @@ in-any-order text rl sl m bs mv r r′ d d′ s s′ c c′ =
 abbrev Written : ℕ → Outcome → Type 0
 Written rl w = IsReading (w .verdict) → (ps : List Part) × ((w .verdict ≡ answers.reading ps) × (w .reading ≡ encode ps ++ zeros (rl - length (encode ps))))
 
-held : (text : List ℕ) (rl sl : ℕ) → Written rl (parseAbc text rl sl)
+held : (ed : Edition) (text : List ℕ) (rl sl : ℕ) → Written rl (parseAbc ed text rl sl)
 unfolding refusedWith written
-held text rl sl = outcome-cases (Written rl) text rl sl (λ n l h a. absurd a) (λ h a. absurd a) (λ t a h f len short _. (_, (refl, refl)))
+held ed text rl sl = outcome-cases ed (Written rl) text rl sl (λ n l h a. absurd a) (λ h a. absurd a) (λ t a h f len short _. (_, (refl, refl)))
 
-holds-of : (text : List ℕ) (rl sl : ℕ) (store : List ℕ) (p : ℕ) (x : Part) → Accepted (parseAbc text rl sl) → store ≡ parseAbc text rl sl .reading → partIn (parseAbc text rl sl .verdict) p ≡ some x → Holds text rl sl store p x
-holds-of text rl sl store p x a s e = let q = held text rl sl a in record { parts = q .0; read-as = q .1 .0; holds = s ∙ q .1 .1; part = e }
+holds-of : (ed : Edition) (text : List ℕ) (rl sl : ℕ) (store : List ℕ) (p : ℕ) (x : Part) → Accepted (parseAbc ed text rl sl) → store ≡ parseAbc ed text rl sl .reading → partIn (parseAbc ed text rl sl .verdict) p ≡ some x → Holds ed text rl sl store p x
+holds-of ed text rl sl store p x a s e = let q = held ed text rl sl a in record { parts = q .0; read-as = q .1 .0; holds = s ∙ q .1 .1; part = e }
 
-pub each-part : Each-part
-each-part text rl sl m p h rl′ sl′ n r d d′ s s′ c c′ = go (parts-count text rl sl (m .accepted))
+pub each-part : (ed : Edition) → Each-part ed
+each-part ed text rl sl m p h rl′ sl′ n r d d′ s s′ c c′ = go (parts-count ed text rl sl (m .accepted))
   where
-    a : Accepted (parseAbc (onlyPart text p) rl′ sl′)
-    a = read-accepted (parseAbc (onlyPart text p) rl′ sl′ .verdict) n (c′ .0)
+    a : Accepted (parseAbc ed (onlyPart ed text p) rl′ sl′)
+    a = read-accepted (parseAbc ed (onlyPart ed text p) rl′ sl′ .verdict) n (c′ .0)
 
-    go : (ps : List Part) × (parseAbc text rl sl .verdict ≡ answers.reading ps) × (length ps ≡ max 1 (length (voices text))) → (x : Part) × (Holds text rl sl d p x × Holds (onlyPart text p) rl′ sl′ d′ p x)
+    go : (ps : List Part) × (parseAbc ed text rl sl .verdict ≡ answers.reading ps) × (length ps ≡ max 1 (length (voices ed text))) → (x : Part) × (Holds ed text rl sl d p x × Holds ed (onlyPart ed text p) rl′ sl′ d′ p x)
     go q =
         let w : (x : Part) × (getElem? (q .0) p ≡ some x) = getElem?-some (q .0) p (omega (arith, q .2, h)) in
-        let e : partIn (parseAbc text rl sl .verdict) p ≡ some (w .0) = ap (λ (v : Verdict). partIn v p) (q .1) ∙ w .1 in
-        (w .0, (holds-of text rl sl d p (w .0) (m .accepted) (c .1 .0) e, holds-of (onlyPart text p) rl′ sl′ d′ p (w .0) a (c′ .1 .0) (sym (demand-3 text rl sl m .apart p rl′ sl′ a) ∙ e)))
+        let e : partIn (parseAbc ed text rl sl .verdict) p ≡ some (w .0) = ap (λ (v : Verdict). partIn v p) (q .1) ∙ w .1 in
+        (w .0, (holds-of ed text rl sl d p (w .0) (m .accepted) (c .1 .0) e, holds-of ed (onlyPart ed text p) rl′ sl′ d′ p (w .0) a (c′ .1 .0) (sym (demand-3 ed text rl sl m .apart p rl′ sl′ a) ∙ e)))
 
-pub each-alone : Each-alone
-each-alone text rl sl m v hv rl′ sl′ n r d d′ s s′ c c′ =
-    let a : Accepted (parseAbc (onlyVoice text v) rl′ sl′) = read-accepted (parseAbc (onlyVoice text v) rl′ sl′ .verdict) n (c′ .0) in
-    let q : (x : Part) × (partOf text rl sl v ≡ some x) = part-there text rl sl (m .accepted) v hv in (
+pub each-alone : (ed : Edition) → Each-alone ed
+each-alone ed text rl sl m v hv rl′ sl′ n r d d′ s s′ c c′ =
+    let a : Accepted (parseAbc ed (onlyVoice text v) rl′ sl′) = read-accepted (parseAbc ed (onlyVoice text v) rl′ sl′ .verdict) n (c′ .0) in
+    let q : (x : Part) × (partOf ed text rl sl v ≡ some x) = part-there ed text rl sl (m .accepted) v hv in (
       q .0,
       (
-        holds-of text rl sl d (indexOf v (voices text)) (q .0) (m .accepted) (c .1 .0) (q .1),
-        holds-of (onlyVoice text v) rl′ sl′ d′ (indexOf v (voices (onlyVoice text v))) (q .0) a (c′ .1 .0) (sym (by-name text rl sl m v hv rl′ sl′ a) ∙ q .1),
+        holds-of ed text rl sl d (indexOf v (voices ed text)) (q .0) (m .accepted) (c .1 .0) (q .1),
+        holds-of ed (onlyVoice text v) rl′ sl′ d′ (indexOf v (voices ed (onlyVoice text v))) (q .0) a (c′ .1 .0) (sym (by-name ed text rl sl m v hv rl′ sl′ a) ∙ q .1),
       ),
     )

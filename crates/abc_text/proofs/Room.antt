@@ -6,6 +6,7 @@ use native.Mathlib.Numerals.{add-one}
 use native.Mathlib.Omega.{arith}
 use lib.ListN.{length, take, drop, length-append, length-take, length-drop}
 use Rattle.standard.specs.Keys.{Key}
+use Rattle.editions.specs.declared.Edition.{Edition}
 use Rattle.reader.specs.Steps.{itemsOf}
 use Rattle.reader.specs.Scan.{Item, Items}
 use Rattle.reader.specs.Part.{build}
@@ -26,13 +27,13 @@ use Rattle.scan_parts.specs.Own.{lent, back, OwnItems}
 use Rattle.abc_text.specs.Answers.{Rooms}
 
 -- what the parts' tables need, the scan has left
-pub rooms-left : (text s : List ℕ) (h : Shared) → Done text s h → length text ≤ 67108864 → scratchNeeded (length text) ≤ length s → Rooms text s (h .items)
+pub rooms-left : (ed : Edition) (text s : List ℕ) (h : Shared) → Done ed text s h → length text ≤ 67108864 → scratchNeeded (length text) ≤ length s → Rooms text s (h .items)
 unfolding scratchNeeded
-rooms-left text s h d short fits =
+rooms-left ed text s h d short fits =
     let n = length-items text s (h .items) in
     record {
-      fits = λ q. omega (arith, part-room text (d .state) (itemsIn text s (h .items)) q (d .scanned), n, fits);
-      small = λ q. omega (arith, part-room text (d .state) (itemsIn text s (h .items)) q (d .scanned), n, short);
+      fits = λ q. omega (arith, part-room ed text (d .state) (itemsIn text s (h .items)) q (d .scanned), n, fits);
+      small = λ q. omega (arith, part-room ed text (d .state) (itemsIn text s (h .items)) q (d .scanned), n, short);
       short = short;
     }
 
@@ -69,31 +70,31 @@ module _ (text s₀ : List ℕ) (n : ℕ) (h : Rooms text s₀ n) (s : List ℕ)
         (simp (length-append, length-take, length-drop) (omega (arith, k, lent-length, o .same-length, o .inside, l)), o .kept t k i ∙ e)
 
 -- THE PARTS so far
-pub parts-none : (k : Key) (a : Items) → partsOf k a 0 ≡ []
+pub parts-none : (ed : Edition) (k : Key) (a : Items) → partsOf ed k a 0 ≡ []
 unfolding partsOf
-parts-none k a = refl
+parts-none ed k a = refl
 
-pub parts-more : (k : Key) (a : Items) (n : ℕ) → partsOf k a (n + 1) ≡ partsOf k a n ++ sections (build k (itemsOf n a))
+pub parts-more : (ed : Edition) (k : Key) (a : Items) (n : ℕ) → partsOf ed k a (n + 1) ≡ partsOf ed k a n ++ sections (build ed k (itemsOf n a))
 unfolding partsOf
-parts-more k a n = rw (add-one n)
+parts-more ed k a n = rw (add-one n)
 
 -- more parts are no shorter
-pub parts-mono : (k : Key) (a : Items) (m n : ℕ) → length (partsOf k a m) ≤ length (partsOf k a (m + n))
-parts-mono k a m zero = let z : m + 0 ≡ m = omega arith in rw z (omega arith)
-parts-mono k a m (suc n) =
+pub parts-mono : (ed : Edition) (k : Key) (a : Items) (m n : ℕ) → length (partsOf ed k a m) ≤ length (partsOf ed k a (m + n))
+parts-mono ed k a m zero = let z : m + 0 ≡ m = omega arith in rw z (omega arith)
+parts-mono ed k a m (suc n) =
     let z : m + suc n ≡ (m + n) + 1 = omega arith in
-    rw z (omega (arith, parts-mono k a m n, ap length (parts-more k a (m + n)), length-append (partsOf k a (m + n)) (sections (build k (itemsOf (m + n) a)))))
+    rw z (omega (arith, parts-mono ed k a m n, ap length (parts-more ed k a (m + n)), length-append (partsOf ed k a (m + n)) (sections (build ed k (itemsOf (m + n) a)))))
 
 -- a part more behind those that are written
-pub one-part : {d e f : List ℕ} {at m : ℕ} (k : Key) (a : Items) (is : List Item) (part : ℕ) → WroteIs d (partsOf k a part) e (To at) → is ≡ itemsOf part a
-    → WroteIs (take (length e - at) (drop at e)) (sections (build k is)) f (To m)
-    → WroteIs d (partsOf k a (part + 1)) (take at e ++ (f ++ drop (length e - at) (drop at e))) (To (at + m))
-one-part k a is part h q g = rw (parts-more k a part) (next-to h (rw q at g))
+pub one-part : (ed : Edition) {d e f : List ℕ} {at m : ℕ} (k : Key) (a : Items) (is : List Item) (part : ℕ) → WroteIs d (partsOf ed k a part) e (To at) → is ≡ itemsOf part a
+    → WroteIs (take (length e - at) (drop at e)) (sections (build ed k is)) f (To m)
+    → WroteIs d (partsOf ed k a (part + 1)) (take at e ++ (f ++ drop (length e - at) (drop at e))) (To (at + m))
+one-part ed k a is part h q g = rw (parts-more ed k a part) (next-to h (rw q at g))
 
 -- or no room for it: none for all
-pub no-part : {d e f : List ℕ} {at : ℕ} (k : Key) (a : Items) (is : List Item) (part count : ℕ) → part < count → WroteIs d (partsOf k a part) e (To at) → is ≡ itemsOf part a
-    → WroteIs (take (length e - at) (drop at e)) (sections (build k is)) f NoRoom → {z : List ℕ} → WroteIs d (partsOf k a count) z NoRoom
-no-part k a is part count l h q g =
+pub no-part : (ed : Edition) {d e f : List ℕ} {at : ℕ} (k : Key) (a : Items) (is : List Item) (part count : ℕ) → part < count → WroteIs d (partsOf ed k a part) e (To at) → is ≡ itemsOf part a
+    → WroteIs (take (length e - at) (drop at e)) (sections (build ed k is)) f NoRoom → {z : List ℕ} → WroteIs d (partsOf ed k a count) z NoRoom
+no-part ed k a is part count l h q g =
     let n : part + 1 + (count - (part + 1)) ≡ count = omega arith in
-    none-more (next-none h (rw q at g) {z = []}) (partsOf k a count)
-    (rw (← parts-more k a part) (rw n at (parts-mono k a (part + 1) (count - (part + 1)))))
+    none-more (next-none h (rw q at g) {z = []}) (partsOf ed k a count)
+    (rw (← parts-more ed k a part) (rw n at (parts-mono ed k a (part + 1) (count - (part + 1)))))

@@ -8,6 +8,7 @@ use lib.ListN.{length}
 use Rattle.laws.specs.Lists.{sum}
 use Rattle.laws.specs.Bytes.{zeros}
 use Rattle.laws.proofs.Bools.{by-test}
+use Rattle.editions.specs.declared.Edition.{Edition}
 use Rattle.reader.specs.Text.{textLines}
 use Rattle.reader.specs.Steps.{itemsOf, refuse, on}
 use Rattle.reader.specs.Scan.{Items, ScanState, Out, scan}
@@ -49,43 +50,43 @@ ended-silent : (ps : List Part) (rl sl : ℕ) (r : code.Answer) (reading scratch
 unfolding ended
 ended-silent ps rl sl r reading scratch m p = rw m p
 
-module _ (text s : List ℕ) (h : Shared) (d : Done text s h) where
+module _ (ed : Edition) (text s : List ℕ) (h : Shared) (d : Done ed text s h) where
   items : Items
   items = itemsIn text s (h .items)
 
   -- the parts of the definition
   allParts : List Part
-  allParts = parts (d .state .env) (λ p. itemsOf p items) (max 1 (length (d .state .env .voices))) 0
+  allParts = parts ed (d .state .env) (λ p. itemsOf p items) (max 1 (length (d .state .env .voices))) 0
 
-  after : (rl sl : ℕ) → scanned rl sl (scan (textLines text)) ≡ ended allParts rl sl
+  after : (rl sl : ℕ) → scanned ed rl sl (scan ed (textLines text)) ≡ ended allParts rl sl
   unfolding scanned finish allParts items
-  after rl sl = ap (scanned rl sl) (d .scanned)
+  after rl sl = ap (scanned ed rl sl) (d .scanned)
 
   -- whether there is a measure
   measures : leb 1 (sum measureCount allParts) ≡ h .music
   unfolding allParts items
   measures =
-      measures-told (d .state .env) (itemsIn text s (h .items)) (max 1 (length (d .state .env .voices))) (items-owned (textLines text) (d .state) (itemsIn text s (h .items)) (d .scanned))
+      measures-told ed (d .state .env) (itemsIn text s (h .items)) (max 1 (length (d .state .env .voices))) (items-owned ed (textLines text) (d .state) (itemsIn text s (h .items)) (d .scanned))
       ∙ sym (d .music)
 
   -- their bytes
   count : max 1 (length (d .state .env .voices)) ≡ max 1 (h .voices)
   count = ap (λ (vs : List (List ℕ)). max 1 (length vs)) (d .voices) ∙ ap (max 1) (length-voices text s (h .voices))
 
-  bytes : encode allParts ≡ bytesOf (keyAs (h .key)) (itemsIn text s (h .items)) (max 1 (h .voices))
+  bytes : encode allParts ≡ bytesOf ed (keyAs (h .key)) (itemsIn text s (h .items)) (max 1 (h .voices))
   unfolding allParts items
   bytes =
-      encode-same (d .state .env) (itemsIn text s (h .items)) (max 1 (length (d .state .env .voices)))
-      ∙ (λ i. bytesOf (d .key i) (itemsIn text s (h .items)) (count i))
+      encode-same ed (d .state .env) (itemsIn text s (h .items)) (max 1 (length (d .state .env .voices)))
+      ∙ (λ i. bytesOf ed (d .key i) (itemsIn text s (h .items)) (count i))
 
   -- NO MEASURE
   pub silent-parsed : (rl sl : ℕ) (r : code.Answer) (reading scratch : List ℕ) → h .music ≡ false → Parsed (refusedWith 1 0 rl sl) r reading scratch
-      → Parsed (scanned rl sl (scan (textLines text))) r reading scratch
+      → Parsed (scanned ed rl sl (scan ed (textLines text))) r reading scratch
   silent-parsed rl sl r reading scratch m p = rw (after rl sl) (ended-silent allParts rl sl r reading scratch (measures ∙ m) p)
 
   -- A MEASURE: the parts are written, and the rest is cleared
   pub written-parsed : (rl sl : ℕ) (w : Wrote) (reading scratch : List ℕ) → h .music ≡ true
-      → Filled (bytesOf (keyAs (h .key)) (itemsIn text s (h .items)) (max 1 (h .voices))) rl w reading → scratch ≡ zeros sl
-      → Parsed (scanned rl sl (scan (textLines text))) (wroteAs w) reading scratch
+      → Filled (bytesOf ed (keyAs (h .key)) (itemsIn text s (h .items)) (max 1 (h .voices))) rl w reading → scratch ≡ zeros sl
+      → Parsed (scanned ed rl sl (scan ed (textLines text))) (wroteAs w) reading scratch
   written-parsed rl sl w reading scratch m f z =
       rw (after rl sl) (ended-written allParts rl sl w reading scratch (measures ∙ m) (subst (λ (bs : List ℕ). Filled bs rl w reading) (sym bytes) f) z)

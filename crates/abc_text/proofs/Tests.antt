@@ -7,6 +7,7 @@ use lib.ListN.{length}
 use borrow.Author.Tests.{le-leb, lt-leb}
 use Rattle.laws.specs.Bytes.{splice, zeros}
 use Rattle.laws.proofs.Splices.{zeros-whole}
+use Rattle.editions.specs.declared.Edition.{Edition}
 use Rattle.reader.specs.Text.{isUtf8, isBlank, textLines}
 use Rattle.reader.specs.Steps.{refuse}
 use Rattle.reader.specs.Scan.{scan}
@@ -58,34 +59,34 @@ unfolding refusedWith answerOf
 refused-parsed r₀ s₀ r s n l e f = record { answer = refl; reading-is = e ∙ zeros-whole r₀; scratch-is = f ∙ zeros-whole s₀ }
 
 -- THE CALL
-module _ (text : List ℕ) (rl sl : ℕ) (q : Early) (h : EarlyIs text sl q) (r : code.Answer) (reading scratch : List ℕ) where
+module _ (ed : Edition) (text : List ℕ) (rl sl : ℕ) (q : Early) (h : EarlyIs text sl q) (r : code.Answer) (reading scratch : List ℕ) where
   -- refused before the first line
-  pub call-early : (n : ℕ) → q ≡ E.Refused n → Parsed (refusedWith n 0 rl sl) r reading scratch → Parsed (parseAbc text rl sl) r reading scratch
+  pub call-early : (n : ℕ) → q ≡ E.Refused n → Parsed (refusedWith n 0 rl sl) r reading scratch → Parsed (parseAbc ed text rl sl) r reading scratch
   unfolding parseAbc unless
   call-early n e p = rw (subst (EarlyIs text sl) e h .is rl) p
 
   -- or scanned
-  pub call-scanned : q ≡ E.Passes → Parsed (scanned rl sl (scan (textLines text))) r reading scratch → Parsed (parseAbc text rl sl) r reading scratch
+  pub call-scanned : q ≡ E.Passes → Parsed (scanned ed rl sl (scan ed (textLines text))) r reading scratch → Parsed (parseAbc ed text rl sl) r reading scratch
   unfolding parseAbc unless
   call-scanned e p = rw (subst (EarlyIs text sl) e h .is rl) p
 
 -- what the scan answered
-pub scan-done : {text s : List ℕ} {q : Scanned} {h : Shared} → ScanIs text s q → q ≡ S.Done h → Done text s h
-scan-done {text} {s} x e = subst (ScanIs text s) e x .answered
+pub scan-done : (ed : Edition) {text s : List ℕ} {q : Scanned} {h : Shared} → ScanIs ed text s q → q ≡ S.Done h → Done ed text s h
+scan-done ed {text} {s} x e = subst (ScanIs ed text s) e x .answered
 
-pub scan-refused : {text s : List ℕ} {q : Scanned} {n l : ℕ} → ScanIs text s q → q ≡ S.Refused n l → scan (textLines text) ≡ refuse n l
-scan-refused {text} {s} x e = subst (ScanIs text s) e x .answered
+pub scan-refused : (ed : Edition) {text s : List ℕ} {q : Scanned} {n l : ℕ} → ScanIs ed text s q → q ≡ S.Refused n l → scan ed (textLines text) ≡ refuse n l
+scan-refused ed {text} {s} x e = subst (ScanIs ed text s) e x .answered
 
 -- refused by it; the scratch store is as long as it was
-pub refused-scanned : (text : List ℕ) (rl sl sl′ n l : ℕ) {r : code.Answer} {reading scratch : List ℕ} → scan (textLines text) ≡ refuse n l → sl′ ≡ sl
-    → Parsed (refusedWith n l rl sl′) r reading scratch → Parsed (scanned rl sl (scan (textLines text))) r reading scratch
+pub refused-scanned : (ed : Edition) (text : List ℕ) (rl sl sl′ n l : ℕ) {r : code.Answer} {reading scratch : List ℕ} → scan ed (textLines text) ≡ refuse n l → sl′ ≡ sl
+    → Parsed (refusedWith n l rl sl′) r reading scratch → Parsed (scanned ed rl sl (scan ed (textLines text))) r reading scratch
 unfolding scanned
-refused-scanned text rl sl sl′ n l e k p = rw e (rw k at p)
+refused-scanned ed text rl sl sl′ n l e k p = rw e (rw k at p)
 
 -- finished
-pub finished : (text : List ℕ) (rl sl sl′ : ℕ) {r : code.Answer} {reading scratch : List ℕ} → sl′ ≡ sl
-    → Parsed (scanned rl sl′ (scan (textLines text))) r reading scratch → Parsed (scanned rl sl (scan (textLines text))) r reading scratch
-finished text rl sl sl′ {r} {reading} {scratch} k p = subst (λ (n : ℕ). Parsed (scanned rl n (scan (textLines text))) r reading scratch) k p
+pub finished : (ed : Edition) (text : List ℕ) (rl sl sl′ : ℕ) {r : code.Answer} {reading scratch : List ℕ} → sl′ ≡ sl
+    → Parsed (scanned ed rl sl′ (scan ed (textLines text))) r reading scratch → Parsed (scanned ed rl sl (scan ed (textLines text))) r reading scratch
+finished ed text rl sl sl′ {r} {reading} {scratch} k p = subst (λ (n : ℕ). Parsed (scanned ed rl n (scan ed (textLines text))) r reading scratch) k p
 
 -- what a call promises, one by one
 pub called : {w : Outcome} {r : code.Answer} {reading scratch : List ℕ} → Parsed w r reading scratch

@@ -14,6 +14,7 @@ ghost use Rattle.scan.specs.Scanned.{Done};
 ghost use Rattle.abc_answers.specs.Parts.{partsOf, bytesOf};
 ghost use Rattle.reading_answers.specs.Answers.{answerAs};
 ghost use Rattle.abc_text.specs.Answers.{wroteAs, Parsed, EarlyIs, Rooms};
+use editions::Edition;
 use field_keys::Key;
 use reading_answers::Answer;
 use scan::Scanned;
@@ -64,6 +65,7 @@ fn count_parts(voices: usize) -> u8
 
 // The sections of the parts 0 up to count, each part's where the last one's ended. A part is read from its own items.
 fn append_parts(
+    edition: Edition,
     text: &[u8],
     scratch: &mut [u8],
     n: usize,
@@ -72,7 +74,7 @@ fn append_parts(
     to: &mut [u8],
 ) -> Wrote
     requires { ⌜ Rooms (now text) (now scratch) n ⌝ }
-    ensures { λ r. ⌜ WroteIs (now (to .entry)) (partsOf (keyAs key) (itemsIn (now (text .entry)) (now (scratch .entry)) n) count) (now (to .exit)) r ⌝ }
+    ensures { λ r. ⌜ WroteIs (now (to .entry)) (partsOf edition (keyAs key) (itemsIn (now (text .entry)) (now (scratch .entry)) n) count) (now (to .exit)) r ⌝ }
 {
     let mut at: usize = 0;
     let mut part: u8 = 0;
@@ -80,6 +82,7 @@ fn append_parts(
         let own = scan_parts::own_items(text, scratch, n, part, count);
         let from = own.at;
         let Wrote::To(m) = abc_parts::write_part(
+            edition,
             text,
             &mut scratch[from..],
             own.count,
@@ -97,6 +100,7 @@ fn append_parts(
 
 // The count of parts and, where that ended, the parts.
 fn write_parts(
+    edition: Edition,
     text: &[u8],
     scratch: &mut [u8],
     n: usize,
@@ -105,12 +109,12 @@ fn write_parts(
     to: &mut [u8],
 ) -> Wrote
     requires { ⌜ Rooms (now text) (now scratch) n ⌝ }
-    ensures { λ r. ⌜ WroteIs (now (to .entry)) (bytesOf (keyAs key) (itemsIn (now (text .entry)) (now (scratch .entry)) n) count) (now (to .exit)) r ⌝ }
+    ensures { λ r. ⌜ WroteIs (now (to .entry)) (bytesOf edition (keyAs key) (itemsIn (now (text .entry)) (now (scratch .entry)) n) count) (now (to .exit)) r ⌝ }
 {
     let Wrote::To(at) = store_sections::write_u32(to, count as u32) else {
         return Wrote::NoRoom;
     };
-    let Wrote::To(m) = append_parts(text, scratch, n, count, key, &mut to[at..]) else {
+    let Wrote::To(m) = append_parts(edition, text, scratch, n, count, key, &mut to[at..]) else {
         return Wrote::NoRoom;
     };
     Wrote::To(at + m)
@@ -127,33 +131,39 @@ fn wrote_answer(w: Wrote) -> Answer
 }
 
 // After the scan: 1 where there is no measure, 16 where the reading has no room; else it is written.
-fn finish(text: &[u8], reading: &mut [u8], scratch: &mut [u8], h: Shared) -> Answer
-    requires { ⌜ Done (now text) (now scratch) h ⌝ }
+fn finish(
+    edition: Edition,
+    text: &[u8],
+    reading: &mut [u8],
+    scratch: &mut [u8],
+    h: Shared,
+) -> Answer
+    requires { ⌜ Done edition (now text) (now scratch) h ⌝ }
     requires { ⌜ (length (now text) ≤ 67108864) × (scratchNeeded (length (now text)) ≤ length (now scratch)) ⌝ }
-    ensures { λ r. ⌜ Parsed (scanned (length (now (reading .entry))) (length (now (scratch .entry))) (scan (textLines (now (text .entry))))) r (now (reading .exit)) (now (scratch .exit)) ⌝ }
+    ensures { λ r. ⌜ Parsed (scanned edition (length (now (reading .entry))) (length (now (scratch .entry))) (scan edition (textLines (now (text .entry))))) r (now (reading .exit)) (now (scratch .exit)) ⌝ }
 {
     if !h.music {
         return refuse(reading, scratch, 1, 0);
     }
     let count = count_parts(h.voices);
     let key = h.key;
-    let w = write_parts(text, scratch, h.items, count, key, reading);
+    let w = write_parts(edition, text, scratch, h.items, count, key, reading);
     store::clear(scratch, 0);
     store_sections::seal(reading, w);
     wrote_answer(w)
 }
 
-// The whole of it: any bytes, stores of any length.
-pub fn parse_abc(text: &[u8], reading: &mut [u8], scratch: &mut [u8]) -> Answer
-    ensures { λ r. ⌜ answerAs r ≡ answerOf (parseAbc (now (text .entry)) (length (now (reading .entry))) (length (now (scratch .entry))) .verdict) ⌝ }
-    ensures { λ _. ⌜ now (reading .exit) ≡ parseAbc (now (text .entry)) (length (now (reading .entry))) (length (now (scratch .entry))) .reading ⌝ }
-    ensures { λ _. ⌜ now (scratch .exit) ≡ parseAbc (now (text .entry)) (length (now (reading .entry))) (length (now (scratch .entry))) .scratch ⌝ }
+// The whole of it: any bytes, stores of any length, in the edition that the caller names.
+pub fn parse_abc(text: &[u8], reading: &mut [u8], scratch: &mut [u8], edition: Edition) -> Answer
+    ensures { λ r. ⌜ answerAs r ≡ answerOf (parseAbc edition (now (text .entry)) (length (now (reading .entry))) (length (now (scratch .entry))) .verdict) ⌝ }
+    ensures { λ _. ⌜ now (reading .exit) ≡ parseAbc edition (now (text .entry)) (length (now (reading .entry))) (length (now (scratch .entry))) .reading ⌝ }
+    ensures { λ _. ⌜ now (scratch .exit) ≡ parseAbc edition (now (text .entry)) (length (now (reading .entry))) (length (now (scratch .entry))) .scratch ⌝ }
 {
     match test_text(text, scratch.len()) {
         Early::Refused(n) => refuse(reading, scratch, n, 0),
-        Early::Passes => match scan::scan_lines(text, scratch) {
+        Early::Passes => match scan::scan_lines(edition, text, scratch) {
             Scanned::Refused(n, l) => refuse(reading, scratch, n, l),
-            Scanned::Done(h) => finish(text, reading, scratch, h),
+            Scanned::Done(h) => finish(edition, text, reading, scratch, h),
         },
     }
 }

@@ -8,6 +8,7 @@ use Rattle.laws.specs.Lists.{All, filter, concat, isNil, eqText, elem, indexOf}
 use Rattle.laws.proofs.Bools.{by-test}
 use Rattle.laws.proofs.Lists.{isNil-true}
 use Rattle.laws.proofs.Orders.{All-perm, moved-index}
+use Rattle.editions.specs.declared.Edition.{Edition}
 use Rattle.reader.specs.Text.{textLines}
 use Rattle.reader.specs.Lines.{isK}
 use Rattle.reader.specs.Steps.{TextLine}
@@ -44,37 +45,37 @@ still-ends text rest (r ∷ rs) e h c = lines-end r (cond (isK r) [] (upToK rs) 
 
 -- A VOICE'S LINES BY NAME: the lyric condition goes by the numbers of the parts; the lines of the part that v has are those before the first block, if v is then being read,
 -- and those of the blocks that name v
-pub lines-named : (text : List ℕ) (rl sl : ℕ) → Hypotheses text rl sl → (v : List ℕ) → elem v (stateAtBlocks text .env .voices) ≡ true
-    → linesAt text (indexOf v (stateAtBlocks text .env .voices))
-    ≡ cond (eqb (stateAtBlocks text .part) (indexOf v (stateAtBlocks text .env .voices))) (opening text) [] ++ concat (filter (λ b. eqText (voiceOf b) v) (blocks text))
-lines-named text rl sl m v hv =
-    ap (λ (l : List (List TextLine)). cond (eqb (stateAtBlocks text .part) (indexOf v (stateAtBlocks text .env .voices))) (opening text) [] ++ concat l)
-    (numbered-named voiceOf (stateAtBlocks text .env .voices) v hv (blocks text) (owned text rl sl m))
+pub lines-named : (ed : Edition) (text : List ℕ) (rl sl : ℕ) → Hypotheses ed text rl sl → (v : List ℕ) → elem v (stateAtBlocks ed text .env .voices) ≡ true
+    → linesAt ed text (indexOf v (stateAtBlocks ed text .env .voices))
+    ≡ cond (eqb (stateAtBlocks ed text .part) (indexOf v (stateAtBlocks ed text .env .voices))) (opening text) [] ++ concat (filter (λ b. eqText (voiceOf b) v) (blocks text))
+lines-named ed text rl sl m v hv =
+    ap (λ (l : List (List TextLine)). cond (eqb (stateAtBlocks ed text .part) (indexOf v (stateAtBlocks ed text .env .voices))) (opening text) [] ++ concat l)
+    (numbered-named voiceOf (stateAtBlocks ed text .env .voices) v hv (blocks text) (owned ed text rl sl m))
 
 -- THE MOVED TEXT
-module _ (text : List ℕ) (rl sl : ℕ) (m : Hypotheses text rl sl) (bs : List (List TextLine)) (mv : Moved (blocks text) bs) where
+module _ (ed : Edition) (text : List ℕ) (rl sl : ℕ) (m : Hypotheses ed text rl sl) (bs : List (List TextLine)) (mv : Moved (blocks text) bs) where
   own : (header (rebuilt text bs) ≡ header text) × (opening (rebuilt text bs) ≡ opening text) × (blocks (rebuilt text bs) ≡ bs)
-  own = moved-own text (m .ended) bs mv
+  own = moved-own ed text (m .ended) bs mv
 
-  there-same : stateAtBlocks (rebuilt text bs) ≡ stateAtBlocks text
-  there-same = λ i. stateOf (scan (own .0 i ++ own .1 i))
+  there-same : stateAtBlocks ed (rebuilt text bs) ≡ stateAtBlocks ed text
+  there-same = λ i. stateOf (scan ed (own .0 i ++ own .1 i))
 
   -- each part's lines are the same
-  pub lines-same : (p : ℕ) → linesAt (rebuilt text bs) p ≡ linesAt text p
+  pub lines-same : (p : ℕ) → linesAt ed (rebuilt text bs) p ≡ linesAt ed text p
   lines-same p =
       (λ i. cond (eqb (there-same i .part) p) (own .1 i) [] ++ concat (filter (λ b. eqb (indexOf (voiceOf b) (there-same i .env .voices)) p) (own .2 i)))
-      ∙ ap (λ (l : List (List TextLine)). cond (eqb (stateAtBlocks text .part) p) (opening text) [] ++ concat l)
-      (moved-index voiceOf (stateAtBlocks text .env .voices) (blocks text) bs (owned text rl sl m) mv p)
+      ∙ ap (λ (l : List (List TextLine)). cond (eqb (stateAtBlocks ed text .part) p) (opening text) [] ++ concat l)
+      (moved-index voiceOf (stateAtBlocks ed text .env .voices) (blocks text) bs (owned ed text rl sl m) mv p)
 
-  pub meant-again : Hypotheses (rebuilt text bs) rl sl
+  pub meant-again : Hypotheses ed (rebuilt text bs) rl sl
   meant-again =
       record {
-        accepted = again text rl sl m bs mv;
-        ended = still-ends text (opening text ++ concat bs) (textLines text) refl (m .ended) (moved-closed text (m .ended) bs mv);
+        accepted = again ed text rl sl m bs mv;
+        ended = still-ends text (opening text ++ concat bs) (textLines text) refl (m .ended) (moved-closed ed text (m .ended) bs mv);
         known =
             subst (λ (hs : List TextLine). All (λ b. named (voiceOf b) hs ≡ true) (blocks (rebuilt text bs))) (sym (own .0))
             (subst (All (λ b. named (voiceOf b) (header text) ≡ true)) (sym (own .2))
-            (All-perm (λ b. named (voiceOf b) (header text) ≡ true) (moved-is-perm (blocks text) bs mv) (m .known)));
-        sets-neither = subst (All (All SetsNeither)) (sym (own .2)) (All-perm (All SetsNeither) (moved-is-perm (blocks text) bs mv) (m .sets-neither));
-        sung = λ p. subst LyricsBehind (sym (lines-same p)) (m .sung p);
+            (All-perm (λ b. named (voiceOf b) (header text) ≡ true) (moved-is-perm ed (blocks text) bs mv) (m .known)));
+        sets-neither = subst (All (All (SetsNeither ed))) (sym (own .2)) (All-perm (All (SetsNeither ed)) (moved-is-perm ed (blocks text) bs mv) (m .sets-neither));
+        sung = λ p. subst (LyricsBehind ed) (sym (lines-same p)) (m .sung p);
       }

@@ -12,6 +12,7 @@ use borrow.Author.Tests.{leb-true, le-leb}
 use Rattle.laws.specs.Lists.{All, sum, foldl}
 use Rattle.laws.proofs.Lists.{none-any}
 use Rattle.laws.proofs.Bools.{some≢none}
+use Rattle.editions.specs.declared.Edition.{Edition}
 use Rattle.reader.specs.Text.{Utf8, between, one, two, three, afterE0, afterED, afterF0, afterF4, invalid, utf8Step, isBetween, isUtf8, White, white, inC2, inE1, inE19A, inE2, inE280, inE281, inE3, inE380, other, whiteStep, isAllWhite, isBlank}
 use Rattle.reader.specs.Scan.{Item, Env}
 use Rattle.reader.specs.Part.{Part, build, emptyPart}
@@ -129,39 +130,39 @@ ended-part : (ps : List Part) (rl sl p : ℕ) → Accepted (ended ps rl sl) → 
 ended-part ps rl sl p h = ap (λ (v : Verdict). partIn v p) (ended-reading ps rl sl h)
 
 -- a part is made of its own items
-parts-at : (e : Env) (f g : ℕ → List Item) (n q k : ℕ) → ((j : ℕ) → j ≡ q + k → f j ≡ g j) → getElem? (parts e f n q) k ≡ getElem? (parts e g n q) k
+parts-at : (ed : Edition) (e : Env) (f g : ℕ → List Item) (n q k : ℕ) → ((j : ℕ) → j ≡ q + k → f j ≡ g j) → getElem? (parts ed e f n q) k ≡ getElem? (parts ed e g n q) k
 unfolding parts
-parts-at e f g zero q k h = refl
-parts-at e f g (suc n) q zero h = ap (λ (l : List Item). some (built e l)) (h q (omega arith))
-parts-at e f g (suc n) q (suc k) h = parts-at e f g n (suc q) k (λ j x. h j (omega arith))
+parts-at ed e f g zero q k h = refl
+parts-at ed e f g (suc n) q zero h = ap (λ (l : List Item). some (built ed e l)) (h q (omega arith))
+parts-at ed e f g (suc n) q (suc k) h = parts-at ed e f g n (suc q) k (λ j x. h j (omega arith))
 
 -- without music it is empty, whatever its items are
-still-built : (e : Env) (is : List Item) → All (λ i. isMusic i ≡ false) is → built e is ≡ emptyPart
+still-built : (ed : Edition) (e : Env) (is : List Item) → All (λ i. isMusic i ≡ false) is → built ed e is ≡ emptyPart
 unfolding built
-still-built e is h = ap (λ (b : Bool). cond b (build (e .headerKey) is) emptyPart) (none-any isMusic is h)
+still-built ed e is h = ap (λ (b : Bool). cond b (build ed (e .headerKey) is) emptyPart) (none-any isMusic is h)
 
 abbrev Alike : (ℕ → List Item) → (ℕ → List Item) → Type 0
 Alike f g = (p : ℕ) → (f p ≡ g p) ⊎ (All (λ i. isMusic i ≡ false) (f p) × All (λ i. isMusic i ≡ false) (g p))
 
-parts-alike : (e : Env) (f g : ℕ → List Item) → Alike f g → (n q : ℕ) → parts e f n q ≡ parts e g n q
+parts-alike : (ed : Edition) (e : Env) (f g : ℕ → List Item) → Alike f g → (n q : ℕ) → parts ed e f n q ≡ parts ed e g n q
 unfolding parts
-parts-alike e f g h zero q = refl
-parts-alike e f g h (suc n) q = λ i. one-part i ∷ parts-alike e f g h n (suc q) i
+parts-alike ed e f g h zero q = refl
+parts-alike ed e f g h (suc n) q = λ i. one-part i ∷ parts-alike ed e f g h n (suc q) i
   where
-    one-part : built e (f q) ≡ built e (g q)
-    one-part = ⊎-elim (λ x. ap (built e) x) (λ x. still-built e (f q) (x .0) ∙ sym (still-built e (g q) (x .1))) (h q)
+    one-part : built ed e (f q) ≡ built ed e (g q)
+    one-part = ⊎-elim (λ x. ap (built ed e) x) (λ x. still-built ed e (f q) (x .0) ∙ sym (still-built ed e (g q) (x .1))) (h q)
 
-pub alike : (e : Env) (f g : ℕ → List Item) (rl sl : ℕ) → Alike f g → finish e f rl sl ≡ finish e g rl sl
+pub alike : (ed : Edition) (e : Env) (f g : ℕ → List Item) (rl sl : ℕ) → Alike f g → finish ed e f rl sl ≡ finish ed e g rl sl
 unfolding finish
-alike e f g rl sl h = ap (λ (ps : List Part). ended ps rl sl) (parts-alike e f g h (max 1 (length (e .voices))) 0)
+alike ed e f g rl sl h = ap (λ (ps : List Part). ended ps rl sl) (parts-alike ed e f g h (max 1 (length (e .voices))) 0)
 
-pub part-own : (e : Env) (f g : ℕ → List Item) (rl sl rl′ sl′ p : ℕ) → Accepted (finish e f rl sl) → Accepted (finish e g rl′ sl′) → f p ≡ g p
-    → partIn (finish e f rl sl .verdict) p ≡ partIn (finish e g rl′ sl′ .verdict) p
+pub part-own : (ed : Edition) (e : Env) (f g : ℕ → List Item) (rl sl rl′ sl′ p : ℕ) → Accepted (finish ed e f rl sl) → Accepted (finish ed e g rl′ sl′) → f p ≡ g p
+    → partIn (finish ed e f rl sl .verdict) p ≡ partIn (finish ed e g rl′ sl′ .verdict) p
 unfolding finish
-part-own e f g rl sl rl′ sl′ p af ag h =
-    ended-part (parts e f (max 1 (length (e .voices))) 0) rl sl p af
-    ∙ parts-at e f g (max 1 (length (e .voices))) 0 p (λ j x. subst (λ (i : ℕ). f i ≡ g i) (sym (x ∙ z p)) h)
-    ∙ sym (ended-part (parts e g (max 1 (length (e .voices))) 0) rl′ sl′ p ag)
+part-own ed e f g rl sl rl′ sl′ p af ag h =
+    ended-part (parts ed e f (max 1 (length (e .voices))) 0) rl sl p af
+    ∙ parts-at ed e f g (max 1 (length (e .voices))) 0 p (λ j x. subst (λ (i : ℕ). f i ≡ g i) (sym (x ∙ z p)) h)
+    ∙ sym (ended-part (parts ed e g (max 1 (length (e .voices))) 0) rl′ sl′ p ag)
   where
     z : (p : ℕ) → 0 + p ≡ p
     z p = omega arith

@@ -7,6 +7,8 @@ use mathlib.Core.Option.{Option, none, some}
 use mathlib.Core.List.{List, [], _∷_, map}
 use Rattle.laws.specs.Lists.{elem}
 use Rattle.standard.specs.Bytes.{ascii}
+use Rattle.editions.specs.declared.Edition.{Edition}
+use Rattle.editions.specs.declared.Edition.the-variants.{First, Second}
 use Rattle.reader.specs.Text.{textLines}
 use Rattle.reader.specs.Steps.{TextLine, refuse, on, itemsOf}
 use Rattle.reader.specs.Scan.{Item, voiceDeclared, reset, lyricLine, Out, scan}
@@ -24,15 +26,15 @@ use Rattle.blocks.proofs.Tests.{meant-test}
 use Rattle.blocks.proofs.Demand.{demand-3, by-name}
 
 -- the two halves, for a text whose blocks and whose other texts are computed
-pub exchange : (t : List ℕ) (rl sl : ℕ) → Hypotheses t rl sl → (old new : List (List TextLine)) → blocks t ≡ old → Swaps reader old new → (t′ : List ℕ) → rebuilt t new ≡ t′
-    → parseAbc t′ rl sl ≡ parseAbc t rl sl
-exchange t rl sl m old new b s t′ e =
-    ap (λ (x : List ℕ). parseAbc x rl sl) (sym e) ∙ demand-3 t rl sl m .moved new (subst (λ (l : List (List TextLine)). Moved l new) (sym b) (swaps-moved s))
+pub exchange : (ed : Edition) (t : List ℕ) (rl sl : ℕ) → Hypotheses ed t rl sl → (old new : List (List TextLine)) → blocks t ≡ old → Swaps (reader ed) old new → (t′ : List ℕ) → rebuilt t new ≡ t′
+    → parseAbc ed t′ rl sl ≡ parseAbc ed t rl sl
+exchange ed t rl sl m old new b s t′ e =
+    ap (λ (x : List ℕ). parseAbc ed x rl sl) (sym e) ∙ demand-3 ed t rl sl m .moved new (subst (λ (l : List (List TextLine)). Moved l new) (sym b) (swaps-moved ed s))
 
-pub lone : (t : List ℕ) (rl sl : ℕ) → Hypotheses t rl sl → (p : ℕ) (t′ : List ℕ) → onlyPart t p ≡ t′ → (rl′ sl′ : ℕ) → Accepted (parseAbc t′ rl′ sl′)
-    → partIn (parseAbc t rl sl .verdict) p ≡ partIn (parseAbc t′ rl′ sl′ .verdict) p
-lone t rl sl m p t′ e rl′ sl′ =
-    subst (λ (x : List ℕ). Accepted (parseAbc x rl′ sl′) → partIn (parseAbc t rl sl .verdict) p ≡ partIn (parseAbc x rl′ sl′ .verdict) p) e (demand-3 t rl sl m .apart p rl′ sl′)
+pub lone : (ed : Edition) (t : List ℕ) (rl sl : ℕ) → Hypotheses ed t rl sl → (p : ℕ) (t′ : List ℕ) → onlyPart ed t p ≡ t′ → (rl′ sl′ : ℕ) → Accepted (parseAbc ed t′ rl′ sl′)
+    → partIn (parseAbc ed t rl sl .verdict) p ≡ partIn (parseAbc ed t′ rl′ sl′ .verdict) p
+lone ed t rl sl m p t′ e rl′ sl′ =
+    subst (λ (x : List ℕ). Accepted (parseAbc ed x rl′ sl′) → partIn (parseAbc ed t rl sl .verdict) p ≡ partIn (parseAbc ed x rl′ sl′ .verdict) p) e (demand-3 ed t rl sl m .apart p rl′ sl′)
 
 -- what a part counts in the tally
 abbrev counted : Option Part → Option Counts
@@ -57,81 +59,89 @@ unfolding all
 tune-blocks = refl
 
 -- with a reading store of 600 bytes and a scratch store of 12,000
-tune-meant : Hypotheses tune 600 12000
+tune-meant : (ed : Edition) → Hypotheses ed tune 600 12000
 unfolding all
-tune-meant = meant-test 2 tune 600 12000 tt refl refl refl refl refl
+tune-meant First = meant-test First 2 tune 600 12000 tt refl refl refl refl refl
+tune-meant Second = meant-test Second 2 tune 600 12000 tt refl refl refl refl refl
 
 -- FIRST HALF: voice 2's block first, or last, and the same answer with the same bytes in both stores
-two-first : Swaps reader (one ∷ two ∷ three ∷ []) (two ∷ one ∷ three ∷ [])
+two-first : (ed : Edition) → Swaps (reader ed) (one ∷ two ∷ three ∷ []) (two ∷ one ∷ three ∷ [])
 unfolding all
-two-first = swap refl
+two-first ed = swap refl
 
 two-first-text : rebuilt tune (two ∷ one ∷ three ∷ []) ≡ ascii "V:1\nV:2\nL:1/8\nM:3/4\nK:G\nz2|\nV:2 % low\nGB d>c|[GB]4|]\nw: oh_ oh\nV:1\nFA|c2|\nw: one two three\nV:1\nA2 B|]\nw: four five\n"
 unfolding all
 two-first-text = refl
 
 pub two-first-same :
-    parseAbc (ascii "V:1\nV:2\nL:1/8\nM:3/4\nK:G\nz2|\nV:2 % low\nGB d>c|[GB]4|]\nw: oh_ oh\nV:1\nFA|c2|\nw: one two three\nV:1\nA2 B|]\nw: four five\n") 600 12000
-    ≡ parseAbc tune 600 12000
-two-first-same = exchange tune 600 12000 tune-meant (one ∷ two ∷ three ∷ []) (two ∷ one ∷ three ∷ []) tune-blocks two-first _ two-first-text
+    (ed : Edition) → parseAbc ed (ascii "V:1\nV:2\nL:1/8\nM:3/4\nK:G\nz2|\nV:2 % low\nGB d>c|[GB]4|]\nw: oh_ oh\nV:1\nFA|c2|\nw: one two three\nV:1\nA2 B|]\nw: four five\n") 600 12000
+    ≡ parseAbc ed tune 600 12000
+two-first-same ed = exchange ed tune 600 12000 (tune-meant ed) (one ∷ two ∷ three ∷ []) (two ∷ one ∷ three ∷ []) tune-blocks (two-first ed) _ two-first-text
 
-two-last : Swaps reader (one ∷ two ∷ three ∷ []) (one ∷ three ∷ two ∷ [])
+two-last : (ed : Edition) → Swaps (reader ed) (one ∷ two ∷ three ∷ []) (one ∷ three ∷ two ∷ [])
 unfolding all
-two-last = later (swap refl)
+two-last ed = later (swap refl)
 
 two-last-text : rebuilt tune (one ∷ three ∷ two ∷ []) ≡ ascii "V:1\nV:2\nL:1/8\nM:3/4\nK:G\nz2|\nV:1\nFA|c2|\nw: one two three\nV:1\nA2 B|]\nw: four five\nV:2 % low\nGB d>c|[GB]4|]\nw: oh_ oh\n"
 unfolding all
 two-last-text = refl
 
 pub two-last-same :
-    parseAbc (ascii "V:1\nV:2\nL:1/8\nM:3/4\nK:G\nz2|\nV:1\nFA|c2|\nw: one two three\nV:1\nA2 B|]\nw: four five\nV:2 % low\nGB d>c|[GB]4|]\nw: oh_ oh\n") 600 12000
-    ≡ parseAbc tune 600 12000
-two-last-same = exchange tune 600 12000 tune-meant (one ∷ two ∷ three ∷ []) (one ∷ three ∷ two ∷ []) tune-blocks two-last _ two-last-text
+    (ed : Edition) → parseAbc ed (ascii "V:1\nV:2\nL:1/8\nM:3/4\nK:G\nz2|\nV:1\nFA|c2|\nw: one two three\nV:1\nA2 B|]\nw: four five\nV:2 % low\nGB d>c|[GB]4|]\nw: oh_ oh\n") 600 12000
+    ≡ parseAbc ed tune 600 12000
+two-last-same ed = exchange ed tune 600 12000 (tune-meant ed) (one ∷ two ∷ three ∷ []) (one ∷ three ∷ two ∷ []) tune-blocks (two-last ed) _ two-last-text
 
 -- SECOND HALF: each voice's part as it is read without the other's blocks, with stores of other lengths
-one-text : onlyPart tune 0 ≡ ascii "V:1\nV:2\nL:1/8\nM:3/4\nK:G\nz2|\nV:1\nFA|c2|\nw: one two three\nV:1\nA2 B|]\nw: four five\n"
+one-text : (ed : Edition) → onlyPart ed tune 0 ≡ ascii "V:1\nV:2\nL:1/8\nM:3/4\nK:G\nz2|\nV:1\nFA|c2|\nw: one two three\nV:1\nA2 B|]\nw: four five\n"
 unfolding all
-one-text = refl
+one-text First = refl
+one-text Second = refl
 
-one-read : Accepted (parseAbc (ascii "V:1\nV:2\nL:1/8\nM:3/4\nK:G\nz2|\nV:1\nFA|c2|\nw: one two three\nV:1\nA2 B|]\nw: four five\n") 500 11000)
+one-read : (ed : Edition) → Accepted (parseAbc ed (ascii "V:1\nV:2\nL:1/8\nM:3/4\nK:G\nz2|\nV:1\nFA|c2|\nw: one two three\nV:1\nA2 B|]\nw: four five\n") 500 11000)
 unfolding all
-one-read = tt
+one-read First = tt
+one-read Second = tt
 
 pub one-alone :
-    partIn (parseAbc tune 600 12000 .verdict) 0
-    ≡ partIn (parseAbc (ascii "V:1\nV:2\nL:1/8\nM:3/4\nK:G\nz2|\nV:1\nFA|c2|\nw: one two three\nV:1\nA2 B|]\nw: four five\n") 500 11000 .verdict) 0
-one-alone = lone tune 600 12000 tune-meant 0 _ one-text 500 11000 one-read
+    (ed : Edition) → partIn (parseAbc ed tune 600 12000 .verdict) 0
+    ≡ partIn (parseAbc ed (ascii "V:1\nV:2\nL:1/8\nM:3/4\nK:G\nz2|\nV:1\nFA|c2|\nw: one two three\nV:1\nA2 B|]\nw: four five\n") 500 11000 .verdict) 0
+one-alone ed = lone ed tune 600 12000 (tune-meant ed) 0 _ (one-text ed) 500 11000 (one-read ed)
 
-two-text : onlyPart tune 1 ≡ ascii "V:1\nV:2\nL:1/8\nM:3/4\nK:G\nz2|\nV:2 % low\nGB d>c|[GB]4|]\nw: oh_ oh\n"
+two-text : (ed : Edition) → onlyPart ed tune 1 ≡ ascii "V:1\nV:2\nL:1/8\nM:3/4\nK:G\nz2|\nV:2 % low\nGB d>c|[GB]4|]\nw: oh_ oh\n"
 unfolding all
-two-text = refl
+two-text First = refl
+two-text Second = refl
 
-two-read : Accepted (parseAbc (ascii "V:1\nV:2\nL:1/8\nM:3/4\nK:G\nz2|\nV:2 % low\nGB d>c|[GB]4|]\nw: oh_ oh\n") 500 11000)
+two-read : (ed : Edition) → Accepted (parseAbc ed (ascii "V:1\nV:2\nL:1/8\nM:3/4\nK:G\nz2|\nV:2 % low\nGB d>c|[GB]4|]\nw: oh_ oh\n") 500 11000)
 unfolding all
-two-read = tt
+two-read First = tt
+two-read Second = tt
 
 pub two-alone :
-    partIn (parseAbc tune 600 12000 .verdict) 1
-    ≡ partIn (parseAbc (ascii "V:1\nV:2\nL:1/8\nM:3/4\nK:G\nz2|\nV:2 % low\nGB d>c|[GB]4|]\nw: oh_ oh\n") 500 11000 .verdict) 1
-two-alone = lone tune 600 12000 tune-meant 1 _ two-text 500 11000 two-read
+    (ed : Edition) → partIn (parseAbc ed tune 600 12000 .verdict) 1
+    ≡ partIn (parseAbc ed (ascii "V:1\nV:2\nL:1/8\nM:3/4\nK:G\nz2|\nV:2 % low\nGB d>c|[GB]4|]\nw: oh_ oh\n") 500 11000 .verdict) 1
+two-alone ed = lone ed tune 600 12000 (tune-meant ed) 1 _ (two-text ed) 500 11000 (two-read ed)
 
 -- by name
-two-known : elem (ascii "2") (voices tune) ≡ true
+two-known : (ed : Edition) → elem (ascii "2") (voices ed tune) ≡ true
 unfolding all
-two-known = refl
+two-known First = refl
+two-known Second = refl
 
-two-only : Accepted (parseAbc (onlyVoice tune (ascii "2")) 500 11000)
+two-only : (ed : Edition) → Accepted (parseAbc ed (onlyVoice tune (ascii "2")) 500 11000)
 unfolding all
-two-only = tt
+two-only First = tt
+two-only Second = tt
 
-pub two-by-name : partOf tune 600 12000 (ascii "2") ≡ partOf (onlyVoice tune (ascii "2")) 500 11000 (ascii "2")
-two-by-name = by-name tune 600 12000 tune-meant (ascii "2") two-known 500 11000 two-only
+pub two-by-name : (ed : Edition) → partOf ed tune 600 12000 (ascii "2") ≡ partOf ed (onlyVoice tune (ascii "2")) 500 11000 (ascii "2")
+two-by-name ed = by-name ed tune 600 12000 (tune-meant ed) (ascii "2") (two-known ed) 500 11000 (two-only ed)
 
 -- and what the parts are
-tune-parts : map counted (partIn (parseAbc tune 600 12000 .verdict) 0 ∷ partIn (parseAbc tune 600 12000 .verdict) 1 ∷ [])
+tune-parts : (ed : Edition) → map counted (partIn (parseAbc ed tune 600 12000 .verdict) 0 ∷ partIn (parseAbc ed tune 600 12000 .verdict) 1 ∷ [])
     ≡ some (record { measures = 3; sounded = 5; rests = 0; syllables = 5 }) ∷ some (record { measures = 3; sounded = 5; rests = 1; syllables = 2 }) ∷ []
 unfolding all
-tune-parts = refl
+tune-parts First = refl
+tune-parts Second = refl
 
 -- A VOICE WITH A LYRIC LINE AND NO MUSIC LINE: the condition, read literally, asks nothing of it
 abbrev pub hymn : List ℕ
@@ -150,55 +160,63 @@ hymn-blocks : blocks hymn ≡ words ∷ sound ∷ []
 unfolding all
 hymn-blocks = refl
 
-pub hymn-meant : Hypotheses hymn 100 10000
+pub hymn-meant : (ed : Edition) → Hypotheses ed hymn 100 10000
 unfolding all
-hymn-meant = meant-test 2 hymn 100 10000 tt refl refl refl refl refl
+hymn-meant First = meant-test First 2 hymn 100 10000 tt refl refl refl refl refl
+hymn-meant Second = meant-test Second 2 hymn 100 10000 tt refl refl refl refl refl
 
-sound-first : Swaps reader (words ∷ sound ∷ []) (sound ∷ words ∷ [])
+sound-first : (ed : Edition) → Swaps (reader ed) (words ∷ sound ∷ []) (sound ∷ words ∷ [])
 unfolding all
-sound-first = swap refl
+sound-first ed = swap refl
 
 hymn-text : rebuilt hymn (sound ∷ words ∷ []) ≡ hymn′
 unfolding all
 hymn-text = refl
 
-pub hymn-same : parseAbc hymn′ 100 10000 ≡ parseAbc hymn 100 10000
-hymn-same = exchange hymn 100 10000 hymn-meant (words ∷ sound ∷ []) (sound ∷ words ∷ []) hymn-blocks sound-first hymn′ hymn-text
+pub hymn-same : (ed : Edition) → parseAbc ed hymn′ 100 10000 ≡ parseAbc ed hymn 100 10000
+hymn-same ed = exchange ed hymn 100 10000 (hymn-meant ed) (words ∷ sound ∷ []) (sound ∷ words ∷ []) hymn-blocks (sound-first ed) hymn′ hymn-text
 
-sound-text : onlyPart hymn 1 ≡ ascii "V:1\nV:2\nK:\nV:2\nA\n"
+sound-text : (ed : Edition) → onlyPart ed hymn 1 ≡ ascii "V:1\nV:2\nK:\nV:2\nA\n"
 unfolding all
-sound-text = refl
+sound-text First = refl
+sound-text Second = refl
 
-sound-read : Accepted (parseAbc (ascii "V:1\nV:2\nK:\nV:2\nA\n") 90 9900)
+sound-read : (ed : Edition) → Accepted (parseAbc ed (ascii "V:1\nV:2\nK:\nV:2\nA\n") 90 9900)
 unfolding all
-sound-read = tt
+sound-read First = tt
+sound-read Second = tt
 
-pub sound-alone : partIn (parseAbc hymn 100 10000 .verdict) 1 ≡ partIn (parseAbc (ascii "V:1\nV:2\nK:\nV:2\nA\n") 90 9900 .verdict) 1
-sound-alone = lone hymn 100 10000 hymn-meant 1 _ sound-text 90 9900 sound-read
+pub sound-alone : (ed : Edition) → partIn (parseAbc ed hymn 100 10000 .verdict) 1 ≡ partIn (parseAbc ed (ascii "V:1\nV:2\nK:\nV:2\nA\n") 90 9900 .verdict) 1
+sound-alone ed = lone ed hymn 100 10000 (hymn-meant ed) 1 _ (sound-text ed) 90 9900 (sound-read ed)
 
 -- although voice 1's lyric line has no music line before it, so that a condition that asks for one leaves this text out,
-pub hymn-not-sung : LyricsAfterMusic reader ⊥ (linesAt hymn 0) → ⊥
+pub hymn-not-sung : (ed : Edition) → LyricsAfterMusic (reader ed) ⊥ (linesAt ed hymn 0) → ⊥
 unfolding all
-hymn-not-sung h = ⊎-elim (λ x. x) (λ x. false≢true x) (h .1 .0 refl)
+hymn-not-sung First h = ⊎-elim (λ x. x) (λ x. false≢true x) (h .1 .0 refl)
+hymn-not-sung Second h = ⊎-elim (λ x. x) (λ x. false≢true x) (h .1 .0 refl)
 
 -- and although its items differ in the flag that says whether the part has a place for verses
 abbrev itemsFor : Out → ℕ → List Item
 itemsFor (refuse n l) p = []
 itemsFor (on s a) p = itemsOf p a
 
-pub hymn-items : itemsFor (scan (textLines hymn)) 0 ≡ voiceDeclared true ∷ reset ∷ reset ∷ lyricLine false [] ∷ []
+pub hymn-items : (ed : Edition) → itemsFor (scan ed (textLines hymn)) 0 ≡ voiceDeclared true ∷ reset ∷ reset ∷ lyricLine false [] ∷ []
 unfolding all
-hymn-items = refl
+hymn-items First = refl
+hymn-items Second = refl
 
-pub hymn-items-moved : itemsFor (scan (textLines hymn′)) 0 ≡ voiceDeclared true ∷ reset ∷ reset ∷ lyricLine true [] ∷ []
+pub hymn-items-moved : (ed : Edition) → itemsFor (scan ed (textLines hymn′)) 0 ≡ voiceDeclared true ∷ reset ∷ reset ∷ lyricLine true [] ∷ []
 unfolding all
-hymn-items-moved = refl
+hymn-items-moved First = refl
+hymn-items-moved Second = refl
 
 -- its part is empty either way
-pub hymn-part : partIn (parseAbc hymn 100 10000 .verdict) 0 ≡ some emptyPart
+pub hymn-part : (ed : Edition) → partIn (parseAbc ed hymn 100 10000 .verdict) 0 ≡ some emptyPart
 unfolding all
-hymn-part = refl
+hymn-part First = refl
+hymn-part Second = refl
 
-pub hymn-part-moved : partIn (parseAbc hymn′ 100 10000 .verdict) 0 ≡ some emptyPart
+pub hymn-part-moved : (ed : Edition) → partIn (parseAbc ed hymn′ 100 10000 .verdict) 0 ≡ some emptyPart
 unfolding all
-hymn-part-moved = refl
+hymn-part-moved First = refl
+hymn-part-moved Second = refl

@@ -1,5 +1,5 @@
 -- `parseAbc` AS A READER of the frame. What the frame wants to know of a line beside specs/Kinds: its notes, what is refused in it wherever it stands after the
--- first K: line, its items. A second edition would be a parameter here.
+-- first K: line, its items; one reader for each edition.
 use Prim.Native.Nat.{ℕ, _≤_}
 use mathlib.Core.Path.{_≡_}
 use mathlib.Core.Bool.{Bool, false}
@@ -7,6 +7,7 @@ use mathlib.Core.List.{List, [], _∷_}
 use mathlib.Core.Option.{Option}
 use lib.Dec.{ltb}
 use Rattle.standard.specs.Fields.{Meter}
+use Rattle.editions.specs.declared.Edition.{Edition}
 use Rattle.reader.specs.Tokens.{Effect, counts, refuses, setsUnit, setsMeter, noEffect}
 use Rattle.reader.specs.Lines.{Kind, blank, refused, lyric, voice, key, meter, unit, tune, other, music, kindOf}
 use Rattle.reader.specs.Scan.{Item, reset, keyChange, meterChange, lyricLine, musicLine, Env, ScanState, begin, mostNotes, mostLines, noteCount, lastUnit, lastMeter, firstRefusal, withUnnamed, voicesBefore, playOn, voiceOn, unitOn, act, step}
@@ -74,8 +75,8 @@ kindItems u m b (music hi es l) = musicLine u m l ∷ []
 abbrev pub Fits : ℕ → ℕ → Type 0
 Fits n sl = (n ≤ mostBytes) × (scratchNeeded n ≤ sl)
 
-abbrev pub reader : Reader
-reader =
+abbrev pub reader : Edition → Reader
+reader ed =
     record {
       State = ScanState;
       Env = Env;
@@ -84,7 +85,7 @@ reader =
       Ans = Outcome;
       Part = Option Part;
       start = begin;
-      step = step;
+      step = step ed;
       env = λ s. s .env;
       cur = λ s. s .part;
       unitIn = λ s. s .unit;
@@ -95,18 +96,18 @@ reader =
       Body = λ e. e .inHeader ≡ false;
       ids = λ e. e .voices;
       ident = identifier;
-      isMusic = λ r. isMusicLine (kindOf r);
-      noteCount = λ r. kindCost (kindOf r);
-      NotRefused = λ r. kindFine (kindOf r);
-      afterL = λ r. unitAfter (kindOf r);
-      afterM = λ r. meterAfter (kindOf r);
-      lineItems = λ e u m b r. kindItems u m b (kindOf r);
+      isMusic = λ r. isMusicLine (kindOf ed r);
+      noteCount = λ r. kindCost (kindOf ed r);
+      NotRefused = λ r. kindFine (kindOf ed r);
+      afterL = λ r. unitAfter (kindOf ed r);
+      afterM = λ r. meterAfter (kindOf ed r);
+      lineItems = λ e u m b r. kindItems u m b (kindOf ed r);
       isMusicItem = isMusic;
       maxNotes = mostNotes;
       maxLines = mostLines;
       early = early;
       late = refusedWith;
-      finish = finish;
+      finish = finish ed;
       Accepted = Accepted;
       partOf = λ w p. partIn (w .verdict) p;
       Fits = Fits;

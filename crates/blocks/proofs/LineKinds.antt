@@ -4,18 +4,21 @@ use Prim.Native.Nat.{ℕ}
 use mathlib.Core.Path.{_≡_, refl, sym, ap, subst, _∙_}
 use mathlib.Core.Bool.{Bool, true, false, cond, false≢true}
 use mathlib.Core.List.{List, [], _∷_}
+use mathlib.Core.Option.{Option, none, some}
 use lib.Dec.{eqb, ltb}
 use lib.ListN.{length, drop}
 use borrow.Author.Tests.{eqb-true}
 use Rattle.laws.specs.Lists.{isNil, foldl}
 use Rattle.laws.proofs.Bools.{by-test, and-left, and-right, cond-both, and-both, same-test, eqb-same}
+use Rattle.standard.specs.Keys.{Key}
+use Rattle.editions.specs.declared.Edition.{Edition}
 use Rattle.reader.proofs.TextLaws.{not-blank, trim-keep}
 use Rattle.reader.specs.Text as text
 use Rattle.reader.specs.Text.{whiteStep, white, isAllWhite, isBlank, cut, trim, clean, hasHigh}
 use Rattle.reader.specs.Fields as fields
-use Rattle.reader.specs.Fields.{unitOf, meterOf, middleWord}
+use Rattle.reader.specs.Fields.{unitOf, meterOf, middleWord, keyRefusal}
 use Rattle.reader.specs.Keys.{keyOf}
-use Rattle.reader.specs.Lines.{begins, isV, isK, isL, isM, isX, isLyric, isField, Kind, blank, refused, lyric, voice, key, meter, unit, tune, other, music, voiceKind, keyKind, fieldKind, lineKind, kindOf}
+use Rattle.reader.specs.Lines.{begins, isV, isK, isL, isM, isX, isLyric, isField, Kind, blank, refused, lyric, voice, key, meter, unit, tune, other, music, voiceKind, keyKind, fieldKind, lineKind, kindOf, kindUnless}
 use Rattle.blocks.specs.Kinds.{isMusicLine}
 use Rattle.blocks.specs.Demand.{identifier}
 
@@ -134,115 +137,131 @@ peel : {C : Type 0} (f : Kind → Bool) (b : Bool) (X Y : Kind) → (b ≡ true 
 peel f true X Y y n h = y refl h
 peel f false X Y y n h = n refl h
 
-voice-line : (x : List ℕ) → Names (fields.identifier x) (lineKind (86 ∷ (58 ∷ x)))
+voice-line : (ed : Edition) (x : List ℕ) → Names (fields.identifier x) (lineKind ed (86 ∷ (58 ∷ x)))
 unfolding lineKind fieldKind voiceKind hasHigh
-voice-line x =
+voice-line ed x =
     cond-both (Names (fields.identifier x)) (ltb 1048576 (length (86 ∷ (58 ∷ x)))) (refused 5) (cond (hasHigh (86 ∷ (58 ∷ x))) (refused 6) (voiceKind x)) tt
     (cond-both (Names (fields.identifier x)) (hasHigh (86 ∷ (58 ∷ x))) (refused 6) (voiceKind x) tt
     (cond-both (Names (fields.identifier x)) (isNil (fields.identifier x)) (refused 8) (voice (fields.identifier x) (middleWord x)) tt refl))
 
-key-line : (x : List ℕ) → Keyish (lineKind (75 ∷ (58 ∷ x)))
-unfolding lineKind fieldKind keyKind hasHigh
-key-line x =
-    cond-both Keyish (ltb 1048576 (length (75 ∷ (58 ∷ x)))) (refused 5) (cond (hasHigh (75 ∷ (58 ∷ x))) (refused 6) (keyKind x)) tt
-    (cond-both Keyish (hasHigh (75 ∷ (58 ∷ x))) (refused 6) (keyKind x) tt (cond-both Keyish (middleWord x) (refused 10) (key (keyOf x)) tt tt))
+-- a key, unless it is refused
+keyish-unless : (k : Key) (o : Option ℕ) → Keyish (kindUnless k o)
+unfolding kindUnless
+keyish-unless k none = tt
+keyish-unless k (some n) = tt
 
-pub voice-begins : (r : List ℕ) → isV r ≡ true → Names (identifier r) (kindOf r)
+voice-unless : (k : Key) (o : Option ℕ) → isVoice (kindUnless k o) ≡ true → ⊥
+unfolding kindUnless
+voice-unless k none h = false≢true h
+voice-unless k (some n) h = false≢true h
+
+sung-unless : (k : Key) (o : Option ℕ) → isSung (kindUnless k o) ≡ true → ⊥
+unfolding kindUnless
+sung-unless k none h = false≢true h
+sung-unless k (some n) h = false≢true h
+
+key-line : (ed : Edition) (x : List ℕ) → Keyish (lineKind ed (75 ∷ (58 ∷ x)))
+unfolding lineKind fieldKind keyKind hasHigh
+key-line ed x =
+    cond-both Keyish (ltb 1048576 (length (75 ∷ (58 ∷ x)))) (refused 5) (cond (hasHigh (75 ∷ (58 ∷ x))) (refused 6) (keyKind ed x)) tt
+    (cond-both Keyish (hasHigh (75 ∷ (58 ∷ x))) (refused 6) (keyKind ed x) tt (keyish-unless (keyOf ed x) (keyRefusal ed x)))
+
+pub voice-begins : (ed : Edition) (r : List ℕ) → isV r ≡ true → Names (identifier r) (kindOf ed r)
 unfolding kindOf lineKind fieldKind voiceKind keyKind hasHigh whiteStep
-voice-begins r h =
+voice-begins ed r h =
     let q : (x : List ℕ) × (r ≡ 86 ∷ (58 ∷ x)) = begins-shape 86 58 r h in
     let e : clean r ≡ 86 ∷ (58 ∷ trim (cut (q .0))) = ap clean (q .1) ∙ clean-two 86 58 (q .0) refl refl refl refl in
-    subst (λ (l : List ℕ). Names (fields.identifier (drop 2 l)) (lineKind l)) (sym e) (voice-line (trim (cut (q .0))))
+    subst (λ (l : List ℕ). Names (fields.identifier (drop 2 l)) (lineKind ed l)) (sym e) (voice-line ed (trim (cut (q .0))))
 
-pub key-begins : (r : List ℕ) → isK r ≡ true → Keyish (kindOf r)
+pub key-begins : (ed : Edition) (r : List ℕ) → isK r ≡ true → Keyish (kindOf ed r)
 unfolding kindOf lineKind fieldKind voiceKind keyKind hasHigh whiteStep
-key-begins r h =
+key-begins ed r h =
     let q : (x : List ℕ) × (r ≡ 75 ∷ (58 ∷ x)) = begins-shape 75 58 r h in
     let e : clean r ≡ 75 ∷ (58 ∷ trim (cut (q .0))) = ap clean (q .1) ∙ clean-two 75 58 (q .0) refl refl refl refl in
-    subst (λ (l : List ℕ). Keyish (lineKind l)) (sym e) (key-line (trim (cut (q .0))))
+    subst (λ (l : List ℕ). Keyish (lineKind ed l)) (sym e) (key-line ed (trim (cut (q .0))))
 
-pub lyric-begins : (r : List ℕ) → isLyric r ≡ true → isMusicLine (kindOf r) ≡ false
+pub lyric-begins : (ed : Edition) (r : List ℕ) → isLyric r ≡ true → isMusicLine (kindOf ed r) ≡ false
 unfolding kindOf lineKind fieldKind voiceKind keyKind hasHigh whiteStep
-lyric-begins r h =
+lyric-begins ed r h =
     let q : (x : List ℕ) × (r ≡ 119 ∷ (58 ∷ x)) = begins-shape 119 58 r h in
     let e : clean r ≡ 119 ∷ (58 ∷ trim (cut (q .0))) = ap clean (q .1) ∙ clean-two 119 58 (q .0) refl refl refl refl in
-    subst (λ (l : List ℕ). isMusicLine (lineKind l) ≡ false) (sym e) (line (trim (cut (q .0))))
+    subst (λ (l : List ℕ). isMusicLine (lineKind ed l) ≡ false) (sym e) (line (trim (cut (q .0))))
   where
-    line : (x : List ℕ) → isMusicLine (lineKind (119 ∷ (58 ∷ x))) ≡ false
+    line : (x : List ℕ) → isMusicLine (lineKind ed (119 ∷ (58 ∷ x))) ≡ false
     line x = cond-both (λ k. isMusicLine k ≡ false) (ltb 1048576 (length (119 ∷ (58 ∷ x)))) (refused 5) (lyric x) refl refl
 
-pub unit-begins : (r : List ℕ) → isL r ≡ true → isMusicLine (kindOf r) ≡ false
+pub unit-begins : (ed : Edition) (r : List ℕ) → isL r ≡ true → isMusicLine (kindOf ed r) ≡ false
 unfolding kindOf lineKind fieldKind voiceKind keyKind hasHigh whiteStep
-unit-begins r h =
+unit-begins ed r h =
     let q : (x : List ℕ) × (r ≡ 76 ∷ (58 ∷ x)) = begins-shape 76 58 r h in
     let e : clean r ≡ 76 ∷ (58 ∷ trim (cut (q .0))) = ap clean (q .1) ∙ clean-two 76 58 (q .0) refl refl refl refl in
-    subst (λ (l : List ℕ). isMusicLine (lineKind l) ≡ false) (sym e) (line (trim (cut (q .0))))
+    subst (λ (l : List ℕ). isMusicLine (lineKind ed l) ≡ false) (sym e) (line (trim (cut (q .0))))
   where
-    line : (x : List ℕ) → isMusicLine (lineKind (76 ∷ (58 ∷ x))) ≡ false
+    line : (x : List ℕ) → isMusicLine (lineKind ed (76 ∷ (58 ∷ x))) ≡ false
     line x =
         cond-both (λ k. isMusicLine k ≡ false) (ltb 1048576 (length (76 ∷ (58 ∷ x)))) (refused 5) (cond (hasHigh (76 ∷ (58 ∷ x))) (refused 6) (unit (unitOf x))) refl
         (cond-both (λ k. isMusicLine k ≡ false) (hasHigh (76 ∷ (58 ∷ x))) (refused 6) (unit (unitOf x)) refl refl)
 
-pub meter-begins : (r : List ℕ) → isM r ≡ true → isMusicLine (kindOf r) ≡ false
+pub meter-begins : (ed : Edition) (r : List ℕ) → isM r ≡ true → isMusicLine (kindOf ed r) ≡ false
 unfolding kindOf lineKind fieldKind voiceKind keyKind hasHigh whiteStep
-meter-begins r h =
+meter-begins ed r h =
     let q : (x : List ℕ) × (r ≡ 77 ∷ (58 ∷ x)) = begins-shape 77 58 r h in
     let e : clean r ≡ 77 ∷ (58 ∷ trim (cut (q .0))) = ap clean (q .1) ∙ clean-two 77 58 (q .0) refl refl refl refl in
-    subst (λ (l : List ℕ). isMusicLine (lineKind l) ≡ false) (sym e) (line (trim (cut (q .0))))
+    subst (λ (l : List ℕ). isMusicLine (lineKind ed l) ≡ false) (sym e) (line (trim (cut (q .0))))
   where
-    line : (x : List ℕ) → isMusicLine (lineKind (77 ∷ (58 ∷ x))) ≡ false
+    line : (x : List ℕ) → isMusicLine (lineKind ed (77 ∷ (58 ∷ x))) ≡ false
     line x =
         cond-both (λ k. isMusicLine k ≡ false) (ltb 1048576 (length (77 ∷ (58 ∷ x)))) (refused 5) (cond (hasHigh (77 ∷ (58 ∷ x))) (refused 6) (meter (meterOf x))) refl
         (cond-both (λ k. isMusicLine k ≡ false) (hasHigh (77 ∷ (58 ∷ x))) (refused 6) (meter (meterOf x)) refl refl)
 
 -- only a V: line is a voice, only a w: line is sung
-voice-field : (l : List ℕ) → isVoice (fieldKind l) ≡ true → isV l ≡ true
+voice-field : (ed : Edition) (l : List ℕ) → isVoice (fieldKind ed l) ≡ true → isV l ≡ true
 unfolding fieldKind voiceKind keyKind
-voice-field l =
+voice-field ed l =
     peel isVoice (isV l) _ _ (λ e h. e)
     (λ e.
     peel isVoice (isK l) _ _
-    (λ e₁. peel isVoice (hasHigh l) _ _ (λ e₂ h. absurd (false≢true h)) (λ e₂. peel isVoice (middleWord (drop 2 l)) _ _ (λ e₃ h. absurd (false≢true h)) (λ e₃ h. absurd (false≢true h))))
+    (λ e₁. peel isVoice (hasHigh l) _ _ (λ e₂ h. absurd (false≢true h)) (λ e₂ h. absurd (voice-unless (keyOf ed (drop 2 l)) (keyRefusal ed (drop 2 l)) h)))
     (λ e₁.
     peel isVoice (isL l) _ _ (λ e₂. peel isVoice (hasHigh l) _ _ (λ e₃ h. absurd (false≢true h)) (λ e₃ h. absurd (false≢true h)))
     (λ e₂.
     peel isVoice (isM l) _ _ (λ e₃. peel isVoice (hasHigh l) _ _ (λ e₄ h. absurd (false≢true h)) (λ e₄ h. absurd (false≢true h)))
     (λ e₃. peel isVoice (isX l) _ _ (λ e₄ h. absurd (false≢true h)) (λ e₄ h. absurd (false≢true h))))))
 
-pub voice-only : (r : List ℕ) → isVoice (kindOf r) ≡ true → isV r ≡ true
+pub voice-only : (ed : Edition) (r : List ℕ) → isVoice (kindOf ed r) ≡ true → isV r ≡ true
 unfolding kindOf lineKind
-voice-only r h =
+voice-only ed r h =
     clean-begins 86 58 r
     (peel isVoice (isNil (clean r)) _ _ (λ e k. absurd (false≢true k))
     (λ e.
     peel isVoice (ltb 1048576 (length (clean r))) _ _ (λ e₁ k. absurd (false≢true k))
     (λ e₁.
     peel isVoice (isLyric (clean r)) _ _ (λ e₂ k. absurd (false≢true k))
-    (λ e₂. peel isVoice (isField (clean r)) _ _ (λ e₃ k. voice-field (clean r) k) (λ e₃ k. absurd (false≢true k)))))
+    (λ e₂. peel isVoice (isField (clean r)) _ _ (λ e₃ k. voice-field ed (clean r) k) (λ e₃ k. absurd (false≢true k)))))
     h)
 
-sung-field : (l : List ℕ) → isSung (fieldKind l) ≡ true → ⊥
+sung-field : (ed : Edition) (l : List ℕ) → isSung (fieldKind ed l) ≡ true → ⊥
 unfolding fieldKind voiceKind keyKind
-sung-field l =
+sung-field ed l =
     peel isSung (isV l) _ _
     (λ e. peel isSung (hasHigh l) _ _ (λ e₁ h. false≢true h) (λ e₁. peel isSung (isNil (fields.identifier (drop 2 l))) _ _ (λ e₂ h. false≢true h) (λ e₂ h. false≢true h)))
     (λ e.
     peel isSung (isK l) _ _
-    (λ e₁. peel isSung (hasHigh l) _ _ (λ e₂ h. false≢true h) (λ e₂. peel isSung (middleWord (drop 2 l)) _ _ (λ e₃ h. false≢true h) (λ e₃ h. false≢true h)))
+    (λ e₁. peel isSung (hasHigh l) _ _ (λ e₂ h. false≢true h) (λ e₂ h. sung-unless (keyOf ed (drop 2 l)) (keyRefusal ed (drop 2 l)) h))
     (λ e₁.
     peel isSung (isL l) _ _ (λ e₂. peel isSung (hasHigh l) _ _ (λ e₃ h. false≢true h) (λ e₃ h. false≢true h))
     (λ e₂.
     peel isSung (isM l) _ _ (λ e₃. peel isSung (hasHigh l) _ _ (λ e₄ h. false≢true h) (λ e₄ h. false≢true h))
     (λ e₃. peel isSung (isX l) _ _ (λ e₄ h. false≢true h) (λ e₄ h. false≢true h)))))
 
-pub sung-only : (r : List ℕ) → isSung (kindOf r) ≡ true → isLyric r ≡ true
+pub sung-only : (ed : Edition) (r : List ℕ) → isSung (kindOf ed r) ≡ true → isLyric r ≡ true
 unfolding kindOf lineKind
-sung-only r h =
+sung-only ed r h =
     clean-begins 119 58 r
     (peel isSung (isNil (clean r)) _ _ (λ e k. absurd (false≢true k))
     (λ e.
     peel isSung (ltb 1048576 (length (clean r))) _ _ (λ e₁ k. absurd (false≢true k))
     (λ e₁.
     peel isSung (isLyric (clean r)) _ _ (λ e₂ k. e₂)
-    (λ e₂. peel isSung (isField (clean r)) _ _ (λ e₃ k. absurd (sung-field (clean r) k)) (λ e₃ k. absurd (false≢true k)))))
+    (λ e₂. peel isSung (isField (clean r)) _ _ (λ e₃ k. absurd (sung-field ed (clean r) k)) (λ e₃ k. absurd (false≢true k)))))
     h)

@@ -12,6 +12,8 @@ use Rattle.laws.specs.Orders.{Perm, nothing, more, here, there as further}
 use Rattle.laws.proofs.Bools.{both-true}
 use Rattle.laws.proofs.Lists.{All-filter, eqText-same}
 use Rattle.standard.specs.Bytes.{ascii}
+use Rattle.editions.specs.declared.Edition.{Edition}
+use Rattle.editions.specs.declared.Edition.the-variants.{First, Second}
 use Rattle.reader.specs.Lines.{kindOf}
 use Rattle.reader.specs.Steps.{TextLine}
 use Rattle.reader.specs.Part.{Part}
@@ -27,17 +29,17 @@ use Rattle.blocks.proofs.Tests.{Known, QuietL, QuietM, Behind, known-te
 use Rattle.blocks.proofs.Example.{hymn, hymn′}
 
 -- two texts whose readings differ in some byte; stores of 200 and 10,000 bytes
-abbrev pub Differ : List ℕ → List ℕ → Type 0
-Differ s t = parseAbc s 200 10000 .reading ≡ parseAbc t 200 10000 .reading → ⊥
+abbrev pub Differ : Edition → List ℕ → List ℕ → Type 0
+Differ ed s t = parseAbc ed s 200 10000 .reading ≡ parseAbc ed t 200 10000 .reading → ⊥
 
-differ : (s t : List ℕ) → eqText (parseAbc s 200 10000 .reading) (parseAbc t 200 10000 .reading) ≡ false → Differ s t
-differ s t h e =
-    both-true (eqText (parseAbc s 200 10000 .reading) (parseAbc t 200 10000 .reading))
-    (ap (λ (x : List ℕ). eqText x (parseAbc t 200 10000 .reading)) e ∙ eqText-same (parseAbc t 200 10000 .reading)) h
+differ : (ed : Edition) (s t : List ℕ) → eqText (parseAbc ed s 200 10000 .reading) (parseAbc ed t 200 10000 .reading) ≡ false → Differ ed s t
+differ ed s t h e =
+    both-true (eqText (parseAbc ed s 200 10000 .reading) (parseAbc ed t 200 10000 .reading))
+    (ap (λ (x : List ℕ). eqText x (parseAbc ed t 200 10000 .reading)) e ∙ eqText-same (parseAbc ed t 200 10000 .reading)) h
 
 -- an order of a text's blocks
-moved-to : (t : List ℕ) (old new : List (List TextLine)) → blocks t ≡ old → Swaps reader old new → Moved (blocks t) new
-moved-to t old new b s = subst (λ (l : List (List TextLine)). Moved l new) (sym b) (swaps-moved s)
+moved-to : (ed : Edition) (t : List ℕ) (old new : List (List TextLine)) → blocks t ≡ old → Swaps (reader ed) old new → Moved (blocks t) new
+moved-to ed t old new b s = subst (λ (l : List (List TextLine)). Moved l new) (sym b) (swaps-moved ed s)
 
 -- A LYRIC LINE BEFORE ITS VOICE'S FIRST MUSIC LINE: after voice 2's music line verses 1 and 2, before it verse 1 twice
 abbrev pub lyric-first : List ℕ
@@ -53,17 +55,19 @@ lyric-first-are : blocks lyric-first ≡ lyric-first-blocks
 unfolding all
 lyric-first-are = refl
 
-lyric-first-swaps : Swaps reader lyric-first-blocks lyric-first-moved
+lyric-first-swaps : (ed : Edition) → Swaps (reader ed) lyric-first-blocks lyric-first-moved
 unfolding all
-lyric-first-swaps = swap refl
+lyric-first-swaps ed = swap refl
 
-pub lyric-first-else : Accepted (parseAbc lyric-first 200 10000) × (endsLF lyric-first ≡ true) × Known lyric-first × QuietL lyric-first × QuietM lyric-first × Moved (blocks lyric-first) lyric-first-moved
+pub lyric-first-else : (ed : Edition) → Accepted (parseAbc ed lyric-first 200 10000) × (endsLF lyric-first ≡ true) × Known lyric-first × QuietL ed lyric-first × QuietM ed lyric-first × Moved (blocks lyric-first) lyric-first-moved
 unfolding all
-lyric-first-else = (tt, refl, known-test lyric-first refl, quietL-test lyric-first refl, quietM-test lyric-first refl, moved-to lyric-first lyric-first-blocks lyric-first-moved lyric-first-are lyric-first-swaps)
+lyric-first-else First = (tt, refl, known-test lyric-first refl, quietL-test First lyric-first refl, quietM-test First lyric-first refl, moved-to First lyric-first lyric-first-blocks lyric-first-moved lyric-first-are (lyric-first-swaps First))
+lyric-first-else Second = (tt, refl, known-test lyric-first refl, quietL-test Second lyric-first refl, quietM-test Second lyric-first refl, moved-to Second lyric-first lyric-first-blocks lyric-first-moved lyric-first-are (lyric-first-swaps Second))
 
-pub lyrics-needed : Differ lyric-first (rebuilt lyric-first lyric-first-moved)
+pub lyrics-needed : (ed : Edition) → Differ ed lyric-first (rebuilt lyric-first lyric-first-moved)
 unfolding all
-lyrics-needed = differ lyric-first (rebuilt lyric-first lyric-first-moved) refl
+lyrics-needed First = differ First lyric-first (rebuilt lyric-first lyric-first-moved) refl
+lyrics-needed Second = differ Second lyric-first (rebuilt lyric-first lyric-first-moved) refl
 
 -- the same where no block by itself has a lyric line before its first music line, but the voice has: the condition must go voice by voice
 abbrev pub by-block : List ℕ
@@ -79,23 +83,25 @@ by-block-are : blocks by-block ≡ by-block-blocks
 unfolding all
 by-block-are = refl
 
-by-block-swaps : Swaps reader by-block-blocks by-block-moved
+by-block-swaps : (ed : Edition) → Swaps (reader ed) by-block-blocks by-block-moved
 unfolding all
-by-block-swaps = twice (later (swap refl)) (swap refl)
+by-block-swaps ed = twice (later (swap refl)) (swap refl)
 
-by-block-each : (p : ℕ) → All LyricsBehind (blocksAt by-block p)
+by-block-each : (ed : Edition) (p : ℕ) → All (LyricsBehind ed) (blocksAt ed by-block p)
 unfolding all
-by-block-each p =
-    All-filter (λ b. eqb (indexOf (voiceOf b) (stateAtBlocks by-block .env .voices)) p) LyricsBehind by-block-blocks
-    (test-lyrics _ refl, (test-lyrics _ refl, (test-lyrics _ refl, tt)))
+by-block-each ed p =
+    All-filter (λ b. eqb (indexOf (voiceOf b) (stateAtBlocks ed by-block .env .voices)) p) (LyricsBehind ed) by-block-blocks
+    (test-lyrics ed _ refl, (test-lyrics ed _ refl, (test-lyrics ed _ refl, tt)))
 
-pub by-block-else : Accepted (parseAbc by-block 200 10000) × (endsLF by-block ≡ true) × Known by-block × QuietL by-block × QuietM by-block × ((p : ℕ) → All LyricsBehind (blocksAt by-block p)) × Moved (blocks by-block) by-block-moved
+pub by-block-else : (ed : Edition) → Accepted (parseAbc ed by-block 200 10000) × (endsLF by-block ≡ true) × Known by-block × QuietL ed by-block × QuietM ed by-block × ((p : ℕ) → All (LyricsBehind ed) (blocksAt ed by-block p)) × Moved (blocks by-block) by-block-moved
 unfolding all
-by-block-else = (tt, refl, known-test by-block refl, quietL-test by-block refl, quietM-test by-block refl, by-block-each, moved-to by-block by-block-blocks by-block-moved by-block-are by-block-swaps)
+by-block-else First = (tt, refl, known-test by-block refl, quietL-test First by-block refl, quietM-test First by-block refl, by-block-each First, moved-to First by-block by-block-blocks by-block-moved by-block-are (by-block-swaps First))
+by-block-else Second = (tt, refl, known-test by-block refl, quietL-test Second by-block refl, quietM-test Second by-block refl, by-block-each Second, moved-to Second by-block by-block-blocks by-block-moved by-block-are (by-block-swaps Second))
 
-pub by-block-not-enough : Differ by-block (rebuilt by-block by-block-moved)
+pub by-block-not-enough : (ed : Edition) → Differ ed by-block (rebuilt by-block by-block-moved)
 unfolding all
-by-block-not-enough = differ by-block (rebuilt by-block by-block-moved) refl
+by-block-not-enough First = differ First by-block (rebuilt by-block by-block-moved) refl
+by-block-not-enough Second = differ Second by-block (rebuilt by-block by-block-moved) refl
 
 -- A BLOCK THAT SETS L
 abbrev pub sets-L : List ℕ
@@ -111,17 +117,19 @@ sets-L-are : blocks sets-L ≡ sets-L-blocks
 unfolding all
 sets-L-are = refl
 
-sets-L-swaps : Swaps reader sets-L-blocks sets-L-moved
+sets-L-swaps : (ed : Edition) → Swaps (reader ed) sets-L-blocks sets-L-moved
 unfolding all
-sets-L-swaps = swap refl
+sets-L-swaps ed = swap refl
 
-pub sets-L-else : Accepted (parseAbc sets-L 200 10000) × (endsLF sets-L ≡ true) × Known sets-L × QuietM sets-L × Behind sets-L × Moved (blocks sets-L) sets-L-moved
+pub sets-L-else : (ed : Edition) → Accepted (parseAbc ed sets-L 200 10000) × (endsLF sets-L ≡ true) × Known sets-L × QuietM ed sets-L × Behind ed sets-L × Moved (blocks sets-L) sets-L-moved
 unfolding all
-sets-L-else = (tt, refl, known-test sets-L refl, quietM-test sets-L refl, behind-test 2 sets-L refl, moved-to sets-L sets-L-blocks sets-L-moved sets-L-are sets-L-swaps)
+sets-L-else First = (tt, refl, known-test sets-L refl, quietM-test First sets-L refl, behind-test First 2 sets-L refl, moved-to First sets-L sets-L-blocks sets-L-moved sets-L-are (sets-L-swaps First))
+sets-L-else Second = (tt, refl, known-test sets-L refl, quietM-test Second sets-L refl, behind-test Second 2 sets-L refl, moved-to Second sets-L sets-L-blocks sets-L-moved sets-L-are (sets-L-swaps Second))
 
-pub L-needed : Differ sets-L (rebuilt sets-L sets-L-moved)
+pub L-needed : (ed : Edition) → Differ ed sets-L (rebuilt sets-L sets-L-moved)
 unfolding all
-L-needed = differ sets-L (rebuilt sets-L sets-L-moved) refl
+L-needed First = differ First sets-L (rebuilt sets-L sets-L-moved) refl
+L-needed Second = differ Second sets-L (rebuilt sets-L sets-L-moved) refl
 
 -- inline
 abbrev pub sets-inline : List ℕ
@@ -137,17 +145,19 @@ sets-inline-are : blocks sets-inline ≡ sets-inline-blocks
 unfolding all
 sets-inline-are = refl
 
-sets-inline-swaps : Swaps reader sets-inline-blocks sets-inline-moved
+sets-inline-swaps : (ed : Edition) → Swaps (reader ed) sets-inline-blocks sets-inline-moved
 unfolding all
-sets-inline-swaps = swap refl
+sets-inline-swaps ed = swap refl
 
-pub sets-inline-else : Accepted (parseAbc sets-inline 200 10000) × (endsLF sets-inline ≡ true) × Known sets-inline × QuietM sets-inline × Behind sets-inline × Moved (blocks sets-inline) sets-inline-moved
+pub sets-inline-else : (ed : Edition) → Accepted (parseAbc ed sets-inline 200 10000) × (endsLF sets-inline ≡ true) × Known sets-inline × QuietM ed sets-inline × Behind ed sets-inline × Moved (blocks sets-inline) sets-inline-moved
 unfolding all
-sets-inline-else = (tt, refl, known-test sets-inline refl, quietM-test sets-inline refl, behind-test 2 sets-inline refl, moved-to sets-inline sets-inline-blocks sets-inline-moved sets-inline-are sets-inline-swaps)
+sets-inline-else First = (tt, refl, known-test sets-inline refl, quietM-test First sets-inline refl, behind-test First 2 sets-inline refl, moved-to First sets-inline sets-inline-blocks sets-inline-moved sets-inline-are (sets-inline-swaps First))
+sets-inline-else Second = (tt, refl, known-test sets-inline refl, quietM-test Second sets-inline refl, behind-test Second 2 sets-inline refl, moved-to Second sets-inline sets-inline-blocks sets-inline-moved sets-inline-are (sets-inline-swaps Second))
 
-pub inline-needed : Differ sets-inline (rebuilt sets-inline sets-inline-moved)
+pub inline-needed : (ed : Edition) → Differ ed sets-inline (rebuilt sets-inline sets-inline-moved)
 unfolding all
-inline-needed = differ sets-inline (rebuilt sets-inline sets-inline-moved) refl
+inline-needed First = differ First sets-inline (rebuilt sets-inline sets-inline-moved) refl
+inline-needed Second = differ Second sets-inline (rebuilt sets-inline sets-inline-moved) refl
 
 -- a field that leaves one value as it found it and not another: `L:1/8`, which leaves 8, where L is 1/4
 abbrev pub at-eight : List ℕ
@@ -163,17 +173,19 @@ at-eight-are : blocks at-eight ≡ at-eight-blocks
 unfolding all
 at-eight-are = refl
 
-at-eight-swaps : Swaps reader at-eight-blocks at-eight-moved
+at-eight-swaps : (ed : Edition) → Swaps (reader ed) at-eight-blocks at-eight-moved
 unfolding all
-at-eight-swaps = swap refl
+at-eight-swaps ed = swap refl
 
-pub at-eight-else : Accepted (parseAbc at-eight 200 10000) × (endsLF at-eight ≡ true) × Known at-eight × QuietM at-eight × Behind at-eight × All (All (λ r. unitAfter (kindOf r) 8 ≡ 8)) (blocks at-eight) × Moved (blocks at-eight) at-eight-moved
+pub at-eight-else : (ed : Edition) → Accepted (parseAbc ed at-eight 200 10000) × (endsLF at-eight ≡ true) × Known at-eight × QuietM ed at-eight × Behind ed at-eight × All (All (λ r. unitAfter (kindOf ed r) 8 ≡ 8)) (blocks at-eight) × Moved (blocks at-eight) at-eight-moved
 unfolding all
-at-eight-else = (tt, refl, known-test at-eight refl, quietM-test at-eight refl, behind-test 2 at-eight refl, ((refl, (refl, tt)), ((refl, (refl, tt)), tt)), moved-to at-eight at-eight-blocks at-eight-moved at-eight-are at-eight-swaps)
+at-eight-else First = (tt, refl, known-test at-eight refl, quietM-test First at-eight refl, behind-test First 2 at-eight refl, ((refl, (refl, tt)), ((refl, (refl, tt)), tt)), moved-to First at-eight at-eight-blocks at-eight-moved at-eight-are (at-eight-swaps First))
+at-eight-else Second = (tt, refl, known-test at-eight refl, quietM-test Second at-eight refl, behind-test Second 2 at-eight refl, ((refl, (refl, tt)), ((refl, (refl, tt)), tt)), moved-to Second at-eight at-eight-blocks at-eight-moved at-eight-are (at-eight-swaps Second))
 
-pub whatever-needed : Differ at-eight (rebuilt at-eight at-eight-moved)
+pub whatever-needed : (ed : Edition) → Differ ed at-eight (rebuilt at-eight at-eight-moved)
 unfolding all
-whatever-needed = differ at-eight (rebuilt at-eight at-eight-moved) refl
+whatever-needed First = differ First at-eight (rebuilt at-eight at-eight-moved) refl
+whatever-needed Second = differ Second at-eight (rebuilt at-eight at-eight-moved) refl
 
 -- A BLOCK THAT SETS M
 abbrev pub sets-M : List ℕ
@@ -189,17 +201,19 @@ sets-M-are : blocks sets-M ≡ sets-M-blocks
 unfolding all
 sets-M-are = refl
 
-sets-M-swaps : Swaps reader sets-M-blocks sets-M-moved
+sets-M-swaps : (ed : Edition) → Swaps (reader ed) sets-M-blocks sets-M-moved
 unfolding all
-sets-M-swaps = swap refl
+sets-M-swaps ed = swap refl
 
-pub sets-M-else : Accepted (parseAbc sets-M 200 10000) × (endsLF sets-M ≡ true) × Known sets-M × QuietL sets-M × Behind sets-M × Moved (blocks sets-M) sets-M-moved
+pub sets-M-else : (ed : Edition) → Accepted (parseAbc ed sets-M 200 10000) × (endsLF sets-M ≡ true) × Known sets-M × QuietL ed sets-M × Behind ed sets-M × Moved (blocks sets-M) sets-M-moved
 unfolding all
-sets-M-else = (tt, refl, known-test sets-M refl, quietL-test sets-M refl, behind-test 2 sets-M refl, moved-to sets-M sets-M-blocks sets-M-moved sets-M-are sets-M-swaps)
+sets-M-else First = (tt, refl, known-test sets-M refl, quietL-test First sets-M refl, behind-test First 2 sets-M refl, moved-to First sets-M sets-M-blocks sets-M-moved sets-M-are (sets-M-swaps First))
+sets-M-else Second = (tt, refl, known-test sets-M refl, quietL-test Second sets-M refl, behind-test Second 2 sets-M refl, moved-to Second sets-M sets-M-blocks sets-M-moved sets-M-are (sets-M-swaps Second))
 
-pub M-needed : Differ sets-M (rebuilt sets-M sets-M-moved)
+pub M-needed : (ed : Edition) → Differ ed sets-M (rebuilt sets-M sets-M-moved)
 unfolding all
-M-needed = differ sets-M (rebuilt sets-M sets-M-moved) refl
+M-needed First = differ First sets-M (rebuilt sets-M sets-M-moved) refl
+M-needed Second = differ Second sets-M (rebuilt sets-M sets-M-moved) refl
 
 -- VOICES NOT NAMED BEFORE THE FIRST K: LINE: the parts are numbered by first mention. (The lyric condition, which goes by the voices known where the first block
 -- begins, holds of every part: there is no lyric line)
@@ -216,17 +230,19 @@ unnamed-are : blocks unnamed ≡ unnamed-blocks
 unfolding all
 unnamed-are = refl
 
-unnamed-swaps : Swaps reader unnamed-blocks unnamed-moved
+unnamed-swaps : (ed : Edition) → Swaps (reader ed) unnamed-blocks unnamed-moved
 unfolding all
-unnamed-swaps = swap refl
+unnamed-swaps ed = swap refl
 
-pub unnamed-else : Accepted (parseAbc unnamed 200 10000) × (endsLF unnamed ≡ true) × QuietL unnamed × QuietM unnamed × Behind unnamed × Moved (blocks unnamed) unnamed-moved
+pub unnamed-else : (ed : Edition) → Accepted (parseAbc ed unnamed 200 10000) × (endsLF unnamed ≡ true) × QuietL ed unnamed × QuietM ed unnamed × Behind ed unnamed × Moved (blocks unnamed) unnamed-moved
 unfolding all
-unnamed-else = (tt, refl, quietL-test unnamed refl, quietM-test unnamed refl, behind-test 2 unnamed refl, moved-to unnamed unnamed-blocks unnamed-moved unnamed-are unnamed-swaps)
+unnamed-else First = (tt, refl, quietL-test First unnamed refl, quietM-test First unnamed refl, behind-test First 2 unnamed refl, moved-to First unnamed unnamed-blocks unnamed-moved unnamed-are (unnamed-swaps First))
+unnamed-else Second = (tt, refl, quietL-test Second unnamed refl, quietM-test Second unnamed refl, behind-test Second 2 unnamed refl, moved-to Second unnamed unnamed-blocks unnamed-moved unnamed-are (unnamed-swaps Second))
 
-pub known-needed : Differ unnamed (rebuilt unnamed unnamed-moved)
+pub known-needed : (ed : Edition) → Differ ed unnamed (rebuilt unnamed unnamed-moved)
 unfolding all
-known-needed = differ unnamed (rebuilt unnamed unnamed-moved) refl
+known-needed First = differ First unnamed (rebuilt unnamed unnamed-moved) refl
+known-needed Second = differ Second unnamed (rebuilt unnamed unnamed-moved) refl
 
 -- NO LINE FEED AT THE END: the last line and the next block's first become one
 abbrev pub open-end : List ℕ
@@ -242,17 +258,19 @@ open-end-are : blocks open-end ≡ open-end-blocks
 unfolding all
 open-end-are = refl
 
-open-end-swaps : Swaps reader open-end-blocks open-end-moved
+open-end-swaps : (ed : Edition) → Swaps (reader ed) open-end-blocks open-end-moved
 unfolding all
-open-end-swaps = swap refl
+open-end-swaps ed = swap refl
 
-pub open-end-else : Accepted (parseAbc open-end 200 10000) × Known open-end × QuietL open-end × QuietM open-end × Behind open-end × Moved (blocks open-end) open-end-moved
+pub open-end-else : (ed : Edition) → Accepted (parseAbc ed open-end 200 10000) × Known open-end × QuietL ed open-end × QuietM ed open-end × Behind ed open-end × Moved (blocks open-end) open-end-moved
 unfolding all
-open-end-else = (tt, known-test open-end refl, quietL-test open-end refl, quietM-test open-end refl, behind-test 2 open-end refl, moved-to open-end open-end-blocks open-end-moved open-end-are open-end-swaps)
+open-end-else First = (tt, known-test open-end refl, quietL-test First open-end refl, quietM-test First open-end refl, behind-test First 2 open-end refl, moved-to First open-end open-end-blocks open-end-moved open-end-are (open-end-swaps First))
+open-end-else Second = (tt, known-test open-end refl, quietL-test Second open-end refl, quietM-test Second open-end refl, behind-test Second 2 open-end refl, moved-to Second open-end open-end-blocks open-end-moved open-end-are (open-end-swaps Second))
 
-pub ended-needed : Differ open-end (rebuilt open-end open-end-moved)
+pub ended-needed : (ed : Edition) → Differ ed open-end (rebuilt open-end open-end-moved)
 unfolding all
-ended-needed = differ open-end (rebuilt open-end open-end-moved) refl
+ended-needed First = differ First open-end (rebuilt open-end open-end-moved) refl
+ended-needed Second = differ Second open-end (rebuilt open-end open-end-moved) refl
 
 -- A TEXT THAT IS NOT ACCEPTED: what is refused first, the pass list (17) or the X: line (7), is the order's
 abbrev pub refused : List ℕ
@@ -268,21 +286,23 @@ refused-are : blocks refused ≡ refused-blocks
 unfolding all
 refused-are = refl
 
-refused-swaps : Swaps reader refused-blocks refused-moved
+refused-swaps : (ed : Edition) → Swaps (reader ed) refused-blocks refused-moved
 unfolding all
-refused-swaps = swap refl
+refused-swaps ed = swap refl
 
-pub refused-else : (endsLF refused ≡ true) × Known refused × QuietL refused × QuietM refused × Behind refused × Moved (blocks refused) refused-moved
+pub refused-else : (ed : Edition) → (endsLF refused ≡ true) × Known refused × QuietL ed refused × QuietM ed refused × Behind ed refused × Moved (blocks refused) refused-moved
 unfolding all
-refused-else = (refl, known-test refused refl, quietL-test refused refl, quietM-test refused refl, behind-test 2 refused refl, moved-to refused refused-blocks refused-moved refused-are refused-swaps)
+refused-else First = (refl, known-test refused refl, quietL-test First refused refl, quietM-test First refused refl, behind-test First 2 refused refl, moved-to First refused refused-blocks refused-moved refused-are (refused-swaps First))
+refused-else Second = (refl, known-test refused refl, quietL-test Second refused refl, quietM-test Second refused refl, behind-test Second 2 refused refl, moved-to Second refused refused-blocks refused-moved refused-are (refused-swaps Second))
 
 abbrev number : Verdict → ℕ
 number (refusal n l) = n
 number (reading ps) = 0
 
-pub accepted-needed : parseAbc refused 200 10000 .verdict ≡ parseAbc (rebuilt refused refused-moved) 200 10000 .verdict → ⊥
+pub accepted-needed : (ed : Edition) → parseAbc ed refused 200 10000 .verdict ≡ parseAbc ed (rebuilt refused refused-moved) 200 10000 .verdict → ⊥
 unfolding all
-accepted-needed h = let z : _≡_ {A = ℕ} 17 7 = ap number h in omega (arith, z)
+accepted-needed First h = let z : _≡_ {A = ℕ} 17 7 = ap number h in omega (arith, z)
+accepted-needed Second h = let z : _≡_ {A = ℕ} 17 7 = ap number h in omega (arith, z)
 
 -- A VOICE'S OWN BLOCKS NOT KEPT IN ORDER: all that is supposed of the text holds, and the new blocks are the old ones in another order
 abbrev pub own-order : List ℕ
@@ -291,32 +311,37 @@ own-order = ascii "V:1\nK:\nV:1\nA\nV:1\nB\n"
 abbrev pub own-order-moved : List (List TextLine)
 own-order-moved = (ascii "V:1\n" ∷ ascii "B\n" ∷ []) ∷ (ascii "V:1\n" ∷ ascii "A\n" ∷ []) ∷ []
 
-pub own-order-meant : Hypotheses own-order 200 10000
+pub own-order-meant : (ed : Edition) → Hypotheses ed own-order 200 10000
 unfolding all
-own-order-meant = meant-test 1 own-order 200 10000 tt refl refl refl refl refl
+own-order-meant First = meant-test First 1 own-order 200 10000 tt refl refl refl refl refl
+own-order-meant Second = meant-test Second 1 own-order 200 10000 tt refl refl refl refl refl
 
 pub own-order-perm : Perm (blocks own-order) own-order-moved
 unfolding all
 own-order-perm = more (more nothing here) (further here)
 
-pub order-needed : Differ own-order (rebuilt own-order own-order-moved)
+pub order-needed : (ed : Edition) → Differ ed own-order (rebuilt own-order own-order-moved)
 unfolding all
-order-needed = differ own-order (rebuilt own-order own-order-moved) refl
+order-needed First = differ First own-order (rebuilt own-order own-order-moved) refl
+order-needed Second = differ Second own-order (rebuilt own-order own-order-moved) refl
 
 -- "GIVEN STORES OF THE SAME LENGTHS": with a shorter reading store the moved text is refused (16)
-pub lengths-needed : parseAbc hymn′ 20 10000 .verdict ≡ parseAbc hymn 100 10000 .verdict → ⊥
+pub lengths-needed : (ed : Edition) → parseAbc ed hymn′ 20 10000 .verdict ≡ parseAbc ed hymn 100 10000 .verdict → ⊥
 unfolding all
-lengths-needed h = let z : _≡_ {A = ℕ} 16 0 = ap number h in omega (arith, z)
+lengths-needed First h = let z : _≡_ {A = ℕ} 16 0 = ap number h in omega (arith, z)
+lengths-needed Second h = let z : _≡_ {A = ℕ} 16 0 = ap number h in omega (arith, z)
 
 -- "IF THAT TEXT IS ACCEPTED": of a text that is meant, the text of a voice without music has no measure, so no part (refusal 1)
-pub alone-refused : parseAbc (onlyPart hymn 0) 100 10000 .verdict ≡ refusal 1 0
+pub alone-refused : (ed : Edition) → parseAbc ed (onlyPart ed hymn 0) 100 10000 .verdict ≡ refusal 1 0
 unfolding all
-alone-refused = refl
+alone-refused First = refl
+alone-refused Second = refl
 
 abbrev isSome : Option Part → ℕ
 isSome none = 0
 isSome (some x) = 1
 
-pub alone-needed : partIn (parseAbc hymn 100 10000 .verdict) 0 ≡ partIn (parseAbc (onlyPart hymn 0) 100 10000 .verdict) 0 → ⊥
+pub alone-needed : (ed : Edition) → partIn (parseAbc ed hymn 100 10000 .verdict) 0 ≡ partIn (parseAbc ed (onlyPart ed hymn 0) 100 10000 .verdict) 0 → ⊥
 unfolding all
-alone-needed h = let z : _≡_ {A = ℕ} 1 0 = ap isSome h in omega (arith, z)
+alone-needed First h = let z : _≡_ {A = ℕ} 1 0 = ap isSome h in omega (arith, z)
+alone-needed Second h = let z : _≡_ {A = ℕ} 1 0 = ap isSome h in omega (arith, z)

@@ -12,6 +12,7 @@ use Rattle.laws.specs.Lists.{All, elem, indexOf}
 use Rattle.laws.proofs.Bools.{by-test, never-true, some≢none}
 use Rattle.laws.proofs.Lists.{elem-left, has-last}
 use Rattle.standard.specs.Fields.{Meter}
+use Rattle.editions.specs.declared.Edition.{Edition}
 use Rattle.reader.specs.Tokens.{Effect, counts, refuses, setsUnit, setsMeter, noEffect}
 use Rattle.reader.specs.Lines.{isV, isLyric, Kind, blank, refused, lyric, voice, key, meter, unit, tune, other, music, kindOf}
 use Rattle.reader.specs.Steps.{TextLine, refuse, on, tag, itemsOf}
@@ -419,29 +420,29 @@ act-no-music s (music true es l) false p = tt
 act-no-music s (music false es l) false p = play-no-music s es l (firstRefusal (s .notes) es) p
 
 -- no line is both music and a lyric line
-pub music-lyric : (r : TextLine) → isMusicLine (kindOf r) ≡ true → isLyric r ≡ false
-music-lyric r h = never-true (isLyric r) (λ x. true≢false (sym h ∙ lyric-begins r x))
+pub music-lyric : (ed : Edition) (r : TextLine) → isMusicLine (kindOf ed r) ≡ true → isLyric r ≡ false
+music-lyric ed r h = never-true (isLyric r) (λ x. true≢false (sym h ∙ lyric-begins ed r x))
 
 -- A LINE
 
-pub step-on : (s t : ScanState) (r : List ℕ) (a : Items) → step s r ≡ on t a → (s .lines < mostLines) × (act s (kindOf r) (s .env .inHeader) ≡ on t a)
+pub step-on : (ed : Edition) (s t : ScanState) (r : List ℕ) (a : Items) → step ed s r ≡ on t a → (s .lines < mostLines) × (act s (kindOf ed r) (s .env .inHeader) ≡ on t a)
 unfolding step
-step-on s t r a e =
+step-on ed s t r a e =
     by-test
     (ltb (s .lines) mostLines)
-    (λ x. (ltb-true (s .lines) mostLines x, sym (ap (λ (b : Bool). cond b (act s (kindOf r) (s .env .inHeader)) (refuse 4 (suc (s .lines)))) x) ∙ e))
-    (λ x. absurd (refuse-on 4 (suc (s .lines)) t a (sym (ap (λ (b : Bool). cond b (act s (kindOf r) (s .env .inHeader)) (refuse 4 (suc (s .lines)))) x) ∙ e)))
+    (λ x. (ltb-true (s .lines) mostLines x, sym (ap (λ (b : Bool). cond b (act s (kindOf ed r) (s .env .inHeader)) (refuse 4 (suc (s .lines)))) x) ∙ e))
+    (λ x. absurd (refuse-on 4 (suc (s .lines)) t a (sym (ap (λ (b : Bool). cond b (act s (kindOf ed r) (s .env .inHeader)) (refuse 4 (suc (s .lines)))) x) ∙ e)))
 
-pub facts : (s t : ScanState) (r : List ℕ) (a : Items) → step s r ≡ on t a → Facts s (kindOf r) (s .env .inHeader) t
-facts s t r a e = act-facts s (kindOf r) (s .env .inHeader) refl t a (step-on s t r a e .1)
+pub facts : (ed : Edition) (s t : ScanState) (r : List ℕ) (a : Items) → step ed s r ≡ on t a → Facts s (kindOf ed r) (s .env .inHeader) t
+facts ed s t r a e = act-facts s (kindOf ed r) (s .env .inHeader) refl t a (step-on ed s t r a e .1)
 
 -- from `act` to `step`
-pub step-through : (s : ScanState) (r : List ℕ) (p : ℕ) → s .env .inHeader ≡ false → s .lines < mostLines → Through s (kindOf r) p → GoesThrough reader s r p
+pub step-through : (ed : Edition) (s : ScanState) (r : List ℕ) (p : ℕ) → s .env .inHeader ≡ false → s .lines < mostLines → Through s (kindOf ed r) p → GoesThrough (reader ed) s r p
 unfolding step
-step-through s r p hb hl q = (
+step-through ed s r p hb hl q = (
   q .0,
-  ap (λ (b : Bool). cond b (act s (kindOf r) (s .env .inHeader)) (refuse 4 (suc (s .lines)))) (lt-ltb (s .lines) mostLines hl)
-      ∙ ap (act s (kindOf r)) hb
+  ap (λ (b : Bool). cond b (act s (kindOf ed r) (s .env .inHeader)) (refuse 4 (suc (s .lines)))) (lt-ltb (s .lines) mostLines hl)
+      ∙ ap (act s (kindOf ed r)) hb
       ∙ q .1,
   q .2,
   q .3,
@@ -450,20 +451,20 @@ step-through s r p hb hl q = (
 )
 
 -- WHAT THE WORDS OF specs/Kinds SAY OF THE SCAN: a line after the first K: line that goes through leaves L and M as `unitAfter` and `meterAfter` say
-pub unit-after : (s t : ScanState) (r : TextLine) (a : Items) → s .env .inHeader ≡ false → step s r ≡ on t a → t .unit ≡ unitAfter (kindOf r) (s .unit)
-unit-after s t r a b e = facts s t r a e .units b
+pub unit-after : (ed : Edition) (s t : ScanState) (r : TextLine) (a : Items) → s .env .inHeader ≡ false → step ed s r ≡ on t a → t .unit ≡ unitAfter (kindOf ed r) (s .unit)
+unit-after ed s t r a b e = facts ed s t r a e .units b
 
-pub meter-after : (s t : ScanState) (r : TextLine) (a : Items) → s .env .inHeader ≡ false → step s r ≡ on t a → t .meter ≡ meterAfter (kindOf r) (s .meter)
-meter-after s t r a b e = facts s t r a e .meters b
+pub meter-after : (ed : Edition) (s t : ScanState) (r : TextLine) (a : Items) → s .env .inHeader ≡ false → step ed s r ≡ on t a → t .meter ≡ meterAfter (kindOf ed r) (s .meter)
+meter-after ed s t r a b e = facts ed s t r a e .meters b
 
 -- and its part has a place for verses if it is music
-pub place-made : (s t : ScanState) (r : TextLine) (a : Items) → s .env .inHeader ≡ false → isMusicLine (kindOf r) ≡ true → step s r ≡ on t a → s .part < t .places
-place-made s t r a b h e = facts s t r a e .versePlace b h
+pub place-made : (ed : Edition) (s t : ScanState) (r : TextLine) (a : Items) → s .env .inHeader ≡ false → isMusicLine (kindOf ed r) ≡ true → step ed s r ≡ on t a → s .part < t .places
+place-made ed s t r a b h e = facts ed s t r a e .versePlace b h
 
 -- no V: line, no voice
-pub no-voice : (r : TextLine) → isV r ≡ false → isVoice (kindOf r) ≡ false
-no-voice r h = never-true (isVoice (kindOf r)) (λ x. true≢false (sym (voice-only r x) ∙ h))
+pub no-voice : (ed : Edition) (r : TextLine) → isV r ≡ false → isVoice (kindOf ed r) ≡ false
+no-voice ed r h = never-true (isVoice (kindOf ed r)) (λ x. true≢false (sym (voice-only ed r x) ∙ h))
 
 -- "or, other than by its V: line, the voice, inline included": after the first K: line nothing but a V: line changes the voice that is read
-pub only-V : (s t : ScanState) (r : TextLine) (a : Items) → s .env .inHeader ≡ false → isV r ≡ false → step s r ≡ on t a → t .part ≡ s .part
-only-V s t r a b h e = facts s t r a e .stays b (no-voice r h)
+pub only-V : (ed : Edition) (s t : ScanState) (r : TextLine) (a : Items) → s .env .inHeader ≡ false → isV r ≡ false → step ed s r ≡ on t a → t .part ≡ s .part
+only-V ed s t r a b h e = facts ed s t r a e .stays b (no-voice ed r h)

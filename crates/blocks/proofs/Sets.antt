@@ -11,6 +11,8 @@ use Rattle.laws.proofs.Bools.{not-true, and-left, and-right, and-both, both-tru
 use Rattle.laws.proofs.Lists.{all-All, All-map}
 use Rattle.standard.specs.Bytes.{ascii}
 use Rattle.standard.specs.Fields.{Meter}
+use Rattle.editions.specs.declared.Edition.{Edition}
+use Rattle.editions.specs.declared.Edition.the-variants.{First, Second}
 use Rattle.reader.specs.Tokens.{Effect, counts, refuses, setsUnit, setsMeter, noEffect}
 use Rattle.reader.specs.Lines.{Kind, blank, refused, lyric, voice, key, meter, unit, tune, other, music, kindOf}
 use Rattle.reader.specs.Steps.{TextLine}
@@ -159,15 +161,15 @@ M-leaves other h = refl
 M-leaves (music hi es l) h = M-effects es h
 
 -- no field of the line, on its own line or inline, sets L or M
-abbrev pub noField : TextLine → Bool
-noField r = leavesL (kindOf r) && leavesM (kindOf r)
+abbrev pub noField : Edition → TextLine → Bool
+noField ed r = leavesL (kindOf ed r) && leavesM (kindOf ed r)
 
-pub sets-neither-field : (r : TextLine) → SetsNeither r → noField r ≡ true
-sets-neither-field r q = and-both (leavesL (kindOf r)) (leavesM (kindOf r)) (L-leaves (kindOf r) (q .0)) (M-leaves (kindOf r) (q .1))
+pub sets-neither-field : (ed : Edition) (r : TextLine) → SetsNeither ed r → noField ed r ≡ true
+sets-neither-field ed r q = and-both (leavesL (kindOf ed r)) (leavesM (kindOf ed r)) (L-leaves (kindOf ed r) (q .0)) (M-leaves (kindOf ed r) (q .1))
 
-pub field-sets-neither : (r : TextLine) → noField r ≡ true → SetsNeither r
-field-sets-neither r h =
-    (leaves-L (kindOf r) (and-left (leavesL (kindOf r)) (leavesM (kindOf r)) h), leaves-M (kindOf r) (and-right (leavesL (kindOf r)) (leavesM (kindOf r)) h))
+pub field-sets-neither : (ed : Edition) (r : TextLine) → noField ed r ≡ true → SetsNeither ed r
+field-sets-neither ed r h =
+    (leaves-L (kindOf ed r) (and-left (leavesL (kindOf ed r)) (leavesM (kindOf ed r)) h), leaves-M (kindOf ed r) (and-right (leavesL (kindOf ed r)) (leavesM (kindOf ed r)) h))
 
 -- DOCUMENT 01'S CASES
 -- a field that writes the present value sets it (000 begins with L 1/8 and M 4/4), and one that 000 cannot read but takes for 8 or 4/4 sets it too
@@ -219,19 +221,20 @@ leaving =
     ∷ ascii "V:1\n"
     ∷ []
 
-all-set : all (λ r. not (noField r)) setting ≡ true
+all-set : (ed : Edition) → all (λ r. not (noField ed r)) setting ≡ true
 unfolding reader.all
-all-set = refl
+all-set ed = refl
 
-all-leave : all noField leaving ≡ true
+all-leave : (ed : Edition) → all (noField ed) leaving ≡ true
 unfolding reader.all
-all-leave = refl
+all-leave First = refl
+all-leave Second = refl
 
-sets-what : (r : TextLine) → not (noField r) ≡ true → SetsNeither r → ⊥
-sets-what r h q = both-true (noField r) (sets-neither-field r q) (not-true (noField r) h)
+sets-what : (ed : Edition) (r : TextLine) → not (noField ed r) ≡ true → SetsNeither ed r → ⊥
+sets-what ed r h q = both-true (noField ed r) (sets-neither-field ed r q) (not-true (noField ed r) h)
 
-pub setting-sets : All (λ r. SetsNeither r → ⊥) setting
-setting-sets = All-map (λ r. not (noField r) ≡ true) (λ r. SetsNeither r → ⊥) sets-what setting (all-All (λ r. not (noField r)) setting all-set)
+pub setting-sets : (ed : Edition) → All (λ r. SetsNeither ed r → ⊥) setting
+setting-sets ed = All-map (λ r. not (noField ed r) ≡ true) (λ r. SetsNeither ed r → ⊥) (sets-what ed) setting (all-All (λ r. not (noField ed r)) setting (all-set ed))
 
-pub leaving-leaves : All SetsNeither leaving
-leaving-leaves = All-map (λ r. noField r ≡ true) SetsNeither field-sets-neither leaving (all-All noField leaving all-leave)
+pub leaving-leaves : (ed : Edition) → All (SetsNeither ed) leaving
+leaving-leaves ed = All-map (λ r. noField ed r ≡ true) (SetsNeither ed) (field-sets-neither ed) leaving (all-All (noField ed) leaving (all-leave ed))

@@ -11,6 +11,7 @@ use Rattle.laws.specs.Orders.{Perm}
 use Rattle.laws.proofs.Bools.{by-test, both-true}
 use Rattle.laws.proofs.Lists.{All-append, All-left, All-right, All-concat, All-uncat}
 use Rattle.laws.proofs.Orders.{All-perm, perm-nil}
+use Rattle.editions.specs.declared.Edition.{Edition}
 use Rattle.reader.specs.Text as text
 use Rattle.reader.specs.Text.{White, white, inC2, inE1, inE19A, inE2, inE280, inE281, inE3, inE380, whiteStep, isAllWhite, isBlank, textLines, cut, trim, clean}
 use Rattle.reader.specs.Lines.{isK}
@@ -86,34 +87,34 @@ pub clean-crlf : (l : List ℕ) → clean (l ++ (13 ∷ (10 ∷ []))) ≡ clean 
 clean-crlf l = ap clean (sym (append-assoc l (13 ∷ []) (10 ∷ []))) ∙ clean-lf (l ++ (13 ∷ [])) ∙ clean-end 13 white-cr refl l
 
 -- THE ORDER: what is moved is all there, as often, and nothing else; and it is just what exchanges of neighbours of different voices lead to
-pub moved-is-perm : (old new : List (List TextLine)) → Moved old new → Perm old new
-moved-is-perm = moves.moved-is-perm reader
+pub moved-is-perm : (ed : Edition) (old new : List (List TextLine)) → Moved old new → Perm old new
+moved-is-perm ed = moves.moved-is-perm (reader ed)
 
-pub moved-swaps : (old new : List (List TextLine)) → Moved old new → moves.Swaps reader old new
-moved-swaps = moves.moved-swaps reader
+pub moved-swaps : (ed : Edition) (old new : List (List TextLine)) → Moved old new → moves.Swaps (reader ed) old new
+moved-swaps ed = moves.moved-swaps (reader ed)
 
-pub swaps-moved : {old new : List (List TextLine)} → moves.Swaps reader old new → Moved old new
-swaps-moved = moves.swaps-moved reader
+pub swaps-moved : (ed : Edition) {old new : List (List TextLine)} → moves.Swaps (reader ed) old new → Moved old new
+swaps-moved ed = moves.swaps-moved (reader ed)
 
 -- THE LYRIC CONDITION: as the words have it; or, a lyric line with music after it has music before it; or, if some line is music, each lyric line has a music line before it;
 -- or a test. All four are one
-pub lyrics-step : (rs : List TextLine) → LyricsBehind rs → Stepwise reader rs
-lyrics-step = literal-stepwise reader music-lyric
+pub lyrics-step : (ed : Edition) (rs : List TextLine) → LyricsBehind ed rs → Stepwise (reader ed) rs
+lyrics-step ed = literal-stepwise (reader ed) (music-lyric ed)
 
-pub lyrics-between : (rs : List TextLine) → LyricsBehind rs → Between reader rs
-lyrics-between rs h = stepwise-between reader rs (lyrics-step rs h)
+pub lyrics-between : (ed : Edition) (rs : List TextLine) → LyricsBehind ed rs → Between (reader ed) rs
+lyrics-between ed rs h = stepwise-between (reader ed) rs (lyrics-step ed rs h)
 
-pub step-lyrics : (rs : List TextLine) → Stepwise reader rs → LyricsBehind rs
-step-lyrics rs h = between-literal reader rs (stepwise-between reader rs h)
+pub step-lyrics : (ed : Edition) (rs : List TextLine) → Stepwise (reader ed) rs → LyricsBehind ed rs
+step-lyrics ed rs h = between-literal (reader ed) rs (stepwise-between (reader ed) rs h)
 
-pub between-lyrics : (rs : List TextLine) → Between reader rs → LyricsBehind rs
-between-lyrics = between-literal reader
+pub between-lyrics : (ed : Edition) (rs : List TextLine) → Between (reader ed) rs → LyricsBehind ed rs
+between-lyrics ed = between-literal (reader ed)
 
-pub lyrics-test : (rs : List TextLine) → LyricsBehind rs → behind? reader rs ≡ true
-lyrics-test = literal-test reader
+pub lyrics-test : (ed : Edition) (rs : List TextLine) → LyricsBehind ed rs → behind? (reader ed) rs ≡ true
+lyrics-test ed = literal-test (reader ed)
 
-pub test-lyrics : (rs : List TextLine) → behind? reader rs ≡ true → LyricsBehind rs
-test-lyrics = test-literal reader
+pub test-lyrics : (ed : Edition) (rs : List TextLine) → behind? (reader ed) rs ≡ true → LyricsBehind ed rs
+test-lyrics ed = test-literal (reader ed)
 
 -- BLOCKS: the moved text has the same lines before its first block, and its blocks are the moved ones
 up-to-again : (rs x : List TextLine) → any isK rs ≡ true → upToK (upToK rs ++ x) ≡ upToK rs
@@ -176,12 +177,12 @@ no-K (r ∷ rs) h = by-test (isK r) (λ e. absurd (both-true (isK r) e (first e)
     first e = absurd (both-true (any isK (r ∷ rs)) (rw e) h)
 
 -- the lines of the moved text all end in line feeds
-pub moved-closed : (text : List ℕ) → endsLF text ≡ true → (bs : List (List TextLine)) → Moved (blocks text) bs → All Closed (header text ++ (opening text ++ concat bs))
-moved-closed text lf bs mv =
+pub moved-closed : (ed : Edition) (text : List ℕ) → endsLF text ≡ true → (bs : List (List TextLine)) → Moved (blocks text) bs → All Closed (header text ++ (opening text ++ concat bs))
+moved-closed ed text lf bs mv =
     All-append Closed (header text) (opening text ++ concat bs) (All-left Closed (header text) (opening text ++ concat (blocks text)) whole)
     (All-append Closed (opening text) (concat bs) (All-left Closed (opening text) (concat (blocks text)) tail)
     (All-concat Closed bs
-    (All-perm (All Closed) (moved-is-perm (blocks text) bs mv) (All-uncat Closed (blocks text) (All-right Closed (opening text) (concat (blocks text)) tail)))))
+    (All-perm (All Closed) (moved-is-perm ed (blocks text) bs mv) (All-uncat Closed (blocks text) (All-right Closed (opening text) (concat (blocks text)) tail)))))
   where
     whole : All Closed (header text ++ (opening text ++ concat (blocks text)))
     whole = subst (All Closed) (sym (lines-all text)) (lines-closed text lf)
@@ -190,15 +191,15 @@ moved-closed text lf bs mv =
     tail = All-right Closed (header text) (opening text ++ concat (blocks text)) whole
 
 -- so it is of every text that ends in a line feed and every order of its blocks: the moved blocks are the moved text's own, and what stands before them is as it was
-pub moved-own : (text : List ℕ) → endsLF text ≡ true → (bs : List (List TextLine)) → Moved (blocks text) bs
+pub moved-own : (ed : Edition) (text : List ℕ) → endsLF text ≡ true → (bs : List (List TextLine)) → Moved (blocks text) bs
     → (header (rebuilt text bs) ≡ header text) × (opening (rebuilt text bs) ≡ opening text) × (blocks (rebuilt text bs) ≡ bs)
-moved-own text lf bs mv = by-test (any isK (textLines text)) with-K without-K
+moved-own ed text lf bs mv = by-test (any isK (textLines text)) with-K without-K
   where
     pm : Perm (blocks text) bs
-    pm = moved-is-perm (blocks text) bs mv
+    pm = moved-is-perm ed (blocks text) bs mv
 
     shut : All Closed (header text ++ (opening text ++ concat bs))
-    shut = moved-closed text lf bs mv
+    shut = moved-closed ed text lf bs mv
 
     shape : All Shape bs
     shape = All-perm Shape pm (blocks-shape (afterK (textLines text)))

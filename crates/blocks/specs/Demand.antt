@@ -10,6 +10,7 @@ use lib.Dec.{eqb}
 use lib.ListN.{drop, getElem?}
 use Rattle.laws.specs.Lists.{All, filter, concat, eqText, elem, indexOf}
 use Rattle.standard.specs.Fields.{Meter}
+use Rattle.editions.specs.declared.Edition.{Edition}
 use Rattle.reader.specs.Text.{textLines, clean}
 use Rattle.reader.specs.Fields as fields
 use Rattle.reader.specs.Lines.{isV, isLyric, kindOf}
@@ -50,42 +51,42 @@ named v (r ∷ rs) = (isV r && eqText (identifier r) v) || named v rs
 
 -- "A field, on its own line or inline, sets L (or M ..) unless 000 leaves that one as it found it, whatever it was": the line sets neither. So a field
 -- that writes the present value sets it, and `L:1` or `[L:1/x]` does not (proofs/Sets); the same as: no field of the line sets one (`sets-neither-field`, `field-sets-neither`)
-abbrev pub SetsNeither : TextLine → Type 0
-SetsNeither r = ((u : ℕ) → unitAfter (kindOf r) u ≡ u) × ((m : Meter) → meterAfter (kindOf r) m ≡ m)
+abbrev pub SetsNeither : Edition → TextLine → Type 0
+SetsNeither ed r = ((u : ℕ) → unitAfter (kindOf ed r) u ≡ u) × ((m : Meter) → meterAfter (kindOf ed r) m ≡ m)
 
 -- the state where the first block begins
 abbrev pub stateOf : Out → ScanState
 stateOf (refuse n l) = begin
 stateOf (on s a) = s
 
-abbrev pub stateAtBlocks : List ℕ → ScanState
-stateAtBlocks text = stateOf (scan (header text ++ opening text))
+abbrev pub stateAtBlocks : Edition → List ℕ → ScanState
+stateAtBlocks ed text = stateOf (scan ed (header text ++ opening text))
 
 -- the blocks of part p
-abbrev pub blocksAt : List ℕ → ℕ → List (List TextLine)
-blocksAt text p = filter (λ b. eqb (indexOf (voiceOf b) (stateAtBlocks text .env .voices)) p) (blocks text)
+abbrev pub blocksAt : Edition → List ℕ → ℕ → List (List TextLine)
+blocksAt ed text p = filter (λ b. eqb (indexOf (voiceOf b) (stateAtBlocks ed text .env .voices)) p) (blocks text)
 
 -- the identifiers of a text's voices, in the order of their parts
-abbrev pub voices : List ℕ → List (List ℕ)
-voices text = stateOf (scan (textLines text)) .env .voices
+abbrev pub voices : Edition → List ℕ → List (List ℕ)
+voices ed text = stateOf (scan ed (textLines text)) .env .voices
 
 -- the lines of part p after the first K: line: "lines between the first K: line and the first block [belong] to the voice then current", and its blocks'
-abbrev pub linesAt : List ℕ → ℕ → List TextLine
-linesAt text p = cond (eqb (stateAtBlocks text .part) p) (opening text) [] ++ concat (blocksAt text p)
+abbrev pub linesAt : Edition → List ℕ → ℕ → List TextLine
+linesAt ed text p = cond (eqb (stateAtBlocks ed text .part) p) (opening text) [] ++ concat (blocksAt ed text p)
 
 -- "a music line is one that 000 gives to `parse_body_line`", after the first K: line
-abbrev pub music : TextLine → Bool
-music r = isMusicLine (kindOf r)
+abbrev pub music : Edition → TextLine → Bool
+music ed r = isMusicLine (kindOf ed r)
 
 -- "no lyric line .. comes before its voice's first music line": if r is music and no line before it is, no line before it is a lyric line. Literally:
 -- of a voice without a music line nothing is asked, whatever lyric lines it has
-abbrev pub LyricsBehind : List TextLine → Type 0
-LyricsBehind rs =
-    (xs ys : List TextLine) (r : TextLine) → rs ≡ xs ++ (r ∷ ys) → music r ≡ true → All (λ x. music x ≡ false) xs → All (λ x. isLyric x ≡ false) xs
+abbrev pub LyricsBehind : Edition → List TextLine → Type 0
+LyricsBehind ed rs =
+    (xs ys : List TextLine) (r : TextLine) → rs ≡ xs ++ (r ∷ ys) → music ed r ≡ true → All (λ x. music ed x ≡ false) xs → All (λ x. isLyric x ≡ false) xs
 
 -- "with all other voices' blocks removed": all but part p's
-abbrev pub onlyPart : List ℕ → ℕ → List ℕ
-onlyPart text p = rebuilt text (blocksAt text p)
+abbrev pub onlyPart : Edition → List ℕ → ℕ → List ℕ
+onlyPart ed text p = rebuilt text (blocksAt ed text p)
 
 -- "A voice's part is its five counts and sections, whatever number the part bears": `sections` of Records is a function of it
 abbrev pub partIn : Verdict → ℕ → Option Part
@@ -96,42 +97,42 @@ partIn (reading ps) p = getElem? ps p
 -- its V: line, the voice, inline included". In an accepted text no other line does (`only-V` in proofs/Scan), so it need not be asked; the theorem is stronger by that.
 -- The frame's claim covers blocks that each begin with their own L and M too (`Brings` in specs/Frame, `steady-brings` in proofs/Frame). Every block must bring
 -- both: blocks that neither set nor bring hear what the block before them set
-pub record Hypotheses (text : List ℕ) (rl sl : ℕ) : Type 0 where
+pub record Hypotheses (ed : Edition) (text : List ℕ) (rl sl : ℕ) : Type 0 where
   -- "the text is accepted"
-  pub accepted : Accepted (parseAbc text rl sl)
+  pub accepted : Accepted (parseAbc ed text rl sl)
   -- "and ends in a line feed"
   pub ended : endsLF text ≡ true
   -- "every voice with a block is named before that K: line"
   pub known : All (λ b. named (voiceOf b) (header text) ≡ true) (blocks text)
   -- "no block sets L or M .., inline included"
-  pub sets-neither : All (All SetsNeither) (blocks text)
+  pub sets-neither : All (All (SetsNeither ed)) (blocks text)
   -- "no lyric line after that K: line comes before its voice's first music line there"
-  pub sung : (p : ℕ) → LyricsBehind (linesAt text p)
+  pub sung : (p : ℕ) → LyricsBehind ed (linesAt ed text p)
 
 -- WHAT FOLLOWS. An `Outcome` holds the verdict and both stores after the call, and only the stores' lengths go in: "whatever bytes they held"
-pub record Conclusion (text : List ℕ) (rl sl : ℕ) : Type 0 where
+pub record Conclusion (ed : Edition) (text : List ℕ) (rl sl : ℕ) : Type 0 where
   -- "the text, given stores of the same lengths, is accepted again [`again` in proofs/Demand] with the same answer and leaves the same bytes in both"
-  pub moved : (bs : List (List TextLine)) → Moved (blocks text) bs → parseAbc (rebuilt text bs) rl sl ≡ parseAbc text rl sl
+  pub moved : (bs : List (List TextLine)) → Moved (blocks text) bs → parseAbc ed (rebuilt text bs) rl sl ≡ parseAbc ed text rl sl
   -- "every voice's part equals, in all five sections, the one read with all other voices' blocks removed, if that text is accepted", which "may have stores of
   -- any length". Stronger than the words: the parts themselves are equal, and p is any number (a voice without a block, the unnamed one)
-  pub apart : (p rl′ sl′ : ℕ) → Accepted (parseAbc (onlyPart text p) rl′ sl′)
-      → partIn (parseAbc text rl sl .verdict) p ≡ partIn (parseAbc (onlyPart text p) rl′ sl′ .verdict) p
+  pub apart : (p rl′ sl′ : ℕ) → Accepted (parseAbc ed (onlyPart ed text p) rl′ sl′)
+      → partIn (parseAbc ed text rl sl .verdict) p ≡ partIn (parseAbc ed (onlyPart ed text p) rl′ sl′ .verdict) p
   -- so that p is the same voice in both: every voice has the number it had, and the blocks of a voice's part are those that name it
-  pub numbers : (p : ℕ) → voices (onlyPart text p) ≡ voices text
-  pub names : (v : List ℕ) → elem v (voices text) ≡ true → blocksAt text (indexOf v (voices text)) ≡ filter (λ b. eqText (voiceOf b) v) (blocks text)
+  pub numbers : (p : ℕ) → voices ed (onlyPart ed text p) ≡ voices ed text
+  pub names : (v : List ℕ) → elem v (voices ed text) ≡ true → blocksAt ed text (indexOf v (voices ed text)) ≡ filter (λ b. eqText (voiceOf b) v) (blocks text)
 
 -- THE DEMAND: "a single claim, about every such text and every such order of its blocks"
-abbrev pub Demand-3 : Type 0
-Demand-3 = (text : List ℕ) (rl sl : ℕ) → Hypotheses text rl sl → Conclusion text rl sl
+abbrev pub Demand-3 : Edition → Type 0
+Demand-3 ed = (text : List ℕ) (rl sl : ℕ) → Hypotheses ed text rl sl → Conclusion ed text rl sl
 
 -- ITS SECOND HALF BY NAME: the text with the blocks of all voices but v removed, and the part of the voice v
 abbrev pub onlyVoice : List ℕ → List ℕ → List ℕ
 onlyVoice text v = rebuilt text (filter (λ b. eqText (voiceOf b) v) (blocks text))
 
-abbrev pub partOf : List ℕ → ℕ → ℕ → List ℕ → Option Part
-partOf text rl sl v = partIn (parseAbc text rl sl .verdict) (indexOf v (voices text))
+abbrev pub partOf : Edition → List ℕ → ℕ → ℕ → List ℕ → Option Part
+partOf ed text rl sl v = partIn (parseAbc ed text rl sl .verdict) (indexOf v (voices ed text))
 
-abbrev pub By-name : Type 0
-By-name =
-    (text : List ℕ) (rl sl : ℕ) → Hypotheses text rl sl → (v : List ℕ) → elem v (voices text) ≡ true → (rl′ sl′ : ℕ)
-    → Accepted (parseAbc (onlyVoice text v) rl′ sl′) → partOf text rl sl v ≡ partOf (onlyVoice text v) rl′ sl′ v
+abbrev pub By-name : Edition → Type 0
+By-name ed =
+    (text : List ℕ) (rl sl : ℕ) → Hypotheses ed text rl sl → (v : List ℕ) → elem v (voices ed text) ≡ true → (rl′ sl′ : ℕ)
+    → Accepted (parseAbc ed (onlyVoice text v) rl′ sl′) → partOf ed text rl sl v ≡ partOf ed (onlyVoice text v) rl′ sl′ v

@@ -10,6 +10,7 @@ use Rattle.laws.specs.Lists.{sum, any, concat}
 use Rattle.laws.proofs.Bools.{by-test}
 use Rattle.laws.proofs.Lists.{sum-append, sum-map, sum-both}
 use Rattle.standard.specs.Keys.{Key}
+use Rattle.editions.specs.declared.Edition.{Edition}
 use Rattle.reader.specs.Scan.{Item, Env}
 use Rattle.reader.specs.State.{Note, Measure}
 use Rattle.reader.specs.Lyrics.{Syllable}
@@ -22,7 +23,7 @@ use Rattle.bounds.specs.Weights.{Weights, Covered, sectionWeights, noteW
 use Rattle.bounds.proofs.PartWeights.{part-weight}
 use Rattle.bounds.proofs.LyricWeights.{words-weight, lyrics-weight}
 
-module _ (p : Weights) where
+module _ (ed : Edition) (p : Weights) where
   -- a note with the number of its voice
   abbrev oneWeight : ℕ × Note → ℕ
   oneWeight x = noteWeight p (x .1)
@@ -68,16 +69,16 @@ module _ (p : Weights) where
 
   -- A PART BY ITS LINES' BYTES: its music, and its lyrics
   pub music-bound : Covered p → (header : Key) (is : List Item)
-      → p .measure * length (build header is .measures) + p .note * length (notesOf (build header is)) + p .pitch * length (pitchesOf (build header is)) ≤ p .measure + p .byte * sum musicBytes is
-  music-bound enough header is = omega (arith, part-weight p enough header is, counts-weight (build header is))
+      → p .measure * length (build ed header is .measures) + p .note * length (notesOf (build ed header is)) + p .pitch * length (pitchesOf (build ed header is)) ≤ p .measure + p .byte * sum musicBytes is
+  music-bound enough header is = omega (arith, part-weight ed p enough header is, counts-weight (build ed header is))
 
   -- its lyrics
   pub lyric-bound : Covered p → (header : Key) (is : List Item)
-      → p .syllable * length (lyrics (build header is)) + p .text * length (lyricText (build header is)) ≤ p .byte * sum lyricBytes is
+      → p .syllable * length (lyrics (build ed header is)) + p .text * length (lyricText (build ed header is)) ≤ p .byte * sum lyricBytes is
   unfolding lyrics
   lyric-bound enough header is =
-      let q = build header is in
-      omega (arith, words-weight p enough header is, lyrics-weight p 0 (notesOf q) (q .words), lyric-counts q)
+      let q = build ed header is in
+      omega (arith, words-weight ed p enough header is, lyrics-weight ed p 0 (notesOf q) (q .words), lyric-counts q)
 
 -- THE SECTIONS OF A PART: 20 bytes of counts, its first measure, and 23 bytes for each byte of its lines
 section-covered : Covered sectionWeights
@@ -89,9 +90,9 @@ unfolding itemBytes
 bytes-sum is = sum-both musicBytes lyricBytes is
 
 -- so long at most
-pub sections-bound : (header : Key) (is : List Item) → length (sections (build header is)) ≤ 48 + 23 * sum itemBytes is
-sections-bound header is =
-    omega (arith, sections-length (build header is) (four-voices header is), music-bound sectionWeights section-covered header is, lyric-bound sectionWeights section-covered header is, bytes-sum is)
+pub sections-bound : (ed : Edition) (header : Key) (is : List Item) → length (sections (build ed header is)) ≤ 48 + 23 * sum itemBytes is
+sections-bound ed header is =
+    omega (arith, sections-length (build ed header is) (four-voices ed header is), music-bound ed sectionWeights section-covered header is, lyric-bound ed sectionWeights section-covered header is, bytes-sum is)
 
 -- an empty part has its counts alone
 pub empty-length : length (sections emptyPart) ≡ 20
@@ -99,7 +100,7 @@ unfolding everything
 empty-length = refl
 
 -- any part
-pub built-bound : (e : Env) (is : List Item) → length (sections (built e is)) ≤ 48 + 23 * sum itemBytes is
+pub built-bound : (ed : Edition) (e : Env) (is : List Item) → length (sections (built ed e is)) ≤ 48 + 23 * sum itemBytes is
 unfolding built
-built-bound e is =
-    by-test (any isMusic is) (λ m. rw (m, built) (sections-bound (e .headerKey) is)) (λ m. rw (m, built) (omega (arith, empty-length)))
+built-bound ed e is =
+    by-test (any isMusic is) (λ m. rw (m, built) (sections-bound ed (e .headerKey) is)) (λ m. rw (m, built) (omega (arith, empty-length)))

@@ -11,6 +11,7 @@ use Rattle.laws.specs.Bytes.{le32, u32At}
 use Rattle.laws.proofs.Bools.{by-test}
 use Rattle.laws.proofs.Lists.{All-map, All-append}
 use Rattle.laws.proofs.Numbers.{littleAt-little}
+use Rattle.editions.specs.declared.Edition.{Edition}
 use Rattle.reader.specs.Steps.{itemsOf}
 use Rattle.reader.specs.Scan.{Env, Items}
 use Rattle.reader.specs.State.{Note, Measure}
@@ -105,14 +106,14 @@ counts-fit p f h l =
 
 -- THE PARTS OF A READING
 -- the counts of each part
-parts-counts : (e : Env) (a : Items) (n q : ℕ) → All PartFits (parts e (λ p. itemsOf p a) n q) → length (partBytes (parts e (λ p. itemsOf p a) n q)) < 2 ^ 32 → All CountsFit (parts e (λ p. itemsOf p a) n q)
+parts-counts : (ed : Edition) (e : Env) (a : Items) (n q : ℕ) → All PartFits (parts ed e (λ p. itemsOf p a) n q) → length (partBytes (parts ed e (λ p. itemsOf p a) n q)) < 2 ^ 32 → All CountsFit (parts ed e (λ p. itemsOf p a) n q)
 unfolding parts partBytes
-parts-counts e a zero q f h = tt
-parts-counts e a (suc n) q f h =
-    let p = built e (itemsOf q a) in
-    let ps = parts e (λ p. itemsOf p a) n (suc q) in
+parts-counts ed e a zero q f h = tt
+parts-counts ed e a (suc n) q f h =
+    let p = built ed e (itemsOf q a) in
+    let ps = parts ed e (λ p. itemsOf p a) n (suc q) in
     let l = length-append (sections p) (partBytes ps) in
-    (counts-fit p (built-fours e (itemsOf q a)) (f .0) (omega (arith, l, h)), parts-counts e a n (suc q) (f .1) (omega (arith, l, h)))
+    (counts-fit p (built-fours ed e (itemsOf q a)) (f .0) (omega (arith, l, h)), parts-counts ed e a n (suc q) (f .1) (omega (arith, l, h)))
 
 -- a verdict that has them
 unfoldable Counted : Verdict → Type 0
@@ -120,18 +121,18 @@ Counted (refusal n l) = Unit {0}
 Counted (reading ps) = (length ps ≤ 32) × All CountsFit ps
 
 -- every verdict
-verdict-counted : (text : List ℕ) (rl sl : ℕ) → Counted (parseAbc text rl sl .verdict)
+verdict-counted : (ed : Edition) (text : List ℕ) (rl sl : ℕ) → Counted (parseAbc ed text rl sl .verdict)
 unfolding refusedWith written Counted encode
-verdict-counted text rl sl =
-    outcome-cases (λ o. Counted (o .verdict)) text rl sl (λ n l h. tt) (λ h. tt)
+verdict-counted ed text rl sl =
+    outcome-cases ed (λ o. Counted (o .verdict)) text rl sl (λ n l h. tt) (λ h. tt)
     (λ t a h f len short.
-    let ps = partsAfter t a in
-    (parts-most t a h, parts-counts (t .env) a (voiceCount t) 0 (parts-fit (t .env) a (voiceCount t) 0 f) (omega (arith, len, short, length-append (le32 (length ps)) (partBytes ps)))))
+    let ps = partsAfter ed t a in
+    (parts-most ed t a h, parts-counts ed (t .env) a (voiceCount t) 0 (parts-fit ed (t .env) a (voiceCount t) 0 f) (omega (arith, len, short, length-append (le32 (length ps)) (partBytes ps)))))
 
 -- EVERY COUNT OF A READING: 32 parts at most, and every number that has four bytes is below 2^32
-pub reading-counts : (text : List ℕ) (rl sl : ℕ) (ps : List Part) → parseAbc text rl sl .verdict ≡ reading ps → (length ps ≤ 32) × All CountsFit ps
+pub reading-counts : (ed : Edition) (text : List ℕ) (rl sl : ℕ) (ps : List Part) → parseAbc ed text rl sl .verdict ≡ reading ps → (length ps ≤ 32) × All CountsFit ps
 unfolding Counted
-reading-counts text rl sl ps e = subst Counted e (verdict-counted text rl sl)
+reading-counts ed text rl sl ps e = subst Counted e (verdict-counted ed text rl sl)
 
 -- so four bytes say the number itself
 pub says-itself : (n : ℕ) → FourBytes n → u32At (le32 n) 0 ≡ n

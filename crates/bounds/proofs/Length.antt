@@ -13,6 +13,7 @@ use Rattle.laws.specs.Lists.{sum, any}
 use Rattle.laws.proofs.Bools.{by-test}
 use Rattle.laws.specs.Bytes.{le32}
 use Rattle.laws.proofs.Numbers.{length-little}
+use Rattle.editions.specs.declared.Edition.{Edition}
 use Rattle.reader.proofs.PartLaws.{parts-count}
 use Rattle.reader.specs.Text.{textLines}
 use Rattle.reader.specs.Steps.{itemsOf}
@@ -61,46 +62,46 @@ shares-all n q (x ∷ a) = omega (arith, shares-once n q x a, shares-all n q a)
 
 -- THE PARTS
 -- 48 bytes for each, and 23 for each byte of its lines
-pub parts-bound : (e : Env) (a : Items) (n q : ℕ) → length (partBytes (parts e (λ p. itemsOf p a) n q)) ≤ 48 * n + 23 * shares n q a
+pub parts-bound : (ed : Edition) (e : Env) (a : Items) (n q : ℕ) → length (partBytes (parts ed e (λ p. itemsOf p a) n q)) ≤ 48 * n + 23 * shares n q a
 unfolding parts partBytes shares
-parts-bound e a zero q = zero-le
-parts-bound e a (suc n) q =
-    let p = built e (itemsOf q a) in
-    let ps = parts e (λ p. itemsOf p a) n (suc q) in
-    omega (arith, length-append (sections p) (partBytes ps), built-bound e (itemsOf q a), parts-bound e a n (suc q))
+parts-bound ed e a zero q = zero-le
+parts-bound ed e a (suc n) q =
+    let p = built ed e (itemsOf q a) in
+    let ps = parts ed e (λ p. itemsOf p a) n (suc q) in
+    omega (arith, length-append (sections p) (partBytes ps), built-bound ed e (itemsOf q a), parts-bound ed e a n (suc q))
 
-pub encode-bound : (e : Env) (a : Items) (n : ℕ) → length (encode (parts e (λ p. itemsOf p a) n 0)) ≤ 4 + 48 * n + 23 * sum (λ (x : ℕ × Item). itemBytes (x .1)) a
+pub encode-bound : (ed : Edition) (e : Env) (a : Items) (n : ℕ) → length (encode (parts ed e (λ p. itemsOf p a) n 0)) ≤ 4 + 48 * n + 23 * sum (λ (x : ℕ × Item). itemBytes (x .1)) a
 unfolding encode
-encode-bound e a n =
-    let ps = parts e (λ p. itemsOf p a) n 0 in
-    omega (arith, length-append (le32 (length ps)) (partBytes ps), length-little 4 (length ps), parts-bound e a n 0, shares-all n 0 a)
+encode-bound ed e a n =
+    let ps = parts ed e (λ p. itemsOf p a) n 0 in
+    omega (arith, length-append (le32 (length ps)) (partBytes ps), length-little 4 (length ps), parts-bound ed e a n 0, shares-all n 0 a)
 
 -- WHERE NOTHING IS PLAYED there is no measure
 silent-mine : (q : ℕ) (a : Items) → Silent a → any isMusic (itemsOf q a) ≡ false
 silent-mine q [] s = refl
 silent-mine q (x ∷ a) s = by-test (eqb (x .0) q) (λ e. rw e (rw (s .0) (silent-mine q a (s .1)))) (λ e. rw e (silent-mine q a (s .1)))
 
-pub silent-parts : (e : Env) (a : Items) (n q : ℕ) → Silent a → sum measureCount (parts e (λ p. itemsOf p a) n q) ≡ 0
+pub silent-parts : (ed : Edition) (e : Env) (a : Items) (n q : ℕ) → Silent a → sum measureCount (parts ed e (λ p. itemsOf p a) n q) ≡ 0
 unfolding parts built measureCount emptyPart
-silent-parts e a zero q s = refl
-silent-parts e a (suc n) q s = rw (silent-mine q a s) (omega (arith, silent-parts e a n (suc q) s))
+silent-parts ed e a zero q s = refl
+silent-parts ed e a (suc n) q s = rw (silent-mine q a s) (omega (arith, silent-parts ed e a n (suc q) s))
 
 -- THE SCAN OF A TEXT: nothing is played, or its bytes cover all
-total-is : (a : Items) → total 0 23 23 0 48 a ≡ 23 * sum (λ (x : ℕ × Item). itemBytes (x .1)) a
-total-is [] = refl
-total-is (x ∷ a) = omega (arith, total-is a)
+total-is : (ed : Edition) (a : Items) → total ed 0 23 23 0 48 a ≡ 23 * sum (λ (x : ℕ × Item). itemBytes (x .1)) a
+total-is ed [] = refl
+total-is ed (x ∷ a) = omega (arith, total-is ed a)
 
-section-covered : Enough 0 23 23 0 48
-section-covered = record { bytes = lit≤ tt; lines = lit≤ tt; feed = lit≤ tt; voices = lit≤ tt }
+section-covered : (ed : Edition) → Enough ed 0 23 23 0 48
+section-covered ed = record { bytes = lit≤ tt; lines = lit≤ tt; feed = lit≤ tt; voices = lit≤ tt }
 
-pub scan-bound : (text : List ℕ)
-    → Holds (λ t a. Silent a ⊎ (4 + 48 * voiceCount t + 23 * sum (λ (x : ℕ × Item). itemBytes (x .1)) a ≤ 23 * length text)) (scan (textLines text))
+pub scan-bound : (ed : Edition) (text : List ℕ)
+    → Holds (λ t a. Silent a ⊎ (4 + 48 * voiceCount t + 23 * sum (λ (x : ℕ × Item). itemBytes (x .1)) a ≤ 23 * length text)) (scan ed (textLines text))
 unfolding scan begin
-scan-bound text =
-    holds-map (Headed 0 23 23 0 48 section-covered 52 (lit≤ tt) begin (sum length (textLines text))) _ (λ t a h. text-cover t a h) (scan (textLines text))
-    (head-budget 0 23 23 0 48 section-covered 52 (lit≤ tt) (textLines text) (rows-fed text) begin refl)
+scan-bound ed text =
+    holds-map (Headed ed 0 23 23 0 48 (section-covered ed) 52 (lit≤ tt) begin (sum length (textLines text))) _ (λ t a h. text-cover t a h) (scan ed (textLines text))
+    (head-budget ed 0 23 23 0 48 (section-covered ed) 52 (lit≤ tt) (textLines text) (rows-fed text) begin refl)
   where
-    text-cover : (t : ScanState) (a : Items) → Headed 0 23 23 0 48 section-covered 52 (lit≤ tt) begin (sum length (textLines text)) t a
+    text-cover : (t : ScanState) (a : Items) → Headed ed 0 23 23 0 48 (section-covered ed) 52 (lit≤ tt) begin (sum length (textLines text)) t a
         → Silent a ⊎ (4 + 48 * voiceCount t + 23 * sum (λ (x : ℕ × Item). itemBytes (x .1)) a ≤ 23 * length text)
     text-cover t a (inl h) = inl h
-    text-cover t a (inr h) = inr (omega (arith, h, rows-length text, total-is a))
+    text-cover t a (inr h) = inr (omega (arith, h, rows-length text, total-is ed a))

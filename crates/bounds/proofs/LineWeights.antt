@@ -3,18 +3,22 @@ use Prim.Native.Nat.{ℕ, suc, _+_, _-_, _≤_, _<_, zero-le}
 use mathlib.Core.Path.{_≡_, refl, sym, ap, _∙_}
 use mathlib.Core.Bool.{true, false, false≢true}
 use mathlib.Core.List.{List, [], _∷_}
+use mathlib.Core.Option.{Option, some, none}
 use native.Mathlib.Omega.{arith}
 use lib.Dec.{eqb, ltb}
 use lib.ListN.{length, drop, length-drop}
 use borrow.Author.Tests.{eqb-true}
 use Rattle.laws.specs.Lists.{sum, isNil}
 use Rattle.laws.proofs.Bools.{by-test}
+use Rattle.standard.specs.Keys.{Key}
+use Rattle.editions.specs.declared.Edition.{Edition}
 use Rattle.reader.specs.Text.{isBlank, push, textLines, cut, trim, clean, hasHigh}
-use Rattle.reader.specs.Fields.{middleWord, identifier}
-use Rattle.reader.specs.Lines.{begins, isV, isK, isL, isM, isX, isLyric, isField, Kind, blank, refused, lyric, voice, key, meter, unit, tune, other, music, voiceKind, keyKind, fieldKind, lineKind}
+use Rattle.reader.specs.Fields.{middleWord, identifier, keyRefusal}
+use Rattle.reader.specs.Lines.{begins, isV, isK, isL, isM, isX, isLyric, isField, Kind, blank, refused, lyric, voice, key, meter, unit, tune, other, music, voiceKind, keyKind, fieldKind, lineKind, kindUnless}
 use Rattle.reader.specs.Steps.{TextLine}
 use Rattle.reader.specs.Steps
 use Rattle.reader.specs.All.{all as everything}
+use Rattle.reader.specs.Keys.{keyOf}
 
 -- THE LINES OF A TEXT
 push-length : (c : ℕ) (rs : List TextLine) → sum length (push c rs) ≡ suc (sum length rs)
@@ -124,17 +128,22 @@ voice-fits l v =
     by-test (isNil (identifier (drop 2 l))) (λ e. rw e tt) (λ e. rw e (voice-three l (begins-two 86 58 l v) e))
 
 -- a K line
-key-fits : (l : List ℕ) → isK l ≡ true → KindFits (length l) (keyKind (drop 2 l))
+unless-fits : (n : ℕ) (k : Key) (o : Option ℕ) → KindFits n (key k) → KindFits n (kindUnless k o)
+unfolding kindUnless KindFits
+unless-fits n k none h = h
+unless-fits n k (some r) h = tt
+
+key-fits : (ed : Edition) (l : List ℕ) → isK l ≡ true → KindFits (length l) (keyKind ed (drop 2 l))
 unfolding keyKind KindFits
-key-fits l v = by-test (middleWord (drop 2 l)) (λ e. rw e tt) (λ e. rw e (begins-two 75 58 l v))
+key-fits ed l v = unless-fits (length l) (keyOf ed (drop 2 l)) (keyRefusal ed (drop 2 l)) (begins-two 75 58 l v)
 
 -- a field
-field-fits : (l : List ℕ) → KindFits (length l) (fieldKind l)
+field-fits : (ed : Edition) (l : List ℕ) → KindFits (length l) (fieldKind ed l)
 unfolding fieldKind KindFits
-field-fits l =
+field-fits ed l =
     by-test (isV l) (λ e. rw e (by-test (hasHigh l) (λ f. rw f tt) (λ f. rw f (voice-fits l e))))
     (λ e. rw e
-    (by-test (isK l) (λ f. rw f (by-test (hasHigh l) (λ g. rw g tt) (λ g. rw g (key-fits l f))))
+    (by-test (isK l) (λ f. rw f (by-test (hasHigh l) (λ g. rw g tt) (λ g. rw g (key-fits ed l f))))
     (λ f. rw f
     (by-test (isL l) (λ g. rw g (by-test (hasHigh l) (λ k. rw k tt) (λ k. rw k (begins-two 76 58 l g))))
     (λ g. rw g
@@ -142,12 +151,12 @@ field-fits l =
     (λ k. rw k (by-test (isX l) (λ m. rw m tt) (λ m. rw m tt)))))))))
 
 -- any line
-pub kind-fits : (l : List ℕ) → KindFits (length l) (lineKind l)
+pub kind-fits : (ed : Edition) (l : List ℕ) → KindFits (length l) (lineKind ed l)
 unfolding lineKind KindFits
-kind-fits l =
+kind-fits ed l =
     by-test (isNil l) (λ e. rw e tt)
     (λ e. rw e
     (by-test (ltb 1048576 (length l)) (λ f. rw f tt)
     (λ f. rw f
     (by-test (isLyric l) (λ g. rw g (omega (arith, length-drop 2 l, begins-two 119 58 l g)))
-    (λ g. rw g (by-test (isField l) (λ k. rw k (field-fits l)) (λ k. rw k (some-bytes l e, omega arith))))))))
+    (λ g. rw g (by-test (isField l) (λ k. rw k (field-fits ed l)) (λ k. rw k (some-bytes l e, omega arith))))))))

@@ -3,6 +3,7 @@ use Prim.Native.Nat.{ℕ, zero, suc, _+_, _-_, _*_, _≤_, zero-le}
 use mathlib.Core.Path.{_≡_, refl, ap, _∙_}
 use mathlib.Core.Bool.{Bool, true, false, cond, not, _&&_, false≢true}
 use mathlib.Core.List.{List, [], _∷_, map, reverse}
+use mathlib.Core.Option.{Option, some, none}
 use native.Mathlib.Nat.{mul-add, mul-suc}
 use native.Mathlib.Omega.{arith}
 use lib.Dec.{ltb, eqb}
@@ -11,19 +12,21 @@ use Rattle.laws.specs.Lists.{foldl, sum, isNil, eqText, All, alterAt}
 use Rattle.laws.proofs.Bools.{by-test}
 use Rattle.laws.proofs.Lists.{sum-append, sum-map, sum-filter, filter-passes, sum-alter, sum-reverse}
 use Rattle.laws.proofs.Numbers.{mul-le-right, mul-le-left}
+use Rattle.editions.specs.declared.Edition.{Edition}
 use Rattle.reader.proofs.PartLaws.{counted-lines}
 use Rattle.standard.specs.Bytes.{ascii, is, first, last}
 use Rattle.standard.specs.Keys.{Key}
 use Rattle.standard.specs.Notes.{isSounded}
-use Rattle.standard.specs.Lyrics.{Word, skip, hold, syllable, syllableText, syllables}
+use Rattle.standard.specs.Lyrics.{Word, skip, hold, syllable, syllableText, syllables, Syllabic, bar}
+use Rattle.editions.specs.declared.Edition.the-variants.{First, Second}
 use Rattle.reader.specs.Text.{push}
 use Rattle.reader.specs.Pieces.{pieces, words, separator, whiteAt}
 use Rattle.reader.specs.Token.{Token, space, overlay, quoted, broken, tuplet, slur, graceOpen, graceClose, decoration, barline, volta, unit, meter, key, field, chord, rest, note, nothing, skipped, refused}
 use Rattle.reader.specs.Tokens.{tokens}
 use Rattle.reader.specs.Scan.{Item, voiceDeclared, reset, keyInHeader, keyChange, meterChange, lyricLine, musicLine}
 use Rattle.reader.specs.State.{PartState, Note, Measure, Sung, Verses, voiceNow, setVoice, onOpen, newPart}
-use Rattle.reader.specs.Lyrics.{Syllable, orSkip, wordOf, wordsOf, lyricWords, put, held, sing, sungBy}
-use Rattle.reader.specs.Part.{onBroken, onNothing, countedIn, append, onSound, onBarline, hears, onToken, lineBegins, onLine, onLyric, onKey, onItem, finished, build}
+use Rattle.reader.specs.Lyrics.{Syllable, orSkip, wordOf, wordsOf, lyricWords, put, held, sing, sungBy, heldAt, sungAt, singOn, singBars, sungByBars, sungIn, SungBar, barsFrom, lastOr}
+use Rattle.reader.specs.Part.{onBroken, onNothing, countedIn, append, onSound, onBarline, hears, onToken, lineBegins, onLine, onLyric, onKey, onItem, finished, build, takersIn, finishedMeasures}
 use Rattle.reader.specs.Records.{isSung, lyricsOf}
 use Rattle.bounds.specs.Weights.{Weights, Covered, syllableWeight, wordsWeight, lyricBytes}
 
@@ -59,6 +62,7 @@ module _ (p : Weights) where
   unfoldable pub wordWeight : Word → ℕ
   wordWeight skip = 0
   wordWeight hold = 0
+  wordWeight bar = 0
   wordWeight (syllable c t) = p .syllable + p .text * length t
 
   module _ (enough : Covered p) where
@@ -128,6 +132,7 @@ module _ (p : Weights) where
   sing-weight : (start v i : ℕ) (ws : List Word) (notes : List (List Syllable)) → wordsWeight p (sing start v i ws notes) ≤ wordsWeight p notes + sum wordWeight ws
   unfolding sing wordWeight syllableWeight
   sing-weight start v i [] notes = omega arith
+  sing-weight start v i (bar ∷ ws) notes = omega (arith, sing-weight start v i ws notes)
   sing-weight start v i (skip ∷ ws) notes = omega (arith, sing-weight start v (suc i) ws notes)
   sing-weight start v zero (hold ∷ ws) notes = omega (arith, sing-weight start v 1 ws notes)
   sing-weight start v (suc i) (hold ∷ ws) notes =
@@ -137,6 +142,38 @@ module _ (p : Weights) where
       let y : Syllable = record { verse = v; syllabic = c; extend = false; text = t } in
       let m = alterAt (start + i) (put y) notes in
       omega (arith, sing-weight start v (suc i) ws m, sum-alter (sum (syllableWeight p)) (start + i) (put y) (syllableWeight p y) (put-weight y) notes)
+
+  -- in the second edition
+  held-at-weight : (v : ℕ) (b : Option ℕ) (notes : List (List Syllable)) → wordsWeight p (heldAt v b notes) ≤ wordsWeight p notes
+  unfolding heldAt
+  held-at-weight v none notes = omega arith
+  held-at-weight v (some i) notes = omega (arith, sum-alter (sum (syllableWeight p)) i (map (held v)) 0 (held-weight v) notes)
+
+  sung-at-weight : (v : ℕ) (c : Syllabic) (t : List ℕ) (i : ℕ) (notes : List (List Syllable)) → wordsWeight p (sungAt v c t i notes) ≤ wordsWeight p notes + (p .syllable + p .text * length t)
+  unfolding sungAt syllableWeight
+  sung-at-weight v c t i notes =
+      let y : Syllable = record { verse = v; syllabic = c; extend = false; text = t } in
+      sum-alter (sum (syllableWeight p)) i (put y) (syllableWeight p y) (put-weight y) notes
+
+  on-weight : (v : ℕ) (b : Option ℕ) (ws : List Word) (g : List ℕ) (bs : List SungBar) (notes : List (List Syllable)) → wordsWeight p (singOn v b ws g bs notes) ≤ wordsWeight p notes + sum wordWeight ws
+  unfolding singOn wordWeight
+  on-weight v b [] g bs notes = omega arith
+  on-weight v b (bar ∷ ws) g [] notes = omega arith
+  on-weight v b (bar ∷ ws) g ((i, h) ∷ bs) notes = omega (arith, on-weight v (lastOr b g) ws (i ∷ h) bs notes)
+  on-weight v b (skip ∷ ws) (i ∷ g) bs notes = omega (arith, on-weight v (some i) ws g bs notes)
+  on-weight v b (skip ∷ ws) [] ((i, h) ∷ bs) notes = omega (arith, on-weight v (some i) ws h bs notes)
+  on-weight v b (skip ∷ ws) [] [] notes = omega (arith, on-weight v none ws [] [] notes)
+  on-weight v b (hold ∷ ws) (i ∷ g) bs notes = omega (arith, on-weight v (some i) ws g bs (heldAt v b notes), held-at-weight v b notes)
+  on-weight v b (hold ∷ ws) [] ((i, h) ∷ bs) notes = omega (arith, on-weight v (some i) ws h bs (heldAt v b notes), held-at-weight v b notes)
+  on-weight v b (hold ∷ ws) [] [] notes = omega (arith, on-weight v none ws [] [] (heldAt v b notes), held-at-weight v b notes)
+  on-weight v b (syllable c t ∷ ws) (i ∷ g) bs notes = omega (arith, on-weight v (some i) ws g bs (sungAt v c t i notes), sung-at-weight v c t i notes)
+  on-weight v b (syllable c t ∷ ws) [] ((i, h) ∷ bs) notes = omega (arith, on-weight v (some i) ws h bs (sungAt v c t i notes), sung-at-weight v c t i notes)
+  on-weight v b (syllable c t ∷ ws) [] [] notes = omega (arith, on-weight v none ws [] [] notes)
+
+  bars-weight : (v : ℕ) (ws : List Word) (bs : List SungBar) (notes : List (List Syllable)) → wordsWeight p (singBars v ws bs notes) ≤ wordsWeight p notes + sum wordWeight ws
+  unfolding singBars
+  bars-weight v ws [] notes = omega arith
+  bars-weight v ws ((i, h) ∷ bs) notes = on-weight v none ws (i ∷ h) bs notes
 
   -- all lyric lines
   abbrev sungBytes : List Sung → ℕ
@@ -149,6 +186,19 @@ module _ (p : Weights) where
   sung-weight enough (l ∷ ls) notes =
       let m = sing (l .start) (l .verse) 0 (lyricWords (l .text)) notes in
       omega (arith, sung-weight enough ls m, sing-weight (l .start) (l .verse) 0 (lyricWords (l .text)) notes, lyric-covered enough (l .text), mul-add (p .byte) (length (l .text)) (sungBytes ls))
+
+  by-bars-weight : Covered p → (ms : List (List ℕ)) (ls : List Sung) (notes : List (List Syllable)) → wordsWeight p (sungByBars ms ls notes) ≤ wordsWeight p notes + p .byte * sungBytes ls
+  unfolding sungByBars
+  by-bars-weight enough ms [] notes = omega arith
+  by-bars-weight enough ms (l ∷ ls) notes =
+      let bs = barsFrom (l .start) ms in
+      let m = singBars (l .verse) (lyricWords (l .text)) bs notes in
+      omega (arith, by-bars-weight enough ms ls m, bars-weight (l .verse) (lyricWords (l .text)) bs notes, lyric-covered enough (l .text), mul-add (p .byte) (length (l .text)) (sungBytes ls))
+
+  sung-in-weight : Covered p → (e : Edition) (ms : List (List ℕ)) (ls : List Sung) (notes : List (List Syllable)) → wordsWeight p (sungIn e ms ls notes) ≤ wordsWeight p notes + p .byte * sungBytes ls
+  unfolding sungIn
+  sung-in-weight enough First ms ls notes = sung-weight enough ls notes
+  sung-in-weight enough Second ms ls notes = by-bars-weight enough ms ls notes
 
   -- notes without syllables
   none-weight : (n : ℕ) → wordsWeight p (replicate n []) ≡ 0
@@ -211,30 +261,30 @@ same-bytes : (s t : PartState) → t .verses .lines ≡ s .verses .lines → lin
 same-bytes s t e = ap (λ (ls : List Sung). sum (λ (l : Sung). length (l .text)) ls) e
 
 -- each item adds its own
-item-lines : (header : Key) (s : PartState) (i : Item) → linesBytes (onItem header s i) ≡ linesBytes s + lyricBytes i
+item-lines : (ed : Edition) (header : Key) (s : PartState) (i : Item) → linesBytes (onItem ed header s i) ≡ linesBytes s + lyricBytes i
 unfolding onItem onLyric onLine onOpen lineBegins lyricBytes
-item-lines header s (voiceDeclared b) = omega arith
-item-lines header s reset = omega arith
-item-lines header s keyInHeader = omega arith
-item-lines header s (keyChange k) = omega (arith, same-bytes s (onKey header k (s .measures) s) (key-lines header k (s .measures) s))
-item-lines header s (meterChange t) = omega arith
-item-lines header s (lyricLine b t) = omega arith
-item-lines header s (musicLine u t l) = omega (arith, same-bytes s (foldl onToken (lineBegins u t s) (tokens 0 l)) (tokens-lines (tokens 0 l) (lineBegins u t s)))
+item-lines ed header s (voiceDeclared b) = omega arith
+item-lines ed header s reset = omega arith
+item-lines ed header s keyInHeader = omega arith
+item-lines ed header s (keyChange k) = omega (arith, same-bytes s (onKey header k (s .measures) s) (key-lines header k (s .measures) s))
+item-lines ed header s (meterChange t) = omega arith
+item-lines ed header s (lyricLine b t) = omega arith
+item-lines ed header s (musicLine u t l) = omega (arith, same-bytes s (foldl onToken (lineBegins u t s) (tokens ed 0 l)) (tokens-lines (tokens ed 0 l) (lineBegins u t s)))
 
-items-lines : (header : Key) (is : List Item) (s : PartState) → linesBytes (foldl (onItem header) s is) ≡ linesBytes s + sum lyricBytes is
-items-lines header [] s = omega arith
-items-lines header (i ∷ is) s = omega (arith, items-lines header is (onItem header s i), item-lines header s i)
+items-lines : (ed : Edition) (header : Key) (is : List Item) (s : PartState) → linesBytes (foldl (onItem ed header) s is) ≡ linesBytes s + sum lyricBytes is
+items-lines ed header [] s = omega arith
+items-lines ed header (i ∷ is) s = omega (arith, items-lines ed header is (onItem ed header s i), item-lines ed header s i)
 
-module _ (p : Weights) where
+module _ (ed : Edition) (p : Weights) where
   -- THE SYLLABLES OF A FINISHED PART are covered by its lyric lines' bytes
-  pub words-weight : Covered p → (header : Key) (is : List Item) → wordsWeight p (build header is .words) ≤ p .byte * sum lyricBytes is
+  pub words-weight : Covered p → (header : Key) (is : List Item) → wordsWeight p (build ed header is .words) ≤ p .byte * sum lyricBytes is
   unfolding build finished newPart
   words-weight enough header is =
-      let s = foldl (onItem header) newPart is in
-      let e : linesBytes s ≡ sum lyricBytes is = omega (arith, items-lines header is newPart) in
+      let s = foldl (onItem ed header) newPart is in
+      let e : linesBytes s ≡ sum lyricBytes is = omega (arith, items-lines ed header is newPart) in
       let r : sungBytes p (reverse (s .verses .lines)) ≡ linesBytes s = sum-reverse (λ (l : Sung). length (l .text)) (s .verses .lines) in
       let n : List (List Syllable) = replicate (s .verses .sounded) [] in
-      omega (arith, sung-weight p enough (reverse (s .verses .lines)) n, none-weight p (s .verses .sounded), ap (λ (x : ℕ). p .byte * x) (r ∙ e))
+      omega (arith, sung-in-weight p enough ed (takersIn 0 (finishedMeasures header s)) (reverse (s .verses .lines)) n, none-weight p (s .verses .sounded), ap (λ (x : ℕ). p .byte * x) (r ∙ e))
 
   -- they are written with the notes that sing them, no more of them than there are
   pub lyrics-weight : (i : ℕ) (xs : List (ℕ × Note)) (ws : List (List Syllable)) → sum (λ (x : ℕ × Syllable). syllableWeight p (x .1)) (lyricsOf i xs ws) ≤ wordsWeight p ws

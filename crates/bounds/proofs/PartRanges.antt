@@ -1,5 +1,5 @@
 -- The numbers of a part are in their ranges, while it is read and when it is finished.
-use Prim.Native.Nat.{ℕ, zero, suc, _+_, _<_}
+use Prim.Native.Nat.{ℕ, zero, suc, _+_, _<_, _%_}
 use mathlib.Core.Path.{_≡_, refl, ap}
 use mathlib.Core.Bool.{Bool, true, false, cond, _&&_}
 use mathlib.Core.Option.{Option, none, some}
@@ -19,6 +19,7 @@ use Rattle.standard.specs.Tuplets.{boundary}
 use Rattle.standard.specs.Notes
 use Rattle.standard.specs.Notes.{NoteKind, Beam, Behind, isSounded}
 use Rattle.standard.specs.Lyrics.{nextVerse}
+use Rattle.editions.specs.declared.Edition.{Edition}
 use Rattle.reader.specs.Lengths.{Length, valueOf}
 use Rattle.reader.specs.Pitches.{Scope, remembered, orKey, soundBy, soundOf, scopeBy, scopeAfter, soundsOf, scopeAfterAll}
 use Rattle.reader.specs.Token.{Token, space, overlay, quoted, broken, tuplet, slur, graceOpen, graceClose, decoration, barline, volta, unit, meter, key, field, chord, rest, note, nothing, skipped, refused}
@@ -27,7 +28,7 @@ use Rattle.reader.specs.Barlines.{leftOf}
 use Rattle.reader.specs.Scan.{Item, voiceDeclared, reset, keyInHeader, keyChange, meterChange, lyricLine, musicLine}
 use Rattle.reader.specs.State.{PartState, Note, Measure, Half, Running, Verses, withBeam, withVoices, withRight, withLeft, withMeter, withKeyMark, withVolta, Volta, voltaBegins, onOpen, isEmpty, voiceIn, voiceNow, setVoice, newMeasure, newPart, newLine, noScopes}
 use Rattle.reader.specs.Voltas.{starts, endsAt, close, closed}
-use Rattle.reader.specs.Part.{halvedNote, brokenNote, onBroken, afterHalf, canBeam, beamed, beamedAgain, onNothing, groupIn, grouped, oneFewer, countedIn, append, restNote, soundNote, onSound, leftSet, ended, onBarline, hears, onToken, opened, lineBegins, onLine, onLyric, onKey, onItem, dropped, inOrder, markedBy, marked, finished}
+use Rattle.reader.specs.Part.{halvedNote, brokenNote, onBroken, afterHalf, canBeam, beamed, beamedAgain, onNothing, groupIn, grouped, oneFewer, countedIn, append, restNote, soundNote, onSound, leftSet, ended, onBarline, hears, onToken, opened, lineBegins, onLine, onLyric, onKey, onItem, dropped, inOrder, markedBy, marked, finished, normalIn, inMeter, finishedMeasures}
 use Rattle.reader.proofs.ValueLaws.{value-range}
 use Rattle.bounds.specs.Ranges.{MeterFits, PassesFit, SignFits, WrittenFits, PitchFits, TokenFits, NoteFits, MeasureFits, VoltaOpen, OpenFits, RunningFits, VerseFits, StateFits, ItemFits, VoltasClosed}
 use Rattle.bounds.proofs.TokenRanges.{tokens-fit}
@@ -279,14 +280,20 @@ sound-state ws l b s f h =
 no-scopes-fit : All (All PitchFits) noScopes
 no-scopes-fit = (tt, (tt, (tt, (tt, tt))))
 
+-- a default that waits for the meter is 3 or 2
+normal-in-fits : (m : Meter) (q : ℕ) → q < 256 → normalIn m q < 256
+unfolding normalIn
+normal-in-fits m zero h = by-test (eqb (m .0 % 3) 0) (λ e. rw e (lit< tt)) (λ e. rw e (lit< tt))
+normal-in-fits m (suc q) h = h
+
 -- ANY TOKEN
 pub token-state : (s : PartState) (t : Token) → TokenFits t → StateFits s → StateFits (onToken s t)
-unfolding onToken onBarline hears TokenFits RunningFits
+unfolding onToken onBarline hears inMeter TokenFits RunningFits
 token-state s space f h = record { measures-fit = h .measures-fit; scopes-fit = h .scopes-fit; meter-fits = h .meter-fits; tuplet-fits = h .tuplet-fits; verse-fits = h .verse-fits; lines-fit = h .lines-fit }
 token-state s overlay f h = record { measures-fit = h .measures-fit; scopes-fit = h .scopes-fit; meter-fits = h .meter-fits; tuplet-fits = h .tuplet-fits; verse-fits = h .verse-fits; lines-fit = h .lines-fit }
 token-state s quoted f h = h
 token-state s (broken up n) f h = broken-state up n (voiceNow s) s (now-fits s h) h
-token-state s (tuplet t) f h = record { measures-fit = h .measures-fit; scopes-fit = h .scopes-fit; meter-fits = h .meter-fits; tuplet-fits = f; verse-fits = h .verse-fits; lines-fit = h .lines-fit }
+token-state s (tuplet t) f h = record { measures-fit = h .measures-fit; scopes-fit = h .scopes-fit; meter-fits = h .meter-fits; tuplet-fits = (f .0, normal-in-fits (s .line .meter) (t .normal) (f .1)); verse-fits = h .verse-fits; lines-fit = h .lines-fit }
 token-state s slur f h = record { measures-fit = h .measures-fit; scopes-fit = h .scopes-fit; meter-fits = h .meter-fits; tuplet-fits = h .tuplet-fits; verse-fits = h .verse-fits; lines-fit = h .lines-fit }
 token-state s graceOpen f h = record { measures-fit = h .measures-fit; scopes-fit = h .scopes-fit; meter-fits = h .meter-fits; tuplet-fits = h .tuplet-fits; verse-fits = h .verse-fits; lines-fit = h .lines-fit }
 token-state s graceClose f h = record { measures-fit = h .measures-fit; scopes-fit = h .scopes-fit; meter-fits = h .meter-fits; tuplet-fits = h .tuplet-fits; verse-fits = h .verse-fits; lines-fit = h .lines-fit }
@@ -319,10 +326,10 @@ unfolding opened
 opened-fit t [] f h = (new-measure t normal f, tt)
 opened-fit t (m ∷ ms) f h = h
 
-line-state : (u : ℕ) (t : Meter) (l : List ℕ) (s : PartState) → MeterFits t → StateFits s → StateFits (onLine u t l s)
+line-state : (ed : Edition) (u : ℕ) (t : Meter) (l : List ℕ) (s : PartState) → MeterFits t → StateFits s → StateFits (onLine ed u t l s)
 unfolding onLine lineBegins newLine RunningFits
-line-state u t l s f h =
-    tokens-state (tokens 0 l) (lineBegins u t s) (tokens-fit 0 l)
+line-state ed u t l s f h =
+    tokens-state (tokens ed 0 l) (lineBegins u t s) (tokens-fit ed 0 l)
     (record { measures-fit = opened-fit t (s .measures) f (h .measures-fit); scopes-fit = h .scopes-fit; meter-fits = f; tuplet-fits = tt; verse-fits = (lit≤ tt, lit≤ tt); lines-fit = h .lines-fit })
 
 -- A LYRIC LINE
@@ -339,20 +346,20 @@ key-state header k (m ∷ ms) s h =
     (record { measures-fit = h .measures-fit; scopes-fit = no-scopes-fit; meter-fits = h .meter-fits; tuplet-fits = h .tuplet-fits; verse-fits = h .verse-fits; lines-fit = h .lines-fit })
 
 -- ANY ITEM
-pub item-state : (header : Key) (s : PartState) (i : Item) → ItemFits i → StateFits s → StateFits (onItem header s i)
+pub item-state : (ed : Edition) (header : Key) (s : PartState) (i : Item) → ItemFits i → StateFits s → StateFits (onItem ed header s i)
 unfolding onItem onLyric ItemFits
-item-state header s (voiceDeclared b) f h = record { measures-fit = h .measures-fit; scopes-fit = h .scopes-fit; meter-fits = h .meter-fits; tuplet-fits = h .tuplet-fits; verse-fits = h .verse-fits; lines-fit = h .lines-fit }
-item-state header s reset f h = record { measures-fit = h .measures-fit; scopes-fit = h .scopes-fit; meter-fits = h .meter-fits; tuplet-fits = h .tuplet-fits; verse-fits = h .verse-fits; lines-fit = h .lines-fit }
-item-state header s keyInHeader f h = record { measures-fit = h .measures-fit; scopes-fit = h .scopes-fit; meter-fits = h .meter-fits; tuplet-fits = h .tuplet-fits; verse-fits = h .verse-fits; lines-fit = h .lines-fit }
-item-state header s (keyChange k) f h = key-state header k (s .measures) s h
-item-state header s (meterChange t) f h = open-state (withMeter t) (meter-measure t f) s h
-item-state header s (lyricLine b t) f h =
+item-state ed header s (voiceDeclared b) f h = record { measures-fit = h .measures-fit; scopes-fit = h .scopes-fit; meter-fits = h .meter-fits; tuplet-fits = h .tuplet-fits; verse-fits = h .verse-fits; lines-fit = h .lines-fit }
+item-state ed header s reset f h = record { measures-fit = h .measures-fit; scopes-fit = h .scopes-fit; meter-fits = h .meter-fits; tuplet-fits = h .tuplet-fits; verse-fits = h .verse-fits; lines-fit = h .lines-fit }
+item-state ed header s keyInHeader f h = record { measures-fit = h .measures-fit; scopes-fit = h .scopes-fit; meter-fits = h .meter-fits; tuplet-fits = h .tuplet-fits; verse-fits = h .verse-fits; lines-fit = h .lines-fit }
+item-state ed header s (keyChange k) f h = key-state header k (s .measures) s h
+item-state ed header s (meterChange t) f h = open-state (withMeter t) (meter-measure t f) s h
+item-state ed header s (lyricLine b t) f h =
     record { measures-fit = h .measures-fit; scopes-fit = h .scopes-fit; meter-fits = h .meter-fits; tuplet-fits = h .tuplet-fits; verse-fits = next-fits b (s .verses .verse) (h .verse-fits); lines-fit = (record { verse-fits = h .verse-fits; text-fits = f }, h .lines-fit) }
-item-state header s (musicLine u t l) f h = line-state u t l s f h
+item-state ed header s (musicLine u t l) f h = line-state ed u t l s f h
 
-pub items-state : (header : Key) (is : List Item) (s : PartState) → All ItemFits is → StateFits s → StateFits (foldl (onItem header) s is)
-items-state header [] s f h = h
-items-state header (i ∷ is) s f h = items-state header is (onItem header s i) (f .1) (item-state header s i (f .0) h)
+pub items-state : (ed : Edition) (header : Key) (is : List Item) (s : PartState) → All ItemFits is → StateFits s → StateFits (foldl (onItem ed header) s is)
+items-state ed header [] s f h = h
+items-state ed header (i ∷ is) s f h = items-state ed header is (onItem ed header s i) (f .1) (item-state ed header s i (f .0) h)
 
 -- a part begins so
 pub new-part-fits : StateFits newPart
@@ -426,12 +433,12 @@ ordered-fit : (s : PartState) → StateFits s → All OpenFits (ordered s)
 ordered-fit s h = order-fit (reverse (dropped (s .measures))) (All-reverse OpenFits (dropped (s .measures)) (dropped-fit (s .measures) (h .measures-fit)))
 
 -- the measures of a finished part
-pub finished-fit : (header : Key) (s : PartState) → StateFits s → All MeasureFits (finished header s .measures)
-unfolding finished closed SpanFits
-finished-fit header s h = marked-fit header (close none (ordered s)) (close-fit none (ordered s) tt (All-map OpenFits MeasureFits (λ m f. f .fits) (ordered s) (ordered-fit s h)))
+pub finished-fit : (ed : Edition) (header : Key) (s : PartState) → StateFits s → All MeasureFits (finished ed header s .measures)
+unfolding finished finishedMeasures closed SpanFits
+finished-fit ed header s h = marked-fit header (close none (ordered s)) (close-fit none (ordered s) tt (All-map OpenFits MeasureFits (λ m f. f .fits) (ordered s) (ordered-fit s h)))
 
 -- their voltas
-pub finished-voltas : (header : Key) (s : PartState) → StateFits s → VoltasClosed (finished header s .measures)
-unfolding finished
-finished-voltas header s h =
+pub finished-voltas : (ed : Edition) (header : Key) (s : PartState) → StateFits s → VoltasClosed (finished ed header s .measures)
+unfolding finished finishedMeasures
+finished-voltas ed header s h =
     record { before = ordered s; opens = All-map OpenFits (λ (m : Measure). VoltaOpen (m .volta)) (λ m f. f .volta-open) (ordered s) (ordered-fit s h); same = marked-voltas header (closed (ordered s)) }

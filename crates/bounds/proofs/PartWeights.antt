@@ -11,6 +11,7 @@ use lib.ListN.{length, getD}
 use Rattle.laws.specs.Lists.{foldl, all, sum, alterAt, onFirst, isNil}
 use Rattle.laws.proofs.Bools.{by-test, and-no-right}
 use Rattle.laws.proofs.Lists.{sum-map, sum-put, sum-reverse, sum-same}
+use Rattle.editions.specs.declared.Edition.{Edition}
 use Rattle.reader.proofs.PartLaws.{length-sounds}
 use Rattle.standard.specs.Keys.{Key}
 use Rattle.standard.specs.Fields.{Meter}
@@ -27,12 +28,12 @@ use Rattle.reader.specs.Barlines.{leftOf}
 use Rattle.reader.specs.Scan.{Item, voiceDeclared, reset, keyInHeader, keyChange, meterChange, lyricLine, musicLine}
 use Rattle.reader.specs.State.{PartState, Note, Measure, Half, Running, withBeam, withVoices, withRight, withMeter, withKeyMark, withVolta, voltaBegins, onOpen, isEmpty, voiceIn, voiceNow, setVoice, setScopes, setPending, newMeasure, newPart, noScopes}
 use Rattle.reader.specs.Voltas.{starts, endsAt, close, closed}
-use Rattle.reader.specs.Part.{halvedNote, brokenNote, onBroken, afterHalf, canBeam, beamed, beamedAgain, onNothing, grouped, append, restNote, soundNote, onSound, leftSet, ended, onBarline, hears, onToken, opened, lineBegins, onLine, onLyric, onKey, onItem, dropped, inOrder, markedBy, marked, finished, build}
+use Rattle.reader.specs.Part.{halvedNote, brokenNote, onBroken, afterHalf, canBeam, beamed, beamedAgain, onNothing, grouped, append, restNote, soundNote, onSound, leftSet, ended, onBarline, hears, onToken, opened, lineBegins, onLine, onLyric, onKey, onItem, dropped, inOrder, markedBy, marked, finished, build, finishedMeasures}
 use Rattle.reader.proofs.LineLaws.{Kept, kept-item, ready-begins, ready-after}
 use Rattle.bounds.specs.Weights.{Weights, Covered, noteWeight, voiceWeight, measureWeight, measuresWeight, keptBack, scopesWeight, stateWeight, markWeight, writtenWeight, tokenWeight, musicBytes}
 use Rattle.bounds.proofs.TokenWeights.{line-covered}
 
-module _ (p : Weights) where
+module _ (ed : Edition) (p : Weights) where
   -- NOTES: what changes a note leaves its pitches
   broken-weight : (h : Half) (n : Note) → noteWeight p (brokenNote h n) ≡ noteWeight p n
   unfolding brokenNote halvedNote noteWeight
@@ -278,12 +279,12 @@ module _ (p : Weights) where
     begins-step u t s = omega (arith, opened-weight t (s .measures))
 
     -- a whole line
-    line-step : (u : ℕ) (t : Meter) (l : List ℕ) (s : PartState) → Kept s → paidFor (onLine u t l s) ≤ paidFor s + p .byte * length l
+    line-step : (u : ℕ) (t : Meter) (l : List ℕ) (s : PartState) → Kept s → paidFor (onLine ed u t l s) ≤ paidFor s + p .byte * length l
     unfolding onLine
     line-step u t l s k =
         let b = lineBegins u t s in
-        let e = foldl onToken b (tokens 0 l) in
-        omega (arith, begins-step u t s, tokens-step (tokens 0 l) b, line-covered p enough l, open-first (e .measures) (ready-after b (tokens 0 l) (ready-begins u t s (k .voices-kept) (k .scopes-kept)) .is-open))
+        let e = foldl onToken b (tokens ed 0 l) in
+        omega (arith, begins-step u t s, tokens-step (tokens ed 0 l) b, line-covered ed p enough l, open-first (e .measures) (ready-after b (tokens ed 0 l) (ready-begins u t s (k .voices-kept) (k .scopes-kept)) .is-open))
 
     -- A K LINE
     key-step : (header k : Key) (ms : List Measure) (s : PartState) → paidFor (onKey header k ms s) ≤ paidFor s
@@ -292,7 +293,7 @@ module _ (p : Weights) where
     key-step header k (m ∷ ms) s = omega (arith, leaves-weight (withKeyMark k) (λ m. refl) (s .measures), first-leaves (withKeyMark k) (s .measures), no-scopes)
 
     -- ANY ITEM
-    pub item-step : (header : Key) (s : PartState) (i : Item) → Kept s → paidFor (onItem header s i) ≤ paidFor s + p .byte * musicBytes i
+    pub item-step : (header : Key) (s : PartState) (i : Item) → Kept s → paidFor (onItem ed header s i) ≤ paidFor s + p .byte * musicBytes i
     unfolding onItem onLyric onOpen stateWeight musicBytes
     item-step header s (voiceDeclared b) k = omega arith
     item-step header s reset k = omega arith
@@ -303,18 +304,18 @@ module _ (p : Weights) where
     item-step header s (musicLine u t l) k = line-step u t l s k
 
     -- any items
-    items-step : (header : Key) (is : List Item) (s : PartState) → Kept s → paidFor (foldl (onItem header) s is) ≤ paidFor s + p .byte * sum musicBytes is
+    items-step : (header : Key) (is : List Item) (s : PartState) → Kept s → paidFor (foldl (onItem ed header) s is) ≤ paidFor s + p .byte * sum musicBytes is
     items-step header [] s k = omega arith
     items-step header (i ∷ is) s k =
-        omega (arith, item-step header s i k, items-step header is (onItem header s i) (kept-item header s i k), mul-add (p .byte) (musicBytes i) (sum musicBytes is))
+        omega (arith, item-step header s i k, items-step header is (onItem ed header s i) (kept-item ed header s i k), mul-add (p .byte) (musicBytes i) (sum musicBytes is))
 
     -- a part while it is read, with its first measure
-    pub items-covered : (header : Key) (is : List Item) → paidFor (foldl (onItem header) newPart is) ≤ p .measure + p .byte * sum musicBytes is
+    pub items-covered : (header : Key) (is : List Item) → paidFor (foldl (onItem ed header) newPart is) ≤ p .measure + p .byte * sum musicBytes is
     unfolding newPart stateWeight keptBack scopesWeight firstWeight
     items-covered header is = omega (arith, items-step header is newPart (record { scopes-kept = refl; voices-kept = tt }))
 
     -- a part while it is read, after any of its items
-    pub reading-weight : (header : Key) (is : List Item) → stateWeight p (foldl (onItem header) newPart is) ≤ p .measure + p .byte * sum musicBytes is
+    pub reading-weight : (header : Key) (is : List Item) → stateWeight p (foldl (onItem ed header) newPart is) ≤ p .measure + p .byte * sum musicBytes is
     reading-weight header is = omega (arith, items-covered header is)
 
   -- THE END OF A PART adds nothing
@@ -350,9 +351,9 @@ module _ (p : Weights) where
   marked-weight h (m ∷ ms) = ap (λ (x : ℕ). x + measuresWeight p ms) (mark-weight h m (m .key))
 
   -- THE MEASURES OF A FINISHED PART: its first, and what its lines' bytes cover
-  pub part-weight : Covered p → (header : Key) (is : List Item) → measuresWeight p (build header is .measures) ≤ p .measure + p .byte * sum musicBytes is
-  unfolding build finished closed stateWeight
+  pub part-weight : Covered p → (header : Key) (is : List Item) → measuresWeight p (build ed header is .measures) ≤ p .measure + p .byte * sum musicBytes is
+  unfolding build finished finishedMeasures closed stateWeight
   part-weight enough header is =
-      let s = foldl (onItem header) newPart is in
+      let s = foldl (onItem ed header) newPart is in
       let r = reverse (dropped (s .measures)) in
       omega (arith, reading-weight enough header is, marked-weight header (close none (map inOrder r)), close-weight none (map inOrder r), sum-map inOrder (measureWeight p) r, sum-same (λ m. measureWeight p (inOrder m)) (measureWeight p) order-weight r, sum-reverse (measureWeight p) (dropped (s .measures)), dropped-weight (s .measures))

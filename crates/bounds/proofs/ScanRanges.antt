@@ -12,16 +12,19 @@ use Rattle.laws.specs.Lists.{All, elem, isNil}
 use Rattle.laws.proofs.Bools.{by-test, T→true, and-left}
 use Rattle.laws.proofs.Lists.{All-append}
 use Rattle.standard.specs.Fields.{Meter}
+use Rattle.standard.specs.Keys.{Key}
+use Rattle.editions.specs.declared.Edition.{Edition}
 use Rattle.reader.specs.Text.{isBlank, push, textLines, cut, trim, clean, hasHigh}
-use Rattle.reader.specs.Fields.{middleWord, identifier}
+use Rattle.reader.specs.Fields.{middleWord, identifier, keyRefusal}
 use Rattle.reader.specs.Token.{Token, space, overlay, quoted, broken, tuplet, slur, graceOpen, graceClose, decoration, barline, volta, chord, rest, note, nothing, skipped}
 use Rattle.reader.specs.Token
 use Rattle.reader.specs.Tokens.{tokens, Effect, counts, refuses, setsUnit, setsMeter, noEffect, effectOf, effects}
-use Rattle.reader.specs.Lines.{isV, isK, isL, isM, isX, isLyric, isField, Kind, blank, refused, lyric, voice, key, meter, unit, tune, other, music, voiceKind, keyKind, fieldKind, lineKind, kindOf}
+use Rattle.reader.specs.Lines.{isV, isK, isL, isM, isX, isLyric, isField, Kind, blank, refused, lyric, voice, key, meter, unit, tune, other, music, voiceKind, keyKind, fieldKind, lineKind, kindOf, kindUnless}
 use Rattle.reader.specs.Steps.{TextLine, refuse, on, run, first}
 use Rattle.reader.specs.Scan.{Item, ScanState, begin, mostNotes, mostVoices, mostLines, lastMeter, firstRefusal, voicesBefore, playOn, voiceOn, unitOn, act, step, scan, Out, Items}
+use Rattle.reader.specs.Keys.{keyOf}
 use Rattle.bounds.specs.Ranges.{Bytes, MeterFits, isLineRefusal, LineRefusal, TokenFits, ItemFits}
-use Rattle.bounds.proofs.TokenRanges.{tokens-fit, meter-fits}
+use Rattle.bounds.proofs.TokenRanges.{tokens-fit, meter-fits, RefusalFits, key-refusal}
 use Rattle.bounds.proofs.ScanWeights.{before-count}
 
 -- THE NUMBER of a line's refusal is a byte
@@ -109,9 +112,9 @@ effects-map [] h = tt
 effects-map (t ∷ ts) h = (effect-fits t (h .0), effects-map ts (h .1))
 
 -- of a line
-effects-fit : (l : List ℕ) → All EffectFits (effects l)
+effects-fit : (ed : Edition) (l : List ℕ) → All EffectFits (effects ed l)
 unfolding effects
-effects-fit l = effects-map (tokens 0 l) (tokens-fit 0 l)
+effects-fit ed l = effects-map (tokens ed 0 l) (tokens-fit ed 0 l)
 
 -- the meter after them
 last-fits : (es : List Effect) (m : Meter) → All EffectFits es → MeterFits m → MeterFits (lastMeter es m)
@@ -151,14 +154,20 @@ KindRange tune = Unit {0}
 KindRange other = Unit {0}
 KindRange (music hi es l) = All EffectFits es
 
+-- a key, unless it is refused
+unless-range : (k : Key) (o : Option ℕ) → RefusalFits o → KindRange (kindUnless k o)
+unfolding kindUnless KindRange RefusalFits
+unless-range k none h = tt
+unless-range k (some n) h = h
+
 -- a field
-field-range : (l : List ℕ) → KindRange (fieldKind l)
+field-range : (ed : Edition) (l : List ℕ) → KindRange (fieldKind ed l)
 unfolding fieldKind voiceKind keyKind KindRange
-field-range l =
+field-range ed l =
     by-test (isV l)
     (λ e. rw e (by-test (hasHigh l) (λ f. rw f tt) (λ f. rw f (by-test (isNil (identifier (drop 2 l))) (λ g. rw g tt) (λ g. rw g tt)))))
     (λ e. rw e
-    (by-test (isK l) (λ f. rw f (by-test (hasHigh l) (λ g. rw g tt) (λ g. rw g (by-test (middleWord (drop 2 l)) (λ k. rw k tt) (λ k. rw k tt)))))
+    (by-test (isK l) (λ f. rw f (by-test (hasHigh l) (λ g. rw g tt) (λ g. rw g (unless-range (keyOf ed (drop 2 l)) (keyRefusal ed (drop 2 l)) (key-refusal ed (drop 2 l))))))
     (λ f. rw f
     (by-test (isL l) (λ g. rw g (by-test (hasHigh l) (λ k. rw k tt) (λ k. rw k tt)))
     (λ g. rw g
@@ -166,14 +175,14 @@ field-range l =
     (λ k. rw k (by-test (isX l) (λ m. rw m tt) (λ m. rw m tt)))))))))
 
 -- any line
-kind-range : (l : List ℕ) → Bytes l → KindRange (lineKind l)
+kind-range : (ed : Edition) (l : List ℕ) → Bytes l → KindRange (lineKind ed l)
 unfolding lineKind KindRange
-kind-range l h =
+kind-range ed l h =
     by-test (isNil l) (λ e. rw e tt)
     (λ e. rw e
     (by-test (ltb 1048576 (length l)) (λ f. rw f tt)
     (λ f. rw f
-    (by-test (isLyric l) (λ g. rw g (drop-bytes 2 l h)) (λ g. rw g (by-test (isField l) (λ k. rw k (field-range l)) (λ k. rw k (effects-fit l))))))))
+    (by-test (isLyric l) (λ g. rw g (drop-bytes 2 l h)) (λ g. rw g (by-test (isField l) (λ k. rw k (field-range ed l)) (λ k. rw k (effects-fit ed l))))))))
 
 -- A STATE OF THE SCAN
 pub record ScanFits (s : ScanState) : Type 0 where
@@ -237,10 +246,10 @@ act-out s (music true es l) false h f = tt
 act-out s (music false es l) false h f = play-out s es l (firstRefusal (s .notes) es) h f (first-fits (s .notes) es f)
 
 -- a line of the text
-step-out : (s : ScanState) (r : TextLine) → ScanFits s → Bytes r → OutFits (step s r)
+step-out : (ed : Edition) (s : ScanState) (r : TextLine) → ScanFits s → Bytes r → OutFits (step ed s r)
 unfolding step kindOf OutFits
-step-out s r h b =
-    by-test (ltb (s .lines) mostLines) (λ e. rw e (act-out s (lineKind (clean r)) (s .env .inHeader) h (kind-range (clean r) (clean-bytes r b)))) (λ e. rw e tt)
+step-out ed s r h b =
+    by-test (ltb (s .lines) mostLines) (λ e. rw e (act-out s (lineKind ed (clean r)) (s .env .inHeader) h (kind-range ed (clean r) (clean-bytes r b)))) (λ e. rw e tt)
 
 -- THE LINES OF A TEXT
 first-out : (a : Items) (o : Out) → ItemsFit a → OutFits o → OutFits (first a o)
@@ -249,16 +258,16 @@ first-out a (refuse n l) h f = f
 first-out a (on t b) h f = (f .0, All-append _ a b h (f .1))
 
 -- any lines
-run-out : (rs : List TextLine) (s : ScanState) → ScanFits s → All Bytes rs → OutFits (run step s rs)
+run-out : (ed : Edition) (rs : List TextLine) (s : ScanState) → ScanFits s → All Bytes rs → OutFits (run (step ed) s rs)
 unfolding OutFits
-run-out [] s h b = (h, tt)
-run-out (r ∷ rs) s h b = go (step s r) refl (step-out s r h (b .0)) (λ t k. run-out rs t k (b .1))
+run-out ed [] s h b = (h, tt)
+run-out ed (r ∷ rs) s h b = go (step ed s r) refl (step-out ed s r h (b .0)) (λ t k. run-out ed rs t k (b .1))
   where
-    go : (o : Out) → step s r ≡ o → OutFits o → ((t : ScanState) → ScanFits t → OutFits (run step t rs)) → OutFits (run step s (r ∷ rs))
+    go : (o : Out) → step ed s r ≡ o → OutFits o → ((t : ScanState) → ScanFits t → OutFits (run (step ed) t rs)) → OutFits (run (step ed) s (r ∷ rs))
     go (refuse n l) e f ih = rw (e, run) f
-    go (on t a) e f ih = rw (e, run) (first-out a (run step t rs) (f .1) (ih t (f .0)))
+    go (on t a) e f ih = rw (e, run) (first-out a (run (step ed) t rs) (f .1) (ih t (f .0)))
 
 -- THE SCAN OF A TEXT of bytes
-pub scan-out : (text : List ℕ) → Bytes text → OutFits (scan (textLines text))
+pub scan-out : (ed : Edition) (text : List ℕ) → Bytes text → OutFits (scan ed (textLines text))
 unfolding scan begin
-scan-out text h = run-out (textLines text) begin (record { meter-in = (lit< tt, lit< tt); voices-in = lit≤ tt }) (rows-bytes text h)
+scan-out ed text h = run-out ed (textLines text) begin (record { meter-in = (lit< tt, lit< tt); voices-in = lit≤ tt }) (rows-bytes text h)

@@ -13,6 +13,7 @@ use Rattle.laws.specs.Lists.{sum, All, elem}
 use Rattle.laws.proofs.Bools.{by-test}
 use Rattle.laws.proofs.Lists.{sum-append, All-append}
 use Rattle.laws.proofs.Numbers.{mul-le-right, mul-le-left}
+use Rattle.editions.specs.declared.Edition.{Edition}
 use Rattle.reader.specs.Text.{clean}
 use Rattle.reader.specs.Tokens.{Effect}
 use Rattle.reader.specs.Lines.{Kind, blank, refused, lyric, voice, key, meter, unit, tune, other, music, lineKind, kindOf}
@@ -40,15 +41,15 @@ holds-first P Q a f (refuse n l) h = tt
 holds-first P Q a f (on t b) h = f t b h
 
 -- a line, and the lines behind it
-pub holds-run : (P R : ScanState → Items → Type 0) (Q : ScanState → Items → ScanState → Items → Type 0) (s : ScanState) (r : TextLine) (rs : List TextLine)
-    → Holds P (step s r) → ((t : ScanState) (a : Items) → P t a → Holds (Q t a) (run step t rs))
-    → ((t : ScanState) (a : Items) (u : ScanState) (b : Items) → P t a → Q t a u b → R u (a ++ b)) → Holds R (run step s (r ∷ rs))
+pub holds-run : (ed : Edition) (P R : ScanState → Items → Type 0) (Q : ScanState → Items → ScanState → Items → Type 0) (s : ScanState) (r : TextLine) (rs : List TextLine)
+    → Holds P (step ed s r) → ((t : ScanState) (a : Items) → P t a → Holds (Q t a) (run (step ed) t rs))
+    → ((t : ScanState) (a : Items) (u : ScanState) (b : Items) → P t a → Q t a u b → R u (a ++ b)) → Holds R (run (step ed) s (r ∷ rs))
 unfolding Holds
-holds-run P R Q s r rs h g f = go (step s r) refl h
+holds-run ed P R Q s r rs h g f = go (step ed s r) refl h
   where
-    go : (o : Out) → step s r ≡ o → Holds P o → Holds R (run step s (r ∷ rs))
+    go : (o : Out) → step ed s r ≡ o → Holds P o → Holds R (run (step ed) s (r ∷ rs))
     go (refuse n l) e k = rw (e, run) tt
-    go (on t a) e k = rw (e, run) (holds-first (Q t a) R a (λ u b q. f t a u b k q) (run step t rs) (g t a k))
+    go (on t a) e k = rw (e, run) (holds-first (Q t a) R a (λ u b q. f t a u b k q) (run (step ed) t rs) (g t a k))
 
 -- no item is of a music line
 abbrev pub Silent : Items → Type 0
@@ -70,7 +71,7 @@ unfolding voicesBefore
 before-count s = unnamed-count (s .opened) (s .env .voices)
 
 -- THE WEIGHT OF A LINE: an item's, and that of a byte of the item's line; the budget of a byte of the text, and what is left to the line feed; a voice's
-module _ (item byte perByte rest voiceWeight : ℕ) where
+module _ (ed : Edition) (item byte perByte rest voiceWeight : ℕ) where
   -- each byte's budget covers these weights
   pub record Enough : Type 0 where
     -- a line of one byte, and its feed
@@ -158,24 +159,24 @@ module _ (item byte perByte rest voiceWeight : ℕ) where
     act-budget s (music false es l) false n f = play-budget s es l n (f .0) (f .1) (firstRefusal (s .notes) es)
 
     -- a line of the text, by its line cut and trimmed
-    pub line-budget : (s : ScanState) (r : TextLine) → Holds (Budget s (length (clean r))) (step s r)
+    pub line-budget : (s : ScanState) (r : TextLine) → Holds (Budget s (length (clean r))) (step ed s r)
     unfolding step kindOf Holds
     line-budget s r =
-        by-test (ltb (s .lines) mostLines) (λ e. rw e (act-budget s (lineKind (clean r)) (s .env .inHeader) (length (clean r)) (kind-fits (clean r)))) (λ e. rw e tt)
+        by-test (ltb (s .lines) mostLines) (λ e. rw e (act-budget s (lineKind ed (clean r)) (s .env .inHeader) (length (clean r)) (kind-fits ed (clean r)))) (λ e. rw e tt)
 
     -- a line feed covers what is left to it
     fed-row : (m n : ℕ) → m < n → perByte * m + rest ≤ perByte * n
     fed-row m n h = omega (arith, mul-le-right perByte (suc m) n h, mul-suc perByte m, enough .feed)
 
     -- THE LINES OF A TEXT
-    pub lines-budget : (rs : List TextLine) → Fed rs → (s : ScanState) → Holds (Budget s (sum length rs)) (run step s rs)
+    pub lines-budget : (rs : List TextLine) → Fed rs → (s : ScanState) → Holds (Budget s (sum length rs)) (run (step ed) s rs)
     unfolding Holds Fed
     lines-budget [] f s = omega arith
     lines-budget (r ∷ []) f s =
-        holds-run (Budget s (length (clean r))) (Budget s (length r + 0)) (λ t a u b. (u ≡ t) × (b ≡ [])) s r [] (line-budget s r) (λ t a h. (refl, refl))
+        holds-run ed (Budget s (length (clean r))) (Budget s (length r + 0)) (λ t a u b. (u ≡ t) × (b ≡ [])) s r [] (line-budget s r) (λ t a h. (refl, refl))
         (λ t a u b h q. omega (arith, h, sum-append (λ (x : ℕ × Item). weight (x .1)) a b, ap total (q .1), ap (λ (x : ScanState). voiceWeight * voiceCount x) (q .0), mul-le-right perByte (length (clean r)) (length r + 0) (omega (arith, clean-length r))))
     lines-budget (r ∷ q ∷ rs) f s =
-        holds-run (Budget s (length (clean r))) (Budget s (sum length (r ∷ q ∷ rs))) (λ t a u b. Budget t (sum length (q ∷ rs)) u b) s r (q ∷ rs) (line-budget s r) (λ t a h. lines-budget (q ∷ rs) (f .1) t)
+        holds-run ed (Budget s (length (clean r))) (Budget s (sum length (r ∷ q ∷ rs))) (λ t a u b. Budget t (sum length (q ∷ rs)) u b) s r (q ∷ rs) (line-budget s r) (λ t a h. lines-budget (q ∷ rs) (f .1) t)
         (λ t a u b h k. omega (arith, h, k, sum-append (λ (x : ℕ × Item). weight (x .1)) a b, fed-row (length (clean r)) (length r) (f .0), mul-add perByte (length r) (sum length (q ∷ rs))))
 
     -- IN THE HEADER no item is music. A line of it: the header goes on, or this is its K line, of two bytes or more
@@ -210,11 +211,11 @@ module _ (item byte perByte rest voiceWeight : ℕ) where
     act-head s other n e f b = record { silent = tt; budget = b; line = inl e }
     act-head s (music hi es l) n e f b = record { silent = tt; budget = b; line = inl e }
 
-    row-head : (s : ScanState) (r : TextLine) → s .env .inHeader ≡ true → Holds (Head s (length (clean r))) (step s r)
+    row-head : (s : ScanState) (r : TextLine) → s .env .inHeader ≡ true → Holds (Head s (length (clean r))) (step ed s r)
     unfolding step kindOf Holds
     row-head s r e =
         by-test (ltb (s .lines) mostLines)
-        (λ q. rw q (subst (λ (h : Bool). Holds (Head s (length (clean r))) (act s (lineKind (clean r)) h)) (sym e) (act-head s (lineKind (clean r)) (length (clean r)) e (kind-fits (clean r)) (act-budget s (lineKind (clean r)) true (length (clean r)) (kind-fits (clean r))))))
+        (λ q. rw q (subst (λ (h : Bool). Holds (Head s (length (clean r))) (act s (lineKind ed (clean r)) h)) (sym e) (act-head s (lineKind ed (clean r)) (length (clean r)) e (kind-fits ed (clean r)) (act-budget s (lineKind ed (clean r)) true (length (clean r)) (kind-fits ed (clean r))))))
         (λ q. rw q tt)
 
     -- THE LINES FROM THE HEADER ON: nothing is played, or the K line and its feed cover `extra` too
@@ -228,25 +229,25 @@ module _ (item byte perByte rest voiceWeight : ℕ) where
       three-bytes m n h l = omega (arith, room, mul-le-right perByte 3 n (omega arith))
 
       -- so it is for any lines
-      pub head-budget : (rs : List TextLine) → Fed rs → (s : ScanState) → s .env .inHeader ≡ true → Holds (Headed s (sum length rs)) (run step s rs)
+      pub head-budget : (rs : List TextLine) → Fed rs → (s : ScanState) → s .env .inHeader ≡ true → Holds (Headed s (sum length rs)) (run (step ed) s rs)
       unfolding Holds Fed
       head-budget [] f s e = inl tt
       head-budget (r ∷ []) f s e =
-          holds-run (Head s (length (clean r))) (Headed s (length r + 0)) (λ t a u b. b ≡ []) s r [] (row-head s r e) (λ t a h. refl)
+          holds-run ed (Head s (length (clean r))) (Headed s (length r + 0)) (λ t a u b. b ≡ []) s r [] (row-head s r e) (λ t a h. refl)
           (λ t a u b h q. inl (subst Silent (sym (ap (λ (x : Items). a ++ x) q ∙ append-nil a)) (h .silent)))
       head-budget (r ∷ q ∷ rs) f s e =
           let n = sum length (q ∷ rs) in
-          holds-run (Head s (length (clean r))) (Headed s (length r + n)) (λ t a u b. Headed t n u b ⊎ (Budget t n u b × Key s (length (clean r)) t a)) s r (q ∷ rs) (row-head s r e)
+          holds-run ed (Head s (length (clean r))) (Headed s (length r + n)) (λ t a u b. Headed t n u b ⊎ (Budget t n u b × Key s (length (clean r)) t a)) s r (q ∷ rs) (row-head s r e)
           (λ t a h. behind (λ u i. head-budget (q ∷ rs) (f .1) u i) t a (h .line)) (λ t a u b h k. both t a u b h k)
         where
           -- this line is the header's K line
           Key : ScanState → ℕ → ScanState → Items → Type 0
           Key s n t a = (2 ≤ n) × ((total a ≡ item) × (voiceCount t ≡ voiceCount s))
 
-          behind : ((u : ScanState) → u .env .inHeader ≡ true → Holds (Headed u (sum length (q ∷ rs))) (run step u (q ∷ rs))) → (t : ScanState) (a : Items) → (t .env .inHeader ≡ true) ⊎ Key s (length (clean r)) t a
-              → Holds (λ u b. Headed t (sum length (q ∷ rs)) u b ⊎ (Budget t (sum length (q ∷ rs)) u b × Key s (length (clean r)) t a)) (run step t (q ∷ rs))
-          behind ih t a (inl i) = holds-map (Headed t (sum length (q ∷ rs))) _ (λ u b k. inl k) (run step t (q ∷ rs)) (ih t i)
-          behind ih t a (inr x) = holds-map (Budget t (sum length (q ∷ rs))) _ (λ u b k. inr (k, x)) (run step t (q ∷ rs)) (lines-budget (q ∷ rs) (f .1) t)
+          behind : ((u : ScanState) → u .env .inHeader ≡ true → Holds (Headed u (sum length (q ∷ rs))) (run (step ed) u (q ∷ rs))) → (t : ScanState) (a : Items) → (t .env .inHeader ≡ true) ⊎ Key s (length (clean r)) t a
+              → Holds (λ u b. Headed t (sum length (q ∷ rs)) u b ⊎ (Budget t (sum length (q ∷ rs)) u b × Key s (length (clean r)) t a)) (run (step ed) t (q ∷ rs))
+          behind ih t a (inl i) = holds-map (Headed t (sum length (q ∷ rs))) _ (λ u b k. inl k) (run (step ed) t (q ∷ rs)) (ih t i)
+          behind ih t a (inr x) = holds-map (Budget t (sum length (q ∷ rs))) _ (λ u b k. inr (k, x)) (run (step ed) t (q ∷ rs)) (lines-budget (q ∷ rs) (f .1) t)
 
           both : (t : ScanState) (a : Items) (u : ScanState) (b : Items) → Head s (length (clean r)) t a
               → Headed t (sum length (q ∷ rs)) u b ⊎ (Budget t (sum length (q ∷ rs)) u b × Key s (length (clean r)) t a) → Headed s (length r + sum length (q ∷ rs)) u (a ++ b)

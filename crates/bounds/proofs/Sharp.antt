@@ -7,6 +7,8 @@ use lib.Dec.{ltb}
 use lib.ListN.{length, replicate}
 use Rattle.laws.specs.Lists.{concat}
 use Rattle.standard.specs.Bytes.{ascii}
+use Rattle.editions.specs.declared.Edition.{Edition}
+use Rattle.editions.specs.declared.Edition.the-variants.{First, Second}
 use Rattle.reader.specs.Answer.{Verdict, refusal, reading, encode, scratchNeeded, parseAbc}
 use Rattle.reader.specs.All.{all}
 
@@ -20,6 +22,7 @@ lengthOf (refusal n l) = 0
 lengthOf (reading ps) = length (encode ps)
 
 -- its reading is longer than 22 times the text
-pub too-few : ltb (22 * length text) (lengthOf (parseAbc text (scratchNeeded (length text)) (scratchNeeded (length text)) .verdict)) ≡ true
+pub too-few : (ed : Edition) → ltb (22 * length text) (lengthOf (parseAbc ed text (scratchNeeded (length text)) (scratchNeeded (length text)) .verdict)) ≡ true
 unfolding all
-too-few = refl
+too-few First = refl
+too-few Second = refl

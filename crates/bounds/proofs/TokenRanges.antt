@@ -9,27 +9,32 @@ use native.Mathlib.Omega.{arith}
 use lib.Dec.{ltb, leb, eqb, lit<, lit≤}
 use lib.ListN.{length, take, drop}
 use borrow.Author.Tests.{ltb-true, ltb-false, leb-true}
-use Rattle.laws.specs.Lists.{countWhile, all, isNil, eqText, All}
+use Rattle.laws.specs.Lists.{countWhile, all, isNil, eqText, All, startsWith}
 use Rattle.laws.proofs.Bools.{by-test, and-left, and-right}
 use Rattle.standard.specs.Bytes.{ascii, is, isDigit, first, decimal, digits}
 use Rattle.standard.specs.Fields.{Meter, namedMeter}
 use Rattle.standard.specs.Passes.{Item, pass, passes, rising, passesOf}
 use Rattle.standard.specs.Bars.{Symbol, barSymbols, symbolAt}
-use Rattle.standard.specs.Tuplets.{usualNormal}
+use Rattle.standard.specs.Tuplets.{usualNormal, defaultNormal}
 use Rattle.standard.specs.Pitches.{Accidental, Written, isLetter, stepOf, letterOctave}
-use Rattle.reader.specs.Pieces.{numeral, before, after, pieces, separator, trimmed}
-use Rattle.reader.specs.Fields.{orFour, meterNumber, meterBottom, meterOr, meterText, meterOf, unitInline, middleWord}
+use Rattle.standard.specs.Keys.{Key}
+use Rattle.editions.specs.declared.Edition.{Edition}
+use Rattle.editions.specs.declared.Edition.the-variants.{First, Second}
+use Rattle.reader.specs.Pieces.{numeral, before, after, pieces, separator, trimmed, fieldWords}
+use Rattle.reader.specs.Fields.{orFour, meterNumber, meterBottom, meterOr, meterText, meterOf, unitInline, middleWord, firstMet, keyRefusal}
 use Rattle.reader.specs.Pitches.{octaveFrom, octaveOf, Before, signs, accidentalOf, natural, quarterTone, moved, added, isQuarter, consPitch, chordOf}
-use Rattle.reader.specs.Token.{Token, quoted, decoration, skipped, Taken, taken}
-use Rattle.reader.specs.Tuplets.{notZero, positive, orOneLess, normalFor, counted, withCount, withNormal, withActual, tupletOf, orSlur}
+use Rattle.reader.specs.Token.{Token, quoted, decoration, skipped, Taken, taken, key}
+use Rattle.reader.specs.Tuplets.{notZero, positive, orOneLess, normalFor, counted, withCount, withNormal, withActual, tupletOf, orSlur, partOr}
 use Rattle.reader.specs.Barlines.{barlineAs, barlineOf}
 use Rattle.reader.specs.PassLists.{listItems, numbersIn, isPass, Listed, listed, faulty, tested, isPassByte, voltaAs, voltaOf}
 use Rattle.reader.specs.PassesInTurn.{passNumber, single, range, itemOf, lastPass, inTurn, passList, listFault, orFaulty}
 use Rattle.reader.proofs.PassTests.{tests-in-turn}
-use Rattle.reader.specs.Inline.{unitToken, keyToken, fieldToken, isInline, inlineAt}
+use Rattle.reader.specs.Inline.{unitToken, keyToken, fieldToken, isInline, inlineAt, tokenUnless}
 use Rattle.reader.specs.Sounds.{chordTaken, chordAt, restAs, noteAs, noteAfter, noteOf}
 use Rattle.reader.specs.Tokens.{closedBy, brokenOf, bracketOf, Class, white, ampersand, quote, more, less, paren, braceOpen, braceClose, bang, plus, bars, bracket, pitched, none-of-these, resting, classOf, tokenAs, tokenOf, tokens}
+use Rattle.reader.specs.Keys.{keyOf, isBeyond, isKeyWord}
 use Rattle.bounds.specs.Ranges.{MeterFits, PassesFit, SignFits, WrittenFits, LineRefusal, TokenFits}
+use Rattle.reader.proofs.Tuplets.{normal-most}
 
 -- NUMBERS
 -- a number that is read is at most what may be read
@@ -188,23 +193,11 @@ pub positive-most : (top : ℕ) (s : List ℕ) → Most top (positive top s)
 unfolding positive
 positive-most top s = zero-most top (digits top (take (countWhile isDigit s) s)) (digits-most top (take (countWhile isDigit s) s))
 
--- the usual normal, or one less
-less-most : (p : ℕ) (o : Option ℕ) → p ≤ 255 → Most 255 o → orOneLess p o ≤ 255
-unfolding orOneLess Most
-less-most p none h k = omega arith
-less-most p (some q) h k = k
-
--- the usual normals
-usual-most : (p : ℕ) → Most 255 (usualNormal p)
-unfolding usualNormal Most
-usual-most p =
-    by-test (eqb p 2 || eqb p 4) (λ e. rw (e, usualNormal) (lit≤ tt))
-    (λ e. rw (e, usualNormal) (by-test (eqb p 3) (λ f. rw f (lit≤ tt)) (λ f. rw f tt)))
-
--- any default
-normal-most : (p : ℕ) → p ≤ 255 → normalFor p ≤ 255
-unfolding normalFor
-normal-most p h = less-most p (usualNormal p) h (usual-most p)
+-- a part behind its `:`
+part-most : (ed : Edition) (default top : ℕ) (s : List ℕ) → default ≤ top → Most top (partOr ed default top s)
+unfolding partOr Most
+part-most First default top s h = positive-most top s
+part-most Second default top s h = by-test (isDigit (first s)) (λ e. rw (e, partOr) (positive-most top s)) (λ e. rw (e, partOr) h)
 
 -- a tuplet's answer, if it is one
 unfoldable TakenFits : Option Taken → Type 0
@@ -218,29 +211,29 @@ counted-fits p q n none h k = tt
 counted-fits p q n (some r) h k = (omega arith, omega arith)
 
 -- up to its count
-count-fits : (p q n : ℕ) (s : List ℕ) → p ≤ 255 → q ≤ 255 → TakenFits (withCount p q n s)
+count-fits : (ed : Edition) (p q n : ℕ) (s : List ℕ) → p ≤ 255 → q ≤ 255 → TakenFits (withCount ed p q n s)
 unfolding withCount TakenFits TokenFits
-count-fits p q n s h k =
+count-fits ed p q n s h k =
     by-test (is ":" (first s))
-    (λ e. rw (e, withCount) (counted-fits p q (n + 1 + countWhile isDigit (drop 1 s)) (positive (2 ^ 64 - 1) (drop 1 s)) h k))
+    (λ e. rw (e, withCount) (counted-fits p q (n + 1 + countWhile isDigit (drop 1 s)) (partOr ed p (2 ^ 64 - 1) (drop 1 s)) h k))
     (λ e. rw (e, withCount) (omega arith, omega arith))
 
 -- up to its normal
-normal-fits : (p n : ℕ) (s : List ℕ) (o : Option ℕ) → p ≤ 255 → Most 255 o → TakenFits (withNormal p n s o)
+normal-fits : (ed : Edition) (p n : ℕ) (s : List ℕ) (o : Option ℕ) → p ≤ 255 → Most 255 o → TakenFits (withNormal ed p n s o)
 unfolding withNormal TakenFits Most
-normal-fits p n s none h k = tt
-normal-fits p n s (some q) h k = count-fits p q (n + 1 + countWhile isDigit (drop 1 s)) (drop (1 + countWhile isDigit (drop 1 s)) s) h k
+normal-fits ed p n s none h k = tt
+normal-fits ed p n s (some q) h k = count-fits ed p q (n + 1 + countWhile isDigit (drop 1 s)) (drop (1 + countWhile isDigit (drop 1 s)) s) h k
 
 -- up to its actual
-actual-fits : (n : ℕ) (s : List ℕ) (o : Option ℕ) → Most 255 o → TakenFits (withActual n s o)
+actual-fits : (ed : Edition) (n : ℕ) (s : List ℕ) (o : Option ℕ) → Most 255 o → TakenFits (withActual ed n s o)
 unfolding withActual TakenFits TokenFits Most
-actual-fits n s none h = tt
-actual-fits n s (some p) h =
+actual-fits ed n s none h = tt
+actual-fits ed n s (some p) h =
     by-test (ltb p 2)
     (λ e. rw (e, withActual) tt)
     (λ e. rw (e, withActual)
-    (by-test (is ":" (first s)) (λ f. rw (f, withActual) (normal-fits p n s (positive 255 (drop 1 s)) h (positive-most 255 (drop 1 s))))
-    (λ f. rw (f, withActual) (omega arith, omega (arith, normal-most p h)))))
+    (by-test (is ":" (first s)) (λ f. rw (f, withActual) (normal-fits ed p n s (partOr ed (normalFor ed p) 255 (drop 1 s)) h (part-most ed (normalFor ed p) 255 (drop 1 s) (normal-most ed p h))))
+    (λ f. rw (f, withActual) (omega arith, omega (arith, normal-most ed p h)))))
 
 -- a slur start instead
 slur-fits : (o : Option Taken) → TakenFits o → TokenFits (orSlur o .token)
@@ -249,9 +242,9 @@ slur-fits none h = tt
 slur-fits (some t) h = h
 
 -- a tuplet
-tuplet-fits : (s : List ℕ) → TokenFits (orSlur (tupletOf s) .token)
+tuplet-fits : (ed : Edition) (s : List ℕ) → TokenFits (orSlur (tupletOf ed s) .token)
 unfolding tupletOf
-tuplet-fits s = slur-fits (tupletOf s) (actual-fits (1 + countWhile isDigit s) (drop (countWhile isDigit s) s) (positive 255 s) (positive-most 255 s))
+tuplet-fits ed s = slur-fits (tupletOf ed s) (actual-fits ed (1 + countWhile isDigit s) (drop (countWhile isDigit s) s) (positive 255 s) (positive-most 255 s))
 
 -- PITCHES
 -- a step is one of seven
@@ -401,6 +394,23 @@ unfolding voltaAs ListedFits TokenFits
 volta-fits n s (faulty k) h = h
 volta-fits n s (listed ps) h = h
 
+-- the refusal of a K field, if it has one
+unfoldable pub RefusalFits : Option ℕ → Type 0
+RefusalFits none = Unit {0}
+RefusalFits (some n) = LineRefusal n
+
+met-refusal : (b : Bool) (ws : List (List ℕ)) → RefusalFits (firstMet b ws)
+unfolding firstMet RefusalFits
+met-refusal b [] = tt
+met-refusal b (w ∷ ws) =
+    by-test (startsWith (ascii "middle=") w) (λ e. rw (e, firstMet) tt)
+    (λ e. rw (e, firstMet) (by-test (b && isKeyWord w) (λ f. rw f tt) (λ f. rw f (met-refusal b ws))))
+
+pub key-refusal : (ed : Edition) (s : List ℕ) → RefusalFits (keyRefusal ed s)
+unfolding keyRefusal RefusalFits
+key-refusal First s = by-test (middleWord s) (λ e. rw (e, keyRefusal) tt) (λ e. rw (e, keyRefusal) tt)
+key-refusal Second s = met-refusal (isBeyond (keyOf Second s)) (fieldWords s)
+
 -- an inline L
 unit-fits : (o : Option ℕ) → TokenFits (unitToken o)
 unfolding unitToken TokenFits
@@ -408,60 +418,65 @@ unit-fits none = tt
 unit-fits (some u) = tt
 
 -- an inline K
-key-fits : (s : List ℕ) → TokenFits (keyToken s)
-unfolding keyToken TokenFits
-key-fits s = by-test (middleWord s) (λ e. rw (e, keyToken) tt) (λ e. rw (e, keyToken) tt)
+unless-fits : (k : Key) (o : Option ℕ) → RefusalFits o → TokenFits (tokenUnless k o)
+unfolding tokenUnless TokenFits RefusalFits
+unless-fits k none h = tt
+unless-fits k (some n) h = h
+
+key-fits : (ed : Edition) (s : List ℕ) → TokenFits (keyToken ed s)
+unfolding keyToken
+key-fits ed s = unless-fits (keyOf ed s) (keyRefusal ed s) (key-refusal ed s)
 
 -- an inline field
-field-fits : (s : List ℕ) → TokenFits (fieldToken s)
+field-fits : (ed : Edition) (s : List ℕ) → TokenFits (fieldToken ed s)
 unfolding fieldToken TokenFits
-field-fits s =
+field-fits ed s =
     by-test (is ":" (first (drop 1 s)))
     (λ e. rw (e, fieldToken)
     (by-test (is "L" (first s)) (λ f. rw (f, fieldToken) (unit-fits (unitInline (drop 2 s))))
     (λ f. rw (f, fieldToken)
     (by-test (is "M" (first s)) (λ g. rw (g, fieldToken) (meter-fits (drop 2 s)))
-    (λ g. rw (g, fieldToken) (by-test (is "K" (first s)) (λ k. rw (k, fieldToken) (key-fits (drop 2 s))) (λ k. rw (k, fieldToken) tt)))))))
+    (λ g. rw (g, fieldToken) (by-test (is "K" (first s)) (λ k. rw (k, fieldToken) (key-fits ed (drop 2 s))) (λ k. rw (k, fieldToken) tt)))))))
     (λ e. rw (e, fieldToken) tt)
 
 -- what a `[` begins
-bracket-fits : (s : List ℕ) → TokenFits (bracketOf s .token)
+bracket-fits : (ed : Edition) (s : List ℕ) → TokenFits (bracketOf ed s .token)
 unfolding bracketOf voltaOf inlineAt
-bracket-fits s =
+bracket-fits ed s =
     let n = countWhile isPassByte s in
     let xs = pieces (separator (is ",")) 0 (take n s) in
     by-test (isDigit (first s))
     (λ e. rw (e, bracketOf) (volta-fits n s (tested (listItems xs)) (listed-fits xs)))
     (λ e. rw (e, bracketOf)
-    (by-test (isInline s) (λ f. rw (f, bracketOf) (field-fits (take (countWhile (λ c. not (is "]" c)) s) s))) (λ f. rw (f, bracketOf) (chordAt-fits s))))
+    (by-test (isInline s) (λ f. rw (f, bracketOf) (field-fits ed (take (countWhile (λ c. not (is "]" c)) s) s))) (λ f. rw (f, bracketOf) (chordAt-fits s))))
 
 -- of any class
-as-fits : (k : Class) (s : List ℕ) → TokenFits (tokenAs k s .token)
+as-fits : (ed : Edition) (k : Class) (s : List ℕ) → TokenFits (tokenAs ed k s .token)
 unfolding tokenAs restAs barlineOf TokenFits
-as-fits white s = tt
-as-fits ampersand s = tt
-as-fits quote s = closed-fits (is "\"") quoted (drop 1 s) (taken quoted (length s)) tt tt
-as-fits more s = broken-fits true (suc (countWhile (is ">") (drop 1 s))) s
-as-fits less s = broken-fits false (suc (countWhile (is "<") (drop 1 s))) s
-as-fits paren s = tuplet-fits (drop 1 s)
-as-fits braceOpen s = tt
-as-fits braceClose s = tt
-as-fits bang s = closed-fits (is "!") decoration (drop 1 s) (taken skipped 1) tt tt
-as-fits plus s = closed-fits (is "+") decoration (drop 1 s) (taken skipped 1) tt tt
-as-fits bars s = barline-fits s (symbolAt barSymbols s)
-as-fits bracket s = bracket-fits (drop 1 s)
-as-fits pitched s = note-fits s
-as-fits none-of-these s = tt
-as-fits (resting k) s = tt
+as-fits ed white s = tt
+as-fits ed ampersand s = tt
+as-fits ed quote s = closed-fits (is "\"") quoted (drop 1 s) (taken quoted (length s)) tt tt
+as-fits ed more s = broken-fits true (suc (countWhile (is ">") (drop 1 s))) s
+as-fits ed less s = broken-fits false (suc (countWhile (is "<") (drop 1 s))) s
+as-fits ed paren s = tuplet-fits ed (drop 1 s)
+as-fits ed braceOpen s = tt
+as-fits ed braceClose s = tt
+as-fits ed bang s = closed-fits (is "!") decoration (drop 1 s) (taken skipped 1) tt tt
+as-fits ed plus s = closed-fits (is "+") decoration (drop 1 s) (taken skipped 1) tt tt
+as-fits ed bars s = barline-fits s (symbolAt barSymbols s)
+as-fits ed bracket s = bracket-fits ed (drop 1 s)
+as-fits ed pitched s = note-fits s
+as-fits ed none-of-these s = tt
+as-fits ed (resting k) s = tt
 
 -- every token at the front of any text fits
-pub token-fits : (s : List ℕ) → TokenFits (tokenOf s .token)
+pub token-fits : (ed : Edition) (s : List ℕ) → TokenFits (tokenOf ed s .token)
 unfolding tokenOf
-token-fits s = as-fits (classOf (first s)) s
+token-fits ed s = as-fits ed (classOf (first s)) s
 
 -- so do all tokens of a line
-pub tokens-fit : (k : ℕ) (s : List ℕ) → All TokenFits (tokens k s)
+pub tokens-fit : (ed : Edition) (k : ℕ) (s : List ℕ) → All TokenFits (tokens ed k s)
 unfolding tokens
-tokens-fit k [] = tt
-tokens-fit zero (c ∷ s) = (token-fits (c ∷ s), tokens-fit _ s)
-tokens-fit (suc k) (c ∷ s) = tokens-fit k s
+tokens-fit ed k [] = tt
+tokens-fit ed zero (c ∷ s) = (token-fits ed (c ∷ s), tokens-fit ed _ s)
+tokens-fit ed (suc k) (c ∷ s) = tokens-fit ed k s

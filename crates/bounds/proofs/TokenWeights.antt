@@ -9,6 +9,7 @@ use lib.ListN.{length, take, length-take}
 use Rattle.laws.specs.Lists.{sum}
 use Rattle.laws.proofs.Numbers.{mul-le-right}
 use Rattle.standard.specs.Pitches.{Accidental, Written}
+use Rattle.editions.specs.declared.Edition.{Edition}
 use Rattle.reader.specs.Token.{Token, space, overlay, quoted, broken, tuplet, slur, graceOpen, graceClose, decoration, barline, volta, unit, meter, key, field, chord, rest, note, nothing, skipped, refused}
 use Rattle.reader.specs.Tokens.{tokenOf, tokens}
 use Rattle.reader.proofs.TokenLaws.{takes-a-byte}
@@ -22,7 +23,7 @@ same-weight : (b : ℕ) (l : List ℕ) → sum (λ c. b) l ≡ b * length l
 same-weight b [] = omega arith
 same-weight b (c ∷ l) = omega (arith, same-weight b l, mul-suc b (length l))
 
-module _ (p : Weights) (enough : Covered p) where
+module _ (ed : Edition) (p : Weights) (enough : Covered p) where
   -- the same weights by byte: a note keeps back its share, a measure weighs what a byte covers
   abbrev by-byte : weights.Weights
   by-byte = record { measure = p .byte; note = p .note + p .kept; pitch = p .pitch; accidental = p .accidental; byte = λ c. p .byte }
@@ -47,7 +48,7 @@ module _ (p : Weights) (enough : Covered p) where
   written-same (w ∷ ws) =
       omega (arith, mark-same (w .sign), written-same ws, mul-suc (p .pitch) (length ws), mul-add (p .accidental) (signCount (w .sign)) (signsIn ws))
 
-  token-same : (t : Token) → tokenWeight p t ≤ weights.weight by-byte covered (makes t)
+  token-same : (t : Token) → tokenWeight p t ≤ weights.weight ed by-byte covered (makes t)
   unfolding tokenWeight writtenWeight weights.weight
   token-same space = zero-le
   token-same overlay = zero-le
@@ -72,21 +73,21 @@ module _ (p : Weights) (enough : Covered p) where
   token-same (refused n) = zero-le
 
   -- the bytes of a token cover it
-  pub token-covered : (c : ℕ) (s : List ℕ) → tokenWeight p (tokenOf (c ∷ s) .token) ≤ p .byte * tokenOf (c ∷ s) .used
+  pub token-covered : (c : ℕ) (s : List ℕ) → tokenWeight p (tokenOf ed (c ∷ s) .token) ≤ p .byte * tokenOf ed (c ∷ s) .used
   token-covered c s =
-      let t = tokenOf (c ∷ s) in
+      let t = tokenOf ed (c ∷ s) in
       let l = take (t .used) (c ∷ s) in
       let n : length l ≤ t .used = simp length-take (omega arith) in
-      omega (arith, token-same (t .token), weights.token-covered by-byte covered c s, same-weight (p .byte) l, mul-le-right (p .byte) (length l) (t .used) n)
+      omega (arith, token-same (t .token), weights.token-covered ed by-byte covered c s, same-weight (p .byte) l, mul-le-right (p .byte) (length l) (t .used) n)
 
   -- THE BYTES OF A LINE COVER ITS TOKENS; k of them belong to a token that is covered
-  tokens-covered : (k : ℕ) (s : List ℕ) → sum (tokenWeight p) (tokens k s) ≤ p .byte * (length s - k)
+  tokens-covered : (k : ℕ) (s : List ℕ) → sum (tokenWeight p) (tokens ed k s) ≤ p .byte * (length s - k)
   unfolding tokens
   tokens-covered k [] = zero-le
   tokens-covered zero (c ∷ s) =
-      let t = tokenOf (c ∷ s) in
-      let u = takes-a-byte c s in
-      let w = takes-what-is-there c s in
+      let t = tokenOf ed (c ∷ s) in
+      let u = takes-a-byte ed c s in
+      let w = takes-what-is-there ed c s in
       let n = t .used in
       let e : n + (length s - pred n) ≡ suc (length s) - 0 = omega arith in
       rw (← e) (omega (arith, token-covered c s, tokens-covered (pred n) s, mul-add (p .byte) n (length s - pred n)))
@@ -95,5 +96,5 @@ module _ (p : Weights) (enough : Covered p) where
       rw d (tokens-covered k s)
 
   -- from its first byte on
-  pub line-covered : (s : List ℕ) → sum (tokenWeight p) (tokens 0 s) ≤ p .byte * length s
+  pub line-covered : (s : List ℕ) → sum (tokenWeight p) (tokens ed 0 s) ≤ p .byte * length s
   line-covered s = omega (arith, tokens-covered 0 s, mul-le-right (p .byte) (length s - 0) (length s) (omega arith))

@@ -40,7 +40,8 @@ abbrev pub sectionWeights : Weights
 sectionWeights =
     record { measure = measureWidth; note = noteWidth; pitch = pitchWidth; accidental = 0; syllable = lyricWidth; text = 1; byte = 23; kept = 5 }
 
--- THE ROWS OF SCRATCH that are no records of a reading: a note, a step and octave with accidentals in force, the head of a note's syllables, a syllable, an item of the line table
+-- THE ROWS OF SCRATCH that are no records of a reading: a note, a step and octave with accidentals in force, the head of a note's syllables, the stop that it is for
+-- lyric lines, a syllable, an item of the line table
 abbrev pub noteRowWidth : ℕ
 noteRowWidth = 16
 
@@ -53,6 +54,9 @@ scopeIndexWidth = 7168
 
 abbrev pub lyricHeadWidth : ℕ
 lyricHeadWidth = 4
+
+abbrev pub lyricStopWidth : ℕ
+lyricStopWidth = 3
 
 abbrev pub lyricRowWidth : ℕ
 lyricRowWidth = 16
@@ -67,7 +71,7 @@ itemWeight = itemRowWidth + itemRowWidth
 -- the tables of a part in scratch, by their rows: a measure's bytes for each byte of a line
 abbrev pub tableWeights : Weights
 tableWeights =
-    record { measure = measureWidth; note = noteRowWidth + lyricHeadWidth; pitch = pitchWidth; accidental = scopeRowWidth; syllable = lyricRowWidth; text = 0; byte = measureWidth; kept = 3 }
+    record { measure = measureWidth; note = noteRowWidth + lyricHeadWidth + lyricStopWidth; pitch = pitchWidth; accidental = scopeRowWidth; syllable = lyricRowWidth; text = 0; byte = measureWidth; kept = 0 }
 
 -- the budget of each byte of the text for both line tables and one part's tables
 abbrev pub scratchPerByte : ℕ

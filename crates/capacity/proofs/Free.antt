@@ -9,12 +9,15 @@ use lib.ListN.{length, drop}
 use Rattle.laws.specs.Lists.{countWhile}
 use Rattle.laws.proofs.Bools.{by-test}
 use Rattle.standard.specs.Bytes.{is, isDigit, first}
-use Rattle.reader.specs.Token.{Token, Taken}
-use Rattle.reader.specs.Tuplets.{positive, counted, withCount, withNormal, withActual, tupletOf, orSlur}
+use Rattle.standard.specs.Keys.{Key}
+use Rattle.editions.specs.declared.Edition.{Edition}
+use Rattle.reader.specs.Token.{Token, Taken, key}
+use Rattle.reader.specs.Tuplets.{positive, counted, withCount, withNormal, withActual, tupletOf, orSlur, partOr, normalFor}
 use Rattle.reader.specs.PassLists.{Listed, listed, faulty, voltaAs}
-use Rattle.reader.specs.Inline.{unitToken, keyToken, fieldToken}
-use Rattle.reader.specs.Fields.{unitInline, middleWord}
+use Rattle.reader.specs.Inline.{unitToken, keyToken, fieldToken, tokenUnless}
+use Rattle.reader.specs.Fields.{unitInline, middleWord, keyRefusal}
 use Rattle.reader.specs.Tokens.{closedBy, brokenOf}
+use Rattle.reader.specs.Keys.{keyOf}
 use Rattle.capacity.specs.Covers.{makes, none-made}
 
 abbrev pub Makes-nothing : Taken → Type 0
@@ -40,26 +43,26 @@ unfolding counted Free
 counted-free a q n none = tt
 counted-free a q n (some r) = refl
 
-count-free : (a q n : ℕ) (s : List ℕ) → Free (withCount a q n s)
+count-free : (ed : Edition) (a q n : ℕ) (s : List ℕ) → Free (withCount ed a q n s)
 unfolding withCount Free
-count-free a q n s =
+count-free ed a q n s =
     by-test (is ":" (first s))
-    (λ e. rw (e, withCount) (counted-free a q (n + 1 + countWhile isDigit (drop 1 s)) (positive (2 ^ 64 - 1) (drop 1 s))))
+    (λ e. rw (e, withCount) (counted-free a q (n + 1 + countWhile isDigit (drop 1 s)) (partOr ed a (2 ^ 64 - 1) (drop 1 s))))
     (λ e. rw (e, withCount) refl)
 
-normal-free : (a n : ℕ) (s : List ℕ) (o : Option ℕ) → Free (withNormal a n s o)
+normal-free : (ed : Edition) (a n : ℕ) (s : List ℕ) (o : Option ℕ) → Free (withNormal ed a n s o)
 unfolding withNormal Free
-normal-free a n s none = tt
-normal-free a n s (some q) = count-free a q (n + 1 + countWhile isDigit (drop 1 s)) (drop (1 + countWhile isDigit (drop 1 s)) s)
+normal-free ed a n s none = tt
+normal-free ed a n s (some q) = count-free ed a q (n + 1 + countWhile isDigit (drop 1 s)) (drop (1 + countWhile isDigit (drop 1 s)) s)
 
-actual-free : (n : ℕ) (s : List ℕ) (o : Option ℕ) → Free (withActual n s o)
+actual-free : (ed : Edition) (n : ℕ) (s : List ℕ) (o : Option ℕ) → Free (withActual ed n s o)
 unfolding withActual Free
-actual-free n s none = tt
-actual-free n s (some a) =
+actual-free ed n s none = tt
+actual-free ed n s (some a) =
     by-test (ltb a 2)
     (λ e. rw (e, withActual) tt)
     (λ e. rw (e, withActual)
-    (by-test (is ":" (first s)) (λ f. rw (f, withActual) (normal-free a n s (positive 255 (drop 1 s)))) (λ f. rw (f, withActual) refl)))
+    (by-test (is ":" (first s)) (λ f. rw (f, withActual) (normal-free ed a n s (partOr ed (normalFor ed a) 255 (drop 1 s)))) (λ f. rw (f, withActual) refl)))
 
 slur-free : (o : Option Taken) → Free o → Makes-nothing (orSlur o)
 unfolding orSlur Free
@@ -67,9 +70,9 @@ slur-free none h = refl
 slur-free (some t) h = h
 
 -- a tuplet or a slur
-pub tuplet-free : (s : List ℕ) → Makes-nothing (orSlur (tupletOf s))
+pub tuplet-free : (ed : Edition) (s : List ℕ) → Makes-nothing (orSlur (tupletOf ed s))
 unfolding tupletOf
-tuplet-free s = slur-free (tupletOf s) (actual-free (1 + countWhile isDigit s) (drop (countWhile isDigit s) s) (positive 255 s))
+tuplet-free ed s = slur-free (tupletOf ed s) (actual-free ed (1 + countWhile isDigit s) (drop (countWhile isDigit s) s) (positive 255 s))
 
 -- an ending
 pub volta-free : (n : ℕ) (s : List ℕ) (o : Listed) → Makes-nothing (voltaAs n s o)
@@ -82,18 +85,23 @@ unfolding unitToken
 unit-free none = refl
 unit-free (some u) = refl
 
-key-free : (s : List ℕ) → makes (keyToken s) ≡ none-made
+unless-free : (k : Key) (o : Option ℕ) → makes (tokenUnless k o) ≡ none-made
+unfolding tokenUnless
+unless-free k none = refl
+unless-free k (some n) = refl
+
+key-free : (ed : Edition) (s : List ℕ) → makes (keyToken ed s) ≡ none-made
 unfolding keyToken
-key-free s = by-test (middleWord s) (λ e. rw (e, keyToken)) (λ e. rw (e, keyToken))
+key-free ed s = unless-free (keyOf ed s) (keyRefusal ed s)
 
 -- an inline field
-pub field-free : (s : List ℕ) → makes (fieldToken s) ≡ none-made
+pub field-free : (ed : Edition) (s : List ℕ) → makes (fieldToken ed s) ≡ none-made
 unfolding fieldToken
-field-free s =
+field-free ed s =
     by-test (is ":" (first (drop 1 s)))
     (λ e. rw (e, fieldToken)
     (by-test (is "L" (first s)) (λ f. rw (f, fieldToken) (unit-free (unitInline (drop 2 s))))
     (λ f. rw (f, fieldToken)
     (by-test (is "M" (first s)) (λ g. rw (g, fieldToken))
-    (λ g. rw (g, fieldToken) (by-test (is "K" (first s)) (λ k. rw (k, fieldToken) (key-free (drop 2 s))) (λ k. rw (k, fieldToken))))))))
+    (λ g. rw (g, fieldToken) (by-test (is "K" (first s)) (λ k. rw (k, fieldToken) (key-free ed (drop 2 s))) (λ k. rw (k, fieldToken))))))))
     (λ e. rw (e, fieldToken))

@@ -11,6 +11,7 @@ use Rattle.laws.specs.Lists.{filter, sum}
 use Rattle.laws.proofs.Bools.{by-test}
 use Rattle.laws.proofs.Lists.{filter-append}
 use Rattle.standard.specs.Pitches.{isLetter}
+use Rattle.editions.specs.declared.Edition.{Edition}
 use Rattle.reader.specs.Tokens.{tokenOf}
 use Rattle.capacity.specs.Sizes.{isBar, isRest, isSign, bars, letters, rests, signs, tones}
 use Rattle.capacity.specs.Covers.{Covers, CoversBoth}
@@ -112,28 +113,28 @@ pitches-covered = record { letters = λ c e. one-covered (isLetter c) e; rests =
 scopes-covered : Covered for-scopes
 scopes-covered = record { letters = λ c e. zero-le; rests = λ c e. zero-le; bars = λ c e. zero-le; signs = λ c e. one-covered (isSign c) e }
 
-first-cover : (c : ℕ) (s : List ℕ) → Covers (tokenOf (c ∷ s) .token) (take (tokenOf (c ∷ s) .used) (c ∷ s))
+first-cover : (ed : Edition) (c : ℕ) (s : List ℕ) → Covers (tokenOf ed (c ∷ s) .token) (take (tokenOf ed (c ∷ s) .used) (c ∷ s))
 unfolding weight bars letters rests signs
-first-cover c s =
-    let l = take (tokenOf (c ∷ s) .used) (c ∷ s) in
+first-cover ed c s =
+    let l = take (tokenOf ed (c ∷ s) .used) (c ∷ s) in
     record {
-      bars-cover = omega (arith, token-covered for-heads heads-covered c s, count-sum isBar l);
-      tones-cover = omega (arith, token-covered for-notes notes-covered c s, count-two isLetter isRest l);
-      letters-cover = omega (arith, token-covered for-pitches pitches-covered c s, count-sum isLetter l);
-      signs-cover = omega (arith, token-covered for-scopes scopes-covered c s, count-sum isSign l);
+      bars-cover = omega (arith, token-covered ed for-heads heads-covered c s, count-sum isBar l);
+      tones-cover = omega (arith, token-covered ed for-notes notes-covered c s, count-two isLetter isRest l);
+      letters-cover = omega (arith, token-covered ed for-pitches pitches-covered c s, count-sum isLetter l);
+      signs-cover = omega (arith, token-covered ed for-scopes scopes-covered c s, count-sum isSign l);
     }
 
 -- THE BYTES OF A TOKEN cover it
-pub token-cover : (s : List ℕ) → 0 < length s → Covers (tokenOf s .token) (take (tokenOf s .used) s)
-token-cover [] h = absurd (not-suc-le-zero h)
-token-cover (c ∷ s) h = first-cover c s
+pub token-cover : (ed : Edition) (s : List ℕ) → 0 < length s → Covers (tokenOf ed s .token) (take (tokenOf ed s .used) s)
+token-cover ed [] h = absurd (not-suc-le-zero h)
+token-cover ed (c ∷ s) h = first-cover ed c s
 
 -- at a position of a line
-pub token-cover-at : (s : List ℕ) (i : ℕ) → i < length s → CoversBoth (tokenOf (drop i s) .token) (drop i s) (drop (i + tokenOf (drop i s) .used) s)
-token-cover-at s i h =
-    let u = tokenOf (drop i s) .used in
+pub token-cover-at : (ed : Edition) (s : List ℕ) (i : ℕ) → i < length s → CoversBoth (tokenOf ed (drop i s) .token) (drop i s) (drop (i + tokenOf ed (drop i s) .used) s)
+token-cover-at ed s i h =
+    let u = tokenOf ed (drop i s) .used in
     let l = drop i s in
-    let enough = token-cover l (omega (arith, length-drop i s)) in
+    let enough = token-cover ed l (omega (arith, length-drop i s)) in
     rw (← drop-drop u i s)
     (record {
       bars-left = omega (arith, enough .bars-cover, bars-split u l);

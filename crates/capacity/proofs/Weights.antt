@@ -18,6 +18,7 @@ use Rattle.laws.proofs.Spans.{count-while-yes, count-while-no}
 use Rattle.standard.specs.Bytes.{is, isDigit, first}
 use Rattle.standard.specs.Bars.{Symbol, barSymbols, symbolAt}
 use Rattle.standard.specs.Pitches.{Accidental, Written, isLetter}
+use Rattle.editions.specs.declared.Edition.{Edition}
 use Rattle.reader.specs.Lengths.{lengthOf}
 use Rattle.reader.specs.Pitches.{Octave, octaveOf, Before, signs, accidentalOf, natural, quarterTone, added, isQuarter, consPitch, chordOf}
 use Rattle.reader.specs.Token.{quoted, decoration, skipped, Taken, taken}
@@ -74,7 +75,7 @@ pub record Covered (p : Weights) : Type 0 where
   pub bars : (c : ℕ) → isBar c ≡ true → p .measure ≤ p .byte c
   pub signs : (c : ℕ) → isSign c ≡ true → p .accidental ≤ p .byte c
 
-module _ (p : Weights) (enough : Covered p) where
+module _ (ed : Edition) (p : Weights) (enough : Covered p) where
   -- what a token's rows weigh
   unfoldable pub weight : Rows → ℕ
   weight r = p .measure * r .heads + p .note * r .notes + p .pitch * r .pitches + p .accidental * r .scopes
@@ -258,7 +259,7 @@ module _ (p : Weights) (enough : Covered p) where
   barline-covered c s y h = barlineAs-covered c s (symbolAt barSymbols (c ∷ s)) y h
 
   -- what a `[` begins
-  bracket-covered : (c : ℕ) (s : List ℕ) → CoveredBy (bracketOf s) (c ∷ s)
+  bracket-covered : (c : ℕ) (s : List ℕ) → CoveredBy (bracketOf ed s) (c ∷ s)
   unfolding bracketOf voltaOf inlineAt
   bracket-covered c s =
       let n = countWhile isPassByte s in
@@ -266,32 +267,32 @@ module _ (p : Weights) (enough : Covered p) where
       by-test (isDigit (first s))
       (λ e. rw (e, bracketOf) (free (voltaAs n s ps) (c ∷ s) (volta-free n s ps)))
       (λ e. rw (e, bracketOf)
-      (by-test (isInline s) (λ f. rw (f, bracketOf) (free (inlineAt s) (c ∷ s) (field-free (inside s)))) (λ f. rw (f, bracketOf) (chordAt-covered c s))))
+      (by-test (isInline s) (λ f. rw (f, bracketOf) (free (inlineAt ed s) (c ∷ s) (field-free ed (inside s)))) (λ f. rw (f, bracketOf) (chordAt-covered c s))))
 
   -- A REST
   rest-covered : (c : ℕ) (s : List ℕ) (n : ℕ) → isRest c ≡ true → p .note ≤ budget (take (suc n) (c ∷ s))
   rest-covered c s n y = omega (arith, enough .rests c y)
 
   -- A TOKEN of any class
-  as-covered : (k : Class) (c : ℕ) (s : List ℕ) → Begins k c → CoveredBy (tokenAs k (c ∷ s)) (c ∷ s)
+  as-covered : (k : Class) (c : ℕ) (s : List ℕ) → Begins k c → CoveredBy (tokenAs ed k (c ∷ s)) (c ∷ s)
   unfolding tokenAs restAs weight
   as-covered white c s y = omega arith
   as-covered ampersand c s y = omega arith
-  as-covered quote c s y = free (tokenAs quote (c ∷ s)) (c ∷ s) (closed-free (is "\"") quoted s (taken quoted (suc (length s))) refl refl)
-  as-covered more c s y = free (tokenAs more (c ∷ s)) (c ∷ s) (broken-free true (suc (countWhile (is ">") s)) (c ∷ s))
-  as-covered less c s y = free (tokenAs less (c ∷ s)) (c ∷ s) (broken-free false (suc (countWhile (is "<") s)) (c ∷ s))
-  as-covered paren c s y = free (tokenAs paren (c ∷ s)) (c ∷ s) (tuplet-free s)
+  as-covered quote c s y = free (tokenAs ed quote (c ∷ s)) (c ∷ s) (closed-free (is "\"") quoted s (taken quoted (suc (length s))) refl refl)
+  as-covered more c s y = free (tokenAs ed more (c ∷ s)) (c ∷ s) (broken-free true (suc (countWhile (is ">") s)) (c ∷ s))
+  as-covered less c s y = free (tokenAs ed less (c ∷ s)) (c ∷ s) (broken-free false (suc (countWhile (is "<") s)) (c ∷ s))
+  as-covered paren c s y = free (tokenAs ed paren (c ∷ s)) (c ∷ s) (tuplet-free ed s)
   as-covered braceOpen c s y = omega arith
   as-covered braceClose c s y = omega arith
-  as-covered bang c s y = free (tokenAs bang (c ∷ s)) (c ∷ s) (closed-free (is "!") decoration s (taken skipped 1) refl refl)
-  as-covered plus c s y = free (tokenAs plus (c ∷ s)) (c ∷ s) (closed-free (is "+") decoration s (taken skipped 1) refl refl)
-  as-covered bars c s y = barline-covered c s y (as-takes bars c s)
+  as-covered bang c s y = free (tokenAs ed bang (c ∷ s)) (c ∷ s) (closed-free (is "!") decoration s (taken skipped 1) refl refl)
+  as-covered plus c s y = free (tokenAs ed plus (c ∷ s)) (c ∷ s) (closed-free (is "+") decoration s (taken skipped 1) refl refl)
+  as-covered bars c s y = barline-covered c s y (as-takes ed bars c s)
   as-covered bracket c s y = bracket-covered c s
   as-covered pitched c s y = note-covered c s
   as-covered none-of-these c s y = omega arith
   as-covered (resting k) c s y = omega (arith, enough .rests c y)
 
   -- the bytes of a token cover it
-  pub token-covered : (c : ℕ) (s : List ℕ) → weight (makes (tokenOf (c ∷ s) .token)) ≤ budget (take (tokenOf (c ∷ s) .used) (c ∷ s))
+  pub token-covered : (c : ℕ) (s : List ℕ) → weight (makes (tokenOf ed (c ∷ s) .token)) ≤ budget (take (tokenOf ed (c ∷ s) .used) (c ∷ s))
   unfolding tokenOf
   token-covered c s = as-covered (classOf c) c s (class-begins c)

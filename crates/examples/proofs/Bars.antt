@@ -7,6 +7,7 @@ use mathlib.Core.List.{List, [], _∷_, _++_, map}
 use Rattle.laws.specs.Lists.{concat}
 use Rattle.standard.specs.Bytes.{ascii}
 use Rattle.standard.specs.Keys.{Key}
+use Rattle.editions.specs.declared.Edition.the-variants.{First}
 use Rattle.reader.specs.State.{Note, Measure}
 use Rattle.reader.specs.Part.{Part}
 use Rattle.reader.specs.Codes.{beamCode, voltaCode}
@@ -57,7 +58,7 @@ ask voltas p = map (λ (m : Measure). voltaCode (m .volta)) (p .measures)
 ask fifths p = concat (map (λ (m : Measure). marks (m .key)) (p .measures))
 
 abbrev answer : Bar → List ℕ
-answer b = concat (map (ask (b .asked)) (partsIn (parseAbc (textOf b) 1000 100000 .verdict)))
+answer b = concat (map (ask (b .asked)) (partsIn (parseAbc First (textOf b) 1000 100000 .verdict)))
 
 -- every bar is answered as document 01 says
 pub table : map answer bars ≡ map (λ (b : Bar). b .answer) bars

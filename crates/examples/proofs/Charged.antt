@@ -5,6 +5,7 @@ use mathlib.Core.Path.{_≡_, refl}
 use mathlib.Core.List.{List, [], _∷_, map}
 use Rattle.laws.specs.Lists.{concat}
 use Rattle.standard.specs.Bytes.{ascii}
+use Rattle.editions.specs.declared.Edition.the-variants.{First}
 use Rattle.reader.specs.State.{Note, Measure}
 use Rattle.reader.specs.Codes.{voltaCode}
 use Rattle.reader.specs.Records.{notesOf}
@@ -67,7 +68,7 @@ abbrev numbers : Counts → List ℕ
 numbers c = c .measures ∷ c .sounded ∷ c .rests ∷ c .syllables ∷ []
 
 abbrev pub chargedFor : String → List ℕ
-chargedFor text = concat (map numbers (tally (partsIn (parseAbc (ascii text) 2000 100000 .verdict))))
+chargedFor text = concat (map numbers (tally (partsIn (parseAbc First (ascii text) 2000 100000 .verdict))))
 
 -- every tune is charged as the table says
 pub table : map (λ (t : Tune). chargedFor (t .text)) tunes ≡ map (λ (t : Tune). t .charged) tunes
@@ -76,7 +77,7 @@ table = refl
 
 -- A QUINTUPLET: five notes, each with 5 in the time of 4; the first starts it and the fifth stops it
 abbrev groups : String → List ℕ
-groups text = concat (map (λ p. concat (map (λ (x : ℕ × Note). x .1 .group .actual ∷ x .1 .group .normal ∷ x .1 .group .boundary ∷ []) (notesOf p))) (partsIn (parseAbc (ascii text) 2000 100000 .verdict)))
+groups text = concat (map (λ p. concat (map (λ (x : ℕ × Note). x .1 .group .actual ∷ x .1 .group .normal ∷ x .1 .group .boundary ∷ []) (notesOf p))) (partsIn (parseAbc First (ascii text) 2000 100000 .verdict)))
 
 pub quintuplet : groups "K:C\n(5ABcde\n" ≡ 5 ∷ 4 ∷ 1 ∷ 5 ∷ 4 ∷ 0 ∷ 5 ∷ 4 ∷ 0 ∷ 5 ∷ 4 ∷ 0 ∷ 5 ∷ 4 ∷ 2 ∷ []
 unfolding all
@@ -84,7 +85,7 @@ quintuplet = refl
 
 -- WHERE A SECOND ENDING STOPS (0 none, 1 begins, 2 ends, 3 both): at `:|`, `::` or `|]`; before the next start; else at the last measure; not at `||`
 abbrev voltas : String → List ℕ
-voltas text = concat (map (λ p. map (λ (m : Measure). voltaCode (m .volta)) (p .measures)) (partsIn (parseAbc (ascii text) 2000 100000 .verdict)))
+voltas text = concat (map (λ p. map (λ (m : Measure). voltaCode (m .volta)) (p .measures)) (partsIn (parseAbc First (ascii text) 2000 100000 .verdict)))
 
 pub second-ending
     : (voltas "K:C\n|:A|[1B:|[2c|d:|e\n" ≡ 0 ∷ 3 ∷ 1 ∷ 2 ∷ 0 ∷ [])

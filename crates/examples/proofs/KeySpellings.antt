@@ -6,6 +6,7 @@ use mathlib.Core.Bool.{Bool, true, false}
 use mathlib.Core.List.{List, [], _∷_, _++_, map}
 use Rattle.standard.specs.Bytes.{ascii}
 use Rattle.standard.specs.Keys.{Key}
+use Rattle.editions.specs.declared.Edition.the-variants.{First}
 use Rattle.reader.specs.Keys.{named, keyOf}
 use Rattle.reader.specs.All.{all}
 
@@ -17,7 +18,7 @@ minors = "Ab" ∷ "Eb" ∷ "Bb" ∷ "F" ∷ "C" ∷ "G" ∷ "D" ∷ "A" ∷ "E" 
 
 -- the key that a field with this behind the tonic's name is read as
 abbrev spelt : String → String → Key
-spelt mode name = keyOf (ascii name ++ ascii mode)
+spelt mode name = keyOf First (ascii name ++ ascii mode)
 
 abbrev inMajor : String → Key
 inMajor name = named false (ascii name)

@@ -1,6 +1,7 @@
 pub mod Bars
 pub mod Tunes
 pub mod Refusals
+pub mod SecondEdition
 pub mod PassLists
 pub mod Tally
 pub mod Stores

@@ -8,6 +8,7 @@ use mathlib.Core.List.{List, [], _∷_, _++_, map}
 use lib.ListN.{replicate}
 use Rattle.standard.specs.Bytes.{ascii}
 use Rattle.standard.specs.Keys.{plainKey}
+use Rattle.editions.specs.declared.Edition.the-variants.{First}
 use Rattle.reader.specs.Steps.{refuse, on}
 use Rattle.reader.specs.Scan.{Env, ScanState, Out, step}
 use Rattle.reader.specs.All.{all}
@@ -59,6 +60,6 @@ rows =
     ∷ row (ascii "[C,][0") (11 ∷ 3 ∷ [])
     ∷ []
 
-pub after-the-last-note : map (λ (r : Row). met (step full (r .line))) rows ≡ map (λ (r : Row). r .answer) rows
+pub after-the-last-note : map (λ (r : Row). met (step First full (r .line))) rows ≡ map (λ (r : Row). r .answer) rows
 unfolding all
 after-the-last-note = refl

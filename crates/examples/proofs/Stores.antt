@@ -4,6 +4,7 @@ use mathlib.Core.Path.{_≡_, refl}
 use mathlib.Core.List.{List, [], _∷_, _++_}
 use Rattle.laws.specs.Bytes.{zeros}
 use Rattle.standard.specs.Bytes.{ascii}
+use Rattle.editions.specs.declared.Edition.the-variants.{First}
 use Rattle.reader.specs.Answer.{refusal, parseAbc}
 use Rattle.reader.specs.All.{all}
 use Rattle.examples.specs.Shown.{hex}
@@ -16,18 +17,18 @@ text = ascii "L:1/8\nK:C\nA"
 abbrev bytes : List ℕ
 bytes = hex "010000000100000001000000000000000000000000000000000004040100000000000000010000000005002000000000010000000100000005040000000000000000000000"
 
-pub fits : parseAbc text 69 8544 .reading ≡ bytes
+pub fits : parseAbc First text 69 8544 .reading ≡ bytes
 unfolding all
 fits = refl
 
-pub longer : parseAbc text 72 8544 .reading ≡ bytes ++ zeros 3
+pub longer : parseAbc First text 72 8544 .reading ≡ bytes ++ zeros 3
 unfolding all
 longer = refl
 
-pub one-less : parseAbc text 68 8544 ≡ record { verdict = refusal 16 0; reading = zeros 68; scratch = zeros 8544 }
+pub one-less : parseAbc First text 68 8544 ≡ record { verdict = refusal 16 0; reading = zeros 68; scratch = zeros 8544 }
 unfolding all
 one-less = refl
 
-pub scratch-short : parseAbc text 69 8543 ≡ record { verdict = refusal 15 0; reading = zeros 69; scratch = zeros 8543 }
+pub scratch-short : parseAbc First text 69 8543 ≡ record { verdict = refusal 15 0; reading = zeros 69; scratch = zeros 8543 }
 unfolding all
 scratch-short = refl

@@ -6,6 +6,7 @@ use mathlib.Core.Bool.{Bool, cond}
 use mathlib.Core.List.{List, [], _∷_}
 use lib.Dec.{ltb}
 use lib.ListN.{length}
+use Rattle.editions.specs.declared.Edition.the-variants.{First}
 use Rattle.reader.specs.Part.{Part}
 use Rattle.reader.specs.Answer.{Verdict, refusal, reading, Outcome, scratchNeeded, parseAbc}
 
@@ -25,7 +26,7 @@ shown w = elim (w .verdict) [ refusal n l ↦ 0 ∷ n ∷ l ∷ [] | reading ps 
 
 -- the answer with a reading store of n bytes, and scratch just large enough
 abbrev pub answered : List ℕ → ℕ → List ℕ
-answered text n = shown (parseAbc text n (scratchNeeded (length text)))
+answered text n = shown (parseAbc First text n (scratchNeeded (length text)))
 
 -- the answer is the reading `bytes`, in a store just large enough
 abbrev pub reads : List ℕ → List ℕ → List ℕ

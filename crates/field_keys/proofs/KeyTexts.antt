@@ -7,6 +7,7 @@ use Rattle.laws.specs.Lists.{startsWith, foldl, all, All, filter, isNil}
 use Rattle.laws.proofs.Bools.{by-test, not-true, and-left, and-right, and-both}
 use Rattle.laws.proofs.Lists.{foldl-kept, All-filter, filter-passes}
 use Rattle.standard.specs.Bytes.{ascii, first, lower}
+use Rattle.editions.specs.declared.Edition.the-variants.{First}
 use Rattle.reader.specs.Text.{isSpace, push}
 use Rattle.reader.specs.Pieces.{pieces, words, separator, fieldWords, trimStart, consTrim, trimEnd, trimmed}
 use Rattle.reader.specs.Keys.{isKeyWord, joined, keyText, keyOf}
@@ -60,7 +61,7 @@ pass-words (w ∷ ws) = pass-joined unpassed w ws ∙ pass-space unpassed (joine
 
 -- A KEY TEXT IS TRIMMED
 -- a word: not empty, and without white space
-abbrev IsWord : List ℕ → Type 0
+abbrev pub IsWord : List ℕ → Type 0
 IsWord w = (all notSpace w ≡ true) × (not (isNil w) ≡ true)
 
 -- the pieces between white space have none
@@ -77,7 +78,7 @@ All-both : (P Q : List ℕ → Type 0) (xs : List (List ℕ)) → All P xs → A
 All-both P Q [] p q = tt
 All-both P Q (x ∷ xs) p q = ((p .0, q .0), All-both P Q xs (p .1) (q .1))
 
-words-are : (s : List ℕ) → All IsWord (fieldWords s)
+pub words-are : (s : List ℕ) → All IsWord (fieldWords s)
 unfolding fieldWords words
 words-are s =
     All-both (λ w. all notSpace w ≡ true) (λ w. not (isNil w) ≡ true) (fieldWords s)
@@ -106,14 +107,14 @@ joined-end (w ∷ v ∷ ws) a =
     trimEnd-plain w (32 ∷ joined (v ∷ ws)) (a .0 .0)
     ∙ ap (λ (l : List ℕ). w ++ l) (ap (consTrim 32) (joined-end (v ∷ ws) (a .1)) ∙ space-before v ws (a .1 .0 .1))
 
-joined-first : (ws : List (List ℕ)) → All IsWord ws → isSpace (first (joined ws)) ≡ false
+pub joined-first : (ws : List (List ℕ)) → All IsWord ws → isSpace (first (joined ws)) ≡ false
 unfolding joined
 joined-first [] a = refl
 joined-first ([] ∷ ws) a = absurd (true≢false (sym (a .0 .1)))
 joined-first ((c ∷ w) ∷ []) a = not-true (isSpace c) (and-left (notSpace c) (all notSpace w) (a .0 .0))
 joined-first ((c ∷ w) ∷ v ∷ ws) a = not-true (isSpace c) (and-left (notSpace c) (all notSpace w) (a .0 .0))
 
-start-stays : (t : List ℕ) → isSpace (first t) ≡ false → trimStart t ≡ t
+pub start-stays : (t : List ℕ) → isSpace (first t) ≡ false → trimStart t ≡ t
 unfolding trimStart
 start-stays [] q = refl
 start-stays (c ∷ t) q = rw (q, trimStart)
@@ -123,7 +124,7 @@ unfolding trimmed
 joined-trimmed ws a = ap trimEnd (start-stays (joined ws) (joined-first ws a)) ∙ joined-end ws a
 
 -- THE KEY of a value: its words passed, those that stay in the key text
-pub key-of : (value : List ℕ) → keyBy (foldl passKept unpassed (fieldWords value)) ≡ keyOf value
+pub key-of : (value : List ℕ) → keyBy (foldl passKept unpassed (fieldWords value)) ≡ keyOf First value
 unfolding keyOf keyText passKept
 key-of value =
     let ws = filter isKeyWord (fieldWords value) in

@@ -8,6 +8,7 @@ use Rattle.laws.specs.Bytes.{between}
 use Rattle.laws.specs.Spans.{endIn}
 use Rattle.laws.proofs.Parts.{between-first, between-none}
 use Rattle.standard.specs.Bytes.{ascii, lower}
+use Rattle.editions.specs.declared.Edition.the-variants.{First}
 use Rattle.reader.specs.Text.{isSpace}
 use Rattle.reader.specs.Pieces.{fieldWords}
 use Rattle.reader.specs.Keys.{keyOf}
@@ -40,5 +41,5 @@ module _ (s : List ℕ) (a b : ℕ) (p : Passed) (i : ℕ) (l : b ≤ length s) 
   pub walking-on : i < b → Walking s a b (passKept p (between s i (endIn notSpace s i b))) (endIn isSpace s (endIn notSpace s i b) b)
   walking-on h = record { at = next-word s b i l (w .at) h; same = rw (words-next s b i l (w .at) h) at (w .same) }
 
-  pub walking-over : b ≤ i → keyBy p ≡ keyOf (between s a b)
+  pub walking-over : b ≤ i → keyBy p ≡ keyOf First (between s a b)
   walking-over h = ap keyBy (rw (words-over s i b h) at (w .same)) ∙ key-of (between s a b)

@@ -8,6 +8,7 @@ ghost use lib.ListN.{length};
 ghost use Rattle.laws.specs.Lists.{elem};
 ghost use Rattle.laws.specs.Bytes.{between};
 ghost use Rattle.standard.specs.Bytes.{lower};
+ghost use Rattle.editions.specs.declared.Edition.the-variants.{First};
 ghost use Rattle.reader.specs.Keys.{clefs, isKeyWord, keyOf};
 ghost use Rattle.field_keys.specs.Passed.{keyAs, firstFound, passByte, passWord, passKept, keyNamed, majorElse, endedElse, keyBy};
 use field_tonics::Name;
@@ -106,7 +107,7 @@ fn is_clef(line: &[u8], i: usize, e: usize) -> bool
 }
 
 // The word stays in the key text: it has no equals sign and is no clef.
-fn is_key_word(line: &[u8], i: usize, e: usize) -> bool
+pub fn is_key_word(line: &[u8], i: usize, e: usize) -> bool
     requires { ⌜ (i ≤ e) × (e ≤ length (now line)) ⌝ }
     ensures { λ r. ⌜ r ≡ isKeyWord (between (now (line .entry)) i e) ⌝ }
 {
@@ -180,10 +181,10 @@ fn key_by(p: Passed) -> Key
     }
 }
 
-// The key of a K field's value, the bytes from `a` up to `b`.
+// The first edition: the key of a K field's value, the bytes from `a` up to `b`.
 pub fn parse_key(line: &[u8], a: usize, b: usize) -> Key
     requires { ⌜ (a ≤ b) × (b ≤ length (now line)) ⌝ }
-    ensures { λ r. ⌜ keyAs r ≡ keyOf (between (now (line .entry)) a b) ⌝ }
+    ensures { λ r. ⌜ keyAs r ≡ keyOf First (between (now (line .entry)) a b) ⌝ }
 {
     let mut p = Passed {
         name: Name::Empty,

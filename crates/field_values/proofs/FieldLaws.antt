@@ -17,6 +17,7 @@ use Rattle.laws.proofs.Bools.{by-test}
 use Rattle.laws.proofs.Parts.{part-cut, getD-between, drop-between, between-none, endIn-ge, endIn-le, endIn-over}
 use Rattle.standard.specs.Bytes.{ascii, is, first}
 use Rattle.standard.specs.Fields.{namedMeter}
+use Rattle.editions.specs.declared.Edition.{Edition}
 use Rattle.reader.specs.Text.{isSpace}
 use Rattle.reader.specs.Pieces.{numeral, after, fieldWords, trimmed}
 use Rattle.reader.specs.Fields.{orFour, meterNumber, meterBottom, meterOr, meterText, unitText, unitNumber, orEight, lineUnit, inlineUnit, middleWord, firstWord, identifier, meterOf, unitInline}
@@ -190,12 +191,12 @@ pub field-short : (s : List ℕ) (a b : ℕ) → b ≤ a + 1 → first (drop 1 (
 field-short s a b h = ap first (drop-between s a b 1 ∙ between-none s (a + 1) b h)
 
 -- what it is
-pub field-too-short : (s : List ℕ) (a b : ℕ) → b ≤ a + 1 → fieldToken (between s a b) ≡ field
+pub field-too-short : (ed : Edition) (s : List ℕ) (a b : ℕ) → b ≤ a + 1 → fieldToken ed (between s a b) ≡ field
 unfolding fieldToken
-field-too-short s a b h = rw (field-short s a b h, fieldToken)
+field-too-short ed s a b h = rw (field-short s a b h, fieldToken)
 
-module _ (s : List ℕ) (a b : ℕ) (h : a + 1 < b) where
-  pub field-no-colon : (getD s (a + 1) 0 ≡ 58 → ⊥) → fieldToken (between s a b) ≡ field
+module _ (ed : Edition) (s : List ℕ) (a b : ℕ) (h : a + 1 < b) where
+  pub field-no-colon : (getD s (a + 1) 0 ≡ 58 → ⊥) → fieldToken ed (between s a b) ≡ field
   unfolding fieldToken
   field-no-colon n = rw (ap (is ":") (field-colon s a b h) ∙ ne-eqb (getD s (a + 1) 0) 58 n, fieldToken)
 
@@ -209,19 +210,19 @@ module _ (s : List ℕ) (a b : ℕ) (h : a + 1 < b) where
     no-name : (x : ℕ) → (getD s a 0 ≡ x → ⊥) → eqb (first (between s a b)) x ≡ false
     no-name x n = ne-eqb (first (between s a b)) x (λ e. n (sym (field-name s a b (omega arith)) ∙ e))
 
-    pub field-unit : getD s a 0 ≡ 76 → fieldToken (between s a b) ≡ unitToken (unitInline (between s (a + 2) b))
+    pub field-unit : getD s a 0 ≡ 76 → fieldToken ed (between s a b) ≡ unitToken (unitInline (between s (a + 2) b))
     unfolding fieldToken
     field-unit e = rw (behind-colon, fieldToken, yes-name 76 e) (ap (λ (v : List ℕ). unitToken (unitInline v)) (field-value s a b))
 
-    pub field-meter : (getD s a 0 ≡ 76 → ⊥) → getD s a 0 ≡ 77 → fieldToken (between s a b) ≡ meter (meterOf (between s (a + 2) b))
+    pub field-meter : (getD s a 0 ≡ 76 → ⊥) → getD s a 0 ≡ 77 → fieldToken ed (between s a b) ≡ meter (meterOf (between s (a + 2) b))
     unfolding fieldToken
     field-meter l e = rw (behind-colon, fieldToken, no-name 76 l, yes-name 77 e) (ap (λ (v : List ℕ). meter (meterOf v)) (field-value s a b))
 
-    pub field-key : (getD s a 0 ≡ 76 → ⊥) → (getD s a 0 ≡ 77 → ⊥) → getD s a 0 ≡ 75 → fieldToken (between s a b) ≡ keyToken (between s (a + 2) b)
+    pub field-key : (getD s a 0 ≡ 76 → ⊥) → (getD s a 0 ≡ 77 → ⊥) → getD s a 0 ≡ 75 → fieldToken ed (between s a b) ≡ keyToken ed (between s (a + 2) b)
     unfolding fieldToken
-    field-key l m e = rw (behind-colon, fieldToken, no-name 76 l, no-name 77 m, yes-name 75 e) (ap keyToken (field-value s a b))
+    field-key l m e = rw (behind-colon, fieldToken, no-name 76 l, no-name 77 m, yes-name 75 e) (ap (keyToken ed) (field-value s a b))
 
-    pub field-other : (getD s a 0 ≡ 76 → ⊥) → (getD s a 0 ≡ 77 → ⊥) → (getD s a 0 ≡ 75 → ⊥) → fieldToken (between s a b) ≡ field
+    pub field-other : (getD s a 0 ≡ 76 → ⊥) → (getD s a 0 ≡ 77 → ⊥) → (getD s a 0 ≡ 75 → ⊥) → fieldToken ed (between s a b) ≡ field
     unfolding fieldToken
     field-other l m k = rw (behind-colon, fieldToken, no-name 76 l, no-name 77 m, no-name 75 k)
 

@@ -55,5 +55,5 @@ abbrev pub tokenAs : Field → Token
 tokenAs (the-field.Unit u) = unit u
 tokenAs (the-field.Meter m) = meter (meterAs m)
 tokenAs (the-field.Key k) = key (keyAs k)
-tokenAs the-field.Middle = refused 10
+tokenAs (the-field.Refused n) = refused n
 tokenAs the-field.Other = field

@@ -7,8 +7,12 @@ ghost use Rattle.standard.specs.Bytes.{is};
 ghost use Rattle.reader.specs.Pieces.{after, trimmed};
 ghost use Rattle.reader.specs.Fields.{meterNumber, meterOf, unitText, unitOf, unitInline, middleWord};
 ghost use Rattle.reader.specs.Inline.{unitToken, keyToken, fieldToken};
+ghost use Rattle.editions.specs.declared.Edition.the-variants.{First};
+ghost use Rattle.field_modal.specs.ModalKeys.{KeyIs};
 ghost use Rattle.field_values.specs.Values.{meterAs, meterParts, readUnit, unitAs, Identifier, tokenAs};
+use editions::Edition;
 use field_keys::Key;
+use field_modal::KeyField;
 use text_numbers::Digits;
 use text_words::Part;
 
@@ -30,12 +34,12 @@ pub enum UnitText {
     Number(u32),
 }
 
-// An inline field: L, M or K that sets; a K with a `middle=` word; any other.
+// An inline field: L, M or K that sets; a K that is refused, by its number; any other.
 pub enum Field {
     Unit(u32),
     Meter(Meter),
     Key(Key),
-    Middle,
+    Refused(u8),
     Other,
 }
 
@@ -175,21 +179,43 @@ fn inline_unit(line: &[u8], a: usize, b: usize) -> Field
     }
 }
 
-// An inline K by its value.
-fn inline_key(line: &[u8], a: usize, b: usize) -> Field
+// The first edition's K field: refusal 10, else a key.
+fn plain_field(line: &[u8], a: usize, b: usize) -> KeyField
     requires { ⌜ (a ≤ b) × (b ≤ length (now line)) ⌝ }
-    ensures { λ r. ⌜ tokenAs r ≡ keyToken (between (now (line .entry)) a b) ⌝ }
+    ensures { λ r. ⌜ KeyIs First (between (now (line .entry)) a b) r ⌝ }
 {
     if has_middle(line, a, b) {
-        return Field::Middle;
+        return KeyField::Refused(10);
     }
-    Field::Key(field_keys::parse_key(line, a, b))
+    KeyField::Reads(field_keys::parse_key(line, a, b))
+}
+
+// A K field's value, on its own line or inline.
+pub fn read_key(edition: Edition, line: &[u8], a: usize, b: usize) -> KeyField
+    requires { ⌜ (a ≤ b) × (b ≤ length (now line)) ⌝ }
+    ensures { λ r. ⌜ KeyIs edition (between (now (line .entry)) a b) r ⌝ }
+{
+    match edition {
+        Edition::First => plain_field(line, a, b),
+        Edition::Second => field_modal::modal_field(line, a, b),
+    }
+}
+
+// An inline K by its value.
+fn inline_key(edition: Edition, line: &[u8], a: usize, b: usize) -> Field
+    requires { ⌜ (a ≤ b) × (b ≤ length (now line)) ⌝ }
+    ensures { λ r. ⌜ tokenAs r ≡ keyToken edition (between (now (line .entry)) a b) ⌝ }
+{
+    match read_key(edition, line, a, b) {
+        KeyField::Reads(key) => Field::Key(key),
+        KeyField::Refused(n) => Field::Refused(n),
+    }
 }
 
 // An inline field, the bytes between its brackets: its name is one letter, and the value stands behind the colon.
-pub fn parse_inline_field(line: &[u8], a: usize, b: usize) -> Field
+pub fn parse_inline_field(edition: Edition, line: &[u8], a: usize, b: usize) -> Field
     requires { ⌜ (a ≤ b) × (b ≤ length (now line)) ⌝ }
-    ensures { λ r. ⌜ tokenAs r ≡ fieldToken (between (now (line .entry)) a b) ⌝ }
+    ensures { λ r. ⌜ tokenAs r ≡ fieldToken edition (between (now (line .entry)) a b) ⌝ }
 {
     if b - a < 2 {
         return Field::Other;
@@ -205,7 +231,7 @@ pub fn parse_inline_field(line: &[u8], a: usize, b: usize) -> Field
         return Field::Meter(parse_meter(line, a + 2, b));
     }
     if name == b'K' {
-        return inline_key(line, a + 2, b);
+        return inline_key(edition, line, a + 2, b);
     }
     Field::Other
 }

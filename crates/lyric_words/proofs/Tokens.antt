@@ -14,7 +14,7 @@ use Rattle.laws.proofs.Bools.{not-false}
 use Rattle.laws.proofs.Lists.{eqText-length}
 use Rattle.laws.proofs.Parts.{length-between, getD-between, between-none, between-first, endIn-ge, endIn-le, endIn-more, endIn-stops}
 use Rattle.standard.specs.Bytes.{ascii, first, last}
-use Rattle.standard.specs.Lyrics.{Syllabic, single, begins, ends, middle, syllabicOf, Word, skip, hold, syllable, syllables, syllableText}
+use Rattle.standard.specs.Lyrics.{Syllabic, single, begins, ends, middle, syllabicOf, Word, skip, hold, bar, syllable, syllables, syllableText}
 use Rattle.reader.specs.Pieces.{words, separator, whiteAt}
 use Rattle.reader.specs.Lyrics.{orSkip, wordOf, wordsOf, lyricWords}
 use Rattle.reader.specs.Codes.{syllabicCode}
@@ -178,7 +178,8 @@ module _ (text : List ℕ) (at word : ℕ) (h : at < word) (l : word ≤ length 
 
   pub word-bar : word - at ≡ 1 → getD text at 0 ≡ 124 → WordRead text at word (read T.Bar (cursor word word false false))
   unfolding said wordOf
-  word-bar e b = record { says = ap wordOf (one e) ∙ ap (λ (c : ℕ). wordOf (c ∷ [])) b ∙ sym (word-done text (cursor word word false false) (omega arith)); small = tt; gone = at-end }
+  word-bar e b =
+      record { says = ap wordOf (one e) ∙ ap (λ (c : ℕ). wordOf (c ∷ [])) b ∙ ap (λ (ws : List Word). bar ∷ ws) (sym (word-done text (cursor word word false false) (omega arith))); small = tt; gone = at-end }
 
   pub word-skip : word - at ≡ 1 → getD text at 0 ≡ 42 → WordRead text at word (read T.Skip (cursor word word false false))
   unfolding said wordOf
@@ -220,6 +221,14 @@ module _ (text : List ℕ) (end : ℕ) where
   pub ahead-done : (c : Cursor) → c .word ≤ c .at → ahead text end c ≡ lyricWords (between text (c .word) end)
   unfolding ahead
   ahead-done c h = ap (λ (ws : List Word). ws ++ lyricWords (between text (c .word) end)) (word-done text c h)
+
+  -- nor of the line
+  pub ahead-over : (c : Cursor) → Ready text end c → end ≤ c .at → ahead text end c ≡ []
+  unfolding lyricWords wordsOf
+  ahead-over c r x =
+      ahead-done c (omega (arith, r .within))
+      ∙ ap (λ (ws : List ℕ). wordsOf (words whiteAt ws)) (between-none text (c .word) end (omega (arith, r .stands .low)))
+      ∙ ap wordsOf (words-none whiteAt)
 
   -- white space says nothing
   same-words : (a b : ℕ) → words whiteAt (between text a end) ≡ words whiteAt (between text b end) → lyricWords (between text a end) ≡ lyricWords (between text b end)

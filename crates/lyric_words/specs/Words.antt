@@ -7,7 +7,7 @@ use lib.Dec.{eqb, leb}
 use lib.ListN.{length, getD}
 use Rattle.laws.specs.Bytes.{between}
 use Rattle.standard.specs.Bytes.{is, first, last}
-use Rattle.standard.specs.Lyrics.{Syllabic, single, begins, ends, middle, Word, skip, hold, syllable, syllables, syllableText}
+use Rattle.standard.specs.Lyrics.{Syllabic, single, begins, ends, middle, Word, skip, hold, bar, syllable, syllables, syllableText}
 use Rattle.reader.specs.Text.{isSpace}
 use Rattle.reader.specs.Pieces.{words, separator, whiteAt}
 use Rattle.reader.specs.Lyrics.{orSkip, wordOf, lyricWords}
@@ -21,9 +21,9 @@ use Rattle.lyric_words.specs.declared.Read.{Read}
 unfoldable pub asSyllabic : ℕ → Syllabic
 asSyllabic n = cond (eqb n 0) single (cond (eqb n 1) begins (cond (eqb n 2) ends middle))
 
--- the word that a token says, if it is no bar
+-- the word that a token says
 unfoldable pub said : List ℕ → Token → List Word
-said text T.Bar = []
+said text T.Bar = bar ∷ []
 said text T.Skip = skip ∷ []
 said text T.Hold = hold ∷ []
 said text (T.Syllable at end code) = syllable (asSyllabic code) (syllableText (between text at end)) ∷ []

@@ -19,7 +19,7 @@ use Rattle.laws.proofs.Rows.{length-rows, rows-below, rows-put, rows-get}
 use Rattle.reader.specs.Lyrics.{Syllable}
 use Rattle.lyrics.specs.declared.Sheet.{Sheet}
 use Rattle.lyrics.specs.declared.Row.{Row}
-use Rattle.lyrics.specs.Sheet.{lyricHeadWidth, lyricRowWidth, withCount, rowBytes, rowOf, nextOf, rowAt, applyRow, sungFrom, headOf, headsIn, syllablesIn, Kept, Room, Outside, RowAppended}
+use Rattle.lyrics.specs.Sheet.{lyricHeadWidth, lyricStopWidth, lyricRowWidth, stopsFrom, withCount, rowBytes, rowOf, nextOf, rowAt, applyRow, sungFrom, headOf, headsIn, syllablesIn, Kept, Room, Outside, RowAppended}
 
 -- A ROW
 pub length-row : (r : Row) (next : ℕ) → length (rowBytes r next) ≡ lyricRowWidth
@@ -167,6 +167,13 @@ module _ (s t u : List ℕ) (h : Sheet) (note : ℕ) (r : Row) (next : ℕ) (roo
       ∙ ap (applyRow text r) (chain-same text (h .log) s u (h .count) (getD (headsIn s (h .heads) (h .sounded)) note 0) old) in
       ap (map g) heads-now ∙ map-new f g (applyRow text r) (h .count) (h .count + 1) same (headsIn s (h .heads) (h .sounded)) note (rw many l) (kept .firsts) new
 
+  same-stops : part u (stopsFrom h) (lyricStopWidth * h .sounded) ≡ part s (stopsFrom h) (lyricStopWidth * h .sounded)
+  same-stops =
+      ap (λ (x : List ℕ). part x (stopsFrom h) (lyricStopWidth * h .sounded)) ue
+      ∙ part-above t (h .heads + lyricHeadWidth * note) (le32 (h .count + 1)) (stopsFrom h) (lyricStopWidth * h .sounded) (omega (arith, length-little 4 (h .count + 1)))
+      ∙ ap (λ (x : List ℕ). part x (stopsFrom h) (lyricStopWidth * h .sounded)) te
+      ∙ part-below s (h .log + lyricRowWidth * h .count) (rowBytes r next) (stopsFrom h) (lyricStopWidth * h .sounded) (omega (arith, kept .apart))
+
   pub row-appended : RowAppended s u h note r (h .count + 1)
   row-appended =
       let k = length-row r next in
@@ -180,6 +187,7 @@ module _ (s t u : List ℕ) (h : Sheet) (note : ℕ) (r : Row) (next : ℕ) (roo
         sung = row-sung;
         more = omega arith;
         one = omega arith;
+        stops = same-stops;
         outside = record {
           same-length = length-u;
           low =
@@ -206,5 +214,6 @@ none-appended s h note r kept l =
       sung = λ text. sym (alter-past note (applyRow text r) (syllablesIn text s h) (rw (how-many text s h) l));
       more = omega arith;
       one = omega arith;
+      stops = refl;
       outside = outside-none s (h .heads) (h .log + lyricRowWidth * h .count);
     }

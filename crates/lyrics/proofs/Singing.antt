@@ -2,7 +2,7 @@
 use Prim.Native.Nat.{ℕ, zero, suc, _+_, _-_, _*_, _≤_, _<_}
 use mathlib.Core.Path.{_≡_, refl, sym, ap, _∙_}
 use mathlib.Core.Bool.{false}
-use mathlib.Core.List.{List, [], _∷_, _++_, map}
+use mathlib.Core.List.{List, _∷_, _++_, map}
 use native.Mathlib.Numerals.{add-one}
 use native.Mathlib.Omega.{arith}
 use lib.Dec.{eqb}
@@ -10,17 +10,14 @@ use lib.ListN.{length}
 use borrow.Author.Tests.{ne-eqb}
 use Rattle.laws.specs.Lists.{alterAt}
 use Rattle.laws.specs.Bytes.{between}
-use Rattle.laws.proofs.Parts.{between-none}
 use Rattle.standard.specs.Lyrics.{Word, hold}
-use Rattle.reader.specs.Pieces.{words, whiteAt}
-use Rattle.reader.specs.Lyrics.{Syllable, put, held, sing, wordsOf, lyricWords}
+use Rattle.reader.specs.Lyrics.{Syllable, put, held, sing, lyricWords}
 use Rattle.lyric_words.specs.declared.Token.{Token}
 use Rattle.lyric_words.specs.declared.Token.the-variants as T
 use Rattle.lyric_words.specs.declared.Cursor.{Cursor}
 use Rattle.lyric_words.specs.declared.Read.{Read}
 use Rattle.lyric_words.specs.Words.{said, ahead, Ready, TokenRead, First}
-use Rattle.lyric_words.proofs.Hyphens.{words-none}
-use Rattle.lyric_words.proofs.Tokens.{ahead-done}
+use Rattle.lyric_words.proofs.Tokens.{ahead-over}
 use Rattle.lyrics.specs.declared.Sheet.{Sheet}
 use Rattle.lyrics.specs.declared.Row.{Row}
 use Rattle.lyrics.specs.declared.Line.{Line}
@@ -36,7 +33,7 @@ abbrev pub row : ℕ → ℕ → ℕ → ℕ → Row
 row verse code at end = record { verse = verse; code = code; at = at; end = end }
 
 -- a row that is no hold
-happens-put : (text : List ℕ) (r : Row) → eqb (r .code) holdCode ≡ false → applyRow text r ≡ put (syllableOf text r)
+pub happens-put : (text : List ℕ) (r : Row) → eqb (r .code) holdCode ≡ false → applyRow text r ≡ put (syllableOf text r)
 unfolding applyRow
 happens-put text r e = λ i ys. at ys i
   where
@@ -53,7 +50,7 @@ module _ (s : List ℕ) (h : Sheet) (l : Line) (taken : ℕ) where
       record { kept = kept; sung = λ text ws. e text ws (syllablesIn text s h); takes = low; more = omega arith; one = omega arith; outside = outside-none s (h .heads) (h .log + lyricRowWidth * h .count) }
 
   pub sung-bar : Kept s h → WordSung s s h l taken T.Bar (sung taken (h .count))
-  unfolding said
+  unfolding said sing
   sung-bar kept = nothing T.Bar taken kept (omega arith) (λ text ws notes. refl)
 
   pub sung-skip : Kept s h → WordSung s s h l taken T.Skip (sung (taken + 1) (h .count))
@@ -151,19 +148,12 @@ module _ (text s₀ : List ℕ) (h : Sheet) (l : Line) (s : List ℕ) (c : Curso
         outside = outside-next s₀ s t (h .heads) (h .log + lyricRowWidth * count) (h .log + lyricRowWidth * q .count) (v .outside) (omega (arith, w .more)) (w .outside);
       }
 
-  over : l .end ≤ c .at → ahead text (l .end) c ≡ []
-  unfolding lyricWords wordsOf
-  over x =
-      ahead-done text (l .end) c (omega (arith, v .ready .within))
-      ∙ ap (λ (ws : List ℕ). wordsOf (words whiteAt ws)) (between-none text (c .word) (l .end) (omega (arith, v .ready .stands .low)))
-      ∙ ap wordsOf (words-none whiteAt)
-
   pub singing-end : l .end ≤ c .at → LineSung text s₀ s h l count
   unfolding sing
   singing-end x =
       record {
         kept = v .kept;
-        sung = ap (λ (ws : List Word). sing (l .start) (l .verse) taken ws (syllablesIn text s (withCount h count))) (sym (over x)) ∙ v .sung;
+        sung = ap (λ (ws : List Word). sing (l .start) (l .verse) taken ws (syllablesIn text s (withCount h count))) (sym (ahead-over text (l .end) c (v .ready) x)) ∙ v .sung;
         more = v .more;
         room = omega (arith, v .room);
         outside = v .outside;

@@ -17,9 +17,12 @@ use Rattle.lyrics.specs.declared.Row.{Row}
 abbrev pub withCount : Sheet → ℕ → Sheet
 withCount h n = record { heads = h .heads; sounded = h .sounded; log = h .log; count = n }
 
--- THE WIDTHS of a note's head and of a row
+-- THE WIDTHS of a note's head, of its stop (crate lyric_stops) and of a row
 abbrev pub lyricHeadWidth : ℕ
 lyricHeadWidth = bounds.lyricHeadWidth
+
+abbrev pub lyricStopWidth : ℕ
+lyricStopWidth = bounds.lyricStopWidth
 
 abbrev pub lyricRowWidth : ℕ
 lyricRowWidth = bounds.lyricRowWidth
@@ -86,9 +89,13 @@ headsIn s heads n = rows headOf lyricHeadWidth s heads n
 unfoldable pub syllablesIn : List ℕ → List ℕ → Sheet → List (List Syllable)
 syllablesIn text s h = map (sungFrom text s (h .log) (h .count)) (headsIn s (h .heads) (h .sounded))
 
--- the tables lie apart and within scratch, and each head is the place of a row that is written
+-- the stops of the notes stand behind the heads
+abbrev pub stopsFrom : Sheet → ℕ
+stopsFrom h = h .heads + lyricHeadWidth * h .sounded
+
+-- the tables lie apart, with room for the stops, and within scratch, and each head is the place of a row that is written
 pub record Kept (s : List ℕ) (h : Sheet) : Type 0 where
-  pub apart : h .heads + lyricHeadWidth * h .sounded ≤ h .log
+  pub apart : stopsFrom h + lyricStopWidth * h .sounded ≤ h .log
   pub inside : h .log + lyricRowWidth * h .count ≤ length s
   pub firsts : All (λ k. k ≤ h .count) (headsIn s (h .heads) (h .sounded))
 
@@ -98,7 +105,7 @@ pub record Room (s : List ℕ) (h : Sheet) : Type 0 where
   pub inside : h .log + lyricRowWidth * h .count + lyricRowWidth ≤ length s
   pub few : h .count + 1 < 2 ^ 32
 
--- nothing but the tables was written
+-- nothing was written but between two places
 pub record Outside (s t : List ℕ) (lo hi : ℕ) : Type 0 where
   pub same-length : length t ≡ length s
   pub low : take lo t ≡ take lo s
@@ -110,4 +117,5 @@ pub record RowAppended (s t : List ℕ) (h : Sheet) (note : ℕ) (r : Row) (n : 
   pub sung : (text : List ℕ) → syllablesIn text t (withCount h n) ≡ alterAt note (applyRow text r) (syllablesIn text s h)
   pub more : h .count ≤ n
   pub one : n ≤ h .count + 1
+  pub stops : part t (stopsFrom h) (lyricStopWidth * h .sounded) ≡ part s (stopsFrom h) (lyricStopWidth * h .sounded)
   pub outside : Outside s t (h .heads) (h .log + lyricRowWidth * n)

@@ -1,15 +1,13 @@
 // The syllables of a part in scratch: for each note that sounds a chain of rows, the newest first, each a syllable or a hold of the one before it.
-// Rows are only ever added, so no chain is changed by what is added to another.
+// Rows are only ever added, so no chain is changed by what is added to another. And a lyric line of the first edition.
 ghost use Prim.Native.Nat.{_+_, _*_, _^_, _≤_, _<_};
 ghost use mathlib.Core.Path.{_≡_};
-ghost use mathlib.Core.List.{[]};
-ghost use lib.ListN.{length, replicate};
+ghost use lib.ListN.{length};
 ghost use Rattle.laws.specs.Bytes.{splice};
 ghost use Rattle.lyric_words.specs.Words.{Small};
 ghost use Rattle.lyric_words.specs.declared.Token.the-variants as Token;
-ghost use Rattle.lyrics.specs.Sheet.{lyricRowWidth, rowBytes, withCount, syllablesIn, Kept, Room, RowAppended};
+ghost use Rattle.lyrics.specs.Sheet.{lyricRowWidth, rowBytes, Room, RowAppended};
 ghost use Rattle.lyrics.specs.Lines.{WordSung, LineFits, LineSung};
-ghost use Rattle.lyrics.specs.Items.{LineFrom, ItemFits, ItemSung, Fits, AllSung};
 
 // The number of a hold, in a row, where a syllable has its syllabic's.
 pub const HOLD: u8 = 4;
@@ -71,7 +69,7 @@ fn put_row(scratch: &mut [u8], at: usize, row: Row, next: u32)
 }
 
 // Adds a row to the chain of a note; past the last note nothing. Answers how many rows are written.
-fn append_row(scratch: &mut [u8], sheet: Sheet, note: usize, row: Row) -> usize
+pub fn append_row(scratch: &mut [u8], sheet: Sheet, note: usize, row: Row) -> usize
     requires { ⌜ (Room (now scratch) sheet) × (row .at < 2 ^ 32) × (row .end < 2 ^ 32) ⌝ }
     ensures { λ r. ⌜ RowAppended (now (scratch .entry)) (now (scratch .exit)) sheet note row r ⌝ }
 {
@@ -169,7 +167,7 @@ fn sing_token(
 }
 
 // The words of a lyric line on the notes from its first on. Answers how many rows are written.
-fn sing_line(text: &[u8], scratch: &mut [u8], sheet: Sheet, line: Line) -> usize
+pub fn sing_line(text: &[u8], scratch: &mut [u8], sheet: Sheet, line: Line) -> usize
     requires { ⌜ LineFits (now text) (now scratch) sheet line ⌝ }
     ensures { λ r. ⌜ LineSung (now (text .entry)) (now (scratch .entry)) (now (scratch .exit)) sheet line r ⌝ }
 {
@@ -191,61 +189,4 @@ fn sing_line(text: &[u8], scratch: &mut [u8], sheet: Sheet, line: Line) -> usize
         cursor = read.cursor;
     }
     count
-}
-
-// The lyric line of an item: its verse and its first note stand in its row since the part was read.
-fn line_of(item: scan_table::Row) -> Line
-    ensures { λ r. ⌜ LineFrom item r ⌝ }
-{
-    Line {
-        start: item.unit as usize,
-        verse: item.b,
-        at: item.at,
-        end: item.end,
-    }
-}
-
-// Item i, if it is a lyric line of the part.
-fn sing_item(text: &[u8], scratch: &mut [u8], i: usize, part: u8, sheet: Sheet) -> usize
-    requires { ⌜ ItemFits (now text) (now scratch) part i sheet ⌝ }
-    ensures { λ r. ⌜ ItemSung (now (text .entry)) (now (scratch .entry)) (now (scratch .exit)) part i sheet r ⌝ }
-{
-    let item = scan_table::get_item(text, scratch, i);
-    if item.kind != scan_table::LYRIC_LINE {
-        return sheet.count;
-    }
-    if item.part != part {
-        return sheet.count;
-    }
-    let line = line_of(item);
-    sing_line(text, scratch, sheet, line)
-}
-
-// The lyric lines of a part, which are among the first n items, in order.
-fn sing_items(text: &[u8], scratch: &mut [u8], n: usize, part: u8, sheet: Sheet) -> usize
-    requires { ⌜ (Fits (now text) (now scratch) n part sheet) × (Kept (now scratch) (withCount sheet 0)) ⌝ }
-    ensures { λ r. ⌜ AllSung (now (text .entry)) (now (scratch .entry)) (now (scratch .exit)) n part sheet (syllablesIn (now (text .entry)) (now (scratch .entry)) (withCount sheet 0)) r ⌝ }
-{
-    let mut count: usize = 0;
-    let mut i: usize = 0;
-    while i < n {
-        let now = Sheet {
-            heads: sheet.heads,
-            sounded: sheet.sounded,
-            log: sheet.log,
-            count,
-        };
-        count = sing_item(text, scratch, i, part, now);
-        i += 1;
-    }
-    count
-}
-
-// Sings the lyric lines of a part, which are among the first n items, to its notes. Answers how many rows are written.
-pub fn apply_abc_lyrics(text: &[u8], scratch: &mut [u8], n: usize, part: u8, sheet: Sheet) -> usize
-    requires { ⌜ Fits (now text) (now scratch) n part sheet ⌝ }
-    ensures { λ r. ⌜ AllSung (now (text .entry)) (now (scratch .entry)) (now (scratch .exit)) n part sheet (replicate (sheet .sounded) []) r ⌝ }
-{
-    store::clear_between(scratch, sheet.heads, sheet.heads + HEAD * sheet.sounded);
-    sing_items(text, scratch, n, part, sheet)
 }

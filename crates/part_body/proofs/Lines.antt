@@ -6,6 +6,7 @@ use native.Mathlib.Omega.{arith}
 use lib.ListN.{length, drop}
 use Rattle.laws.specs.Lists.{foldl}
 use Rattle.standard.specs.Fields.{Meter}
+use Rattle.editions.specs.declared.Edition.{Edition}
 use Rattle.reader.specs.Token as token
 use Rattle.reader.specs.Tokens.{tokenOf, tokens}
 use Rattle.reader.proofs.TokenLaws.{fold-at, fold-end}
@@ -38,21 +39,21 @@ pub record Begun (line : List ℕ) (t : Tables) (s : List ℕ) (r : Registers) :
   pub represents : Represents t s r [] state
 
 -- the tokens from a position on lead to this part
-pub record Leads (line : List ℕ) (t : Tables) (s : List ℕ) (r : Registers) (at : ℕ) (end : LogState) : Type 0 where
+pub record Leads (ed : Edition) (line : List ℕ) (t : Tables) (s : List ℕ) (r : Registers) (at : ℕ) (end : LogState) : Type 0 where
   pub state : LogState
   pub in-line : InLine state
   pub represents : Represents t s r [] state
-  pub rest : foldl onToken state (tokens 0 (drop at line)) ≡ end
+  pub rest : foldl onToken state (tokens ed 0 (drop at line)) ≡ end
 
 -- THE INVARIANT, from scratch and registers where the tokens begin to those at a position
-pub record Going (line : List ℕ) (t : Tables) (s₀ : List ℕ) (r₀ : Registers) (s : List ℕ) (r : Registers) (at : ℕ) : Type 0 where
+pub record Going (ed : Edition) (line : List ℕ) (t : Tables) (s₀ : List ℕ) (r₀ : Registers) (s : List ℕ) (r : Registers) (at : ℕ) : Type 0 where
   pub within : at ≤ length line
   pub only : Only (t .heads) (t .end) s₀ s
   pub heads-left : max 1 (r .counts .heads) + bars (drop at line) ≤ max 1 (r₀ .counts .heads) + bars line
   pub notes-left : r .counts .notes + tones (drop at line) ≤ r₀ .counts .notes + tones line
   pub pitches-left : r .counts .pitches + letters (drop at line) ≤ r₀ .counts .pitches + letters line
   pub scopes-left : r .counts .scopes + signs (drop at line) ≤ r₀ .counts .scopes + signs line
-  pub holds : (l : LogState) → InLine l → Represents t s₀ r₀ [] l → Leads line t s r at (foldl onToken l (tokens 0 line))
+  pub holds : (l : LogState) → InLine l → Represents t s₀ r₀ [] l → Leads ed line t s r at (foldl onToken l (tokens ed 0 line))
 
 -- BEFORE THE TOKENS
 -- less room
@@ -89,9 +90,9 @@ module _ {t : Tables} {s s₁ : List ℕ} {r r₁ : Registers} (u : ℕ) (m : Me
       }
 
   -- AFTER THEM the line has done what it does
-  pub line-simulates : {line s₂ : List ℕ} {r₂ : Registers} {at : ℕ} → Going line t s₁ r₁ s₂ r₂ at → length line ≤ at → SimulatesItem t s r s₂ r₂ line (onLine u m line)
+  pub line-simulates : (ed : Edition) {line s₂ : List ℕ} {r₂ : Registers} {at : ℕ} → Going ed line t s₁ r₁ s₂ r₂ at → length line ≤ at → SimulatesItem t s r s₂ r₂ line (onLine ed u m line)
   unfolding onLine bars letters rests signs
-  line-simulates {line} {s₂} {r₂} {at} g h =
+  line-simulates ed {line} {s₂} {r₂} {at} g h =
       let a = b .grows in
       record {
         only = only-then (b .only) (g .only);
@@ -105,12 +106,12 @@ module _ {t : Tables} {s s₁ : List ℕ} {r r₁ : Registers} (u : ℕ) (m : Me
         holds =
             λ l w k.
             let e = g .holds (lineBegins u m l) (in-line-begins u m l w) (b .holds l w k) in
-            subst (λ (x : LogState). Represents t s₂ r₂ [] x) (sym (fold-end onToken (e .state) line at h) ∙ e .rest) (e .represents);
+            subst (λ (x : LogState). Represents t s₂ r₂ [] x) (sym (fold-end ed onToken (e .state) line at h) ∙ e .rest) (e .represents);
       }
 
 -- where they begin
-pub going-start : (line : List ℕ) (t : Tables) (s : List ℕ) (r : Registers) → Going line t s r s r 0
-going-start line t s r =
+pub going-start : (ed : Edition) (line : List ℕ) (t : Tables) (s : List ℕ) (r : Registers) → Going ed line t s r s r 0
+going-start ed line t s r =
     record {
       within = omega arith;
       only = only-none (t .heads) (t .end) s;
@@ -122,16 +123,16 @@ going-start line t s r =
     }
 
 -- ONE TOKEN
-module _ {line : List ℕ} {t : Tables} {s₀ s : List ℕ} {r₀ r : Registers} {at : ℕ} (b : Begun line t s₀ r₀) (g : Going line t s₀ r₀ s r at) (h : at < length line) (e : Tokenised)
-    (k : e ≡ tokenisedFor at (r .line .unit) (tokenOf (drop at line))) where
+module _ (ed : Edition) {line : List ℕ} {t : Tables} {s₀ s : List ℕ} {r₀ r : Registers} {at : ℕ} (b : Begun line t s₀ r₀) (g : Going ed line t s₀ r₀ s r at) (h : at < length line) (e : Tokenised)
+    (k : e ≡ tokenisedFor at (r .line .unit) (tokenOf ed (drop at line))) where
   abbrev tok : token.Token
-  tok = tokenOf (drop at line) .token
+  tok = tokenOf ed (drop at line) .token
 
   abbrev used : ℕ
-  used = tokenOf (drop at line) .used
+  used = tokenOf ed (drop at line) .used
 
   covered : CoversBoth tok (drop at line) (drop (at + used) line)
-  covered = token-cover-at line at h
+  covered = token-cover-at ed line at h
 
   room : Room t (r .counts) (length s) (makes tok .heads) (makes tok .notes) (makes tok .pitches) (makes tok .scopes)
   room =
@@ -154,22 +155,22 @@ module _ {line : List ℕ} {t : Tables} {s₀ s : List ℕ} {r₀ r : Registers}
   pub going-ready : Ready line t s r (e .token)
   going-ready =
       subst (λ (x : Tokenised). Ready line t s r (x .token)) (sym k)
-      (token-ready line at tok (chord-pitches line at) (token-fits (drop at line)) room holding)
+      (token-ready line at tok (chord-pitches ed line at) (token-fits ed (drop at line)) room holding)
 
   pub going-past : at < e .next
-  going-past = rw k (token-past line at h)
+  going-past = rw k (token-past ed line at h)
 
-  pub going-turn : (s′ : List ℕ) (r′ : Registers) → SimulatesToken line t s r s′ r′ (e .token) → Going line t s₀ r₀ s′ r′ (e .next)
-  going-turn s′ r′ a = subst (λ (x : Tokenised). Going line t s₀ r₀ s′ r′ (x .next)) (sym k) turned
+  pub going-turn : (s′ : List ℕ) (r′ : Registers) → SimulatesToken line t s r s′ r′ (e .token) → Going ed line t s₀ r₀ s′ r′ (e .next)
+  going-turn s′ r′ a = subst (λ (x : Tokenised). Going ed line t s₀ r₀ s′ r′ (x .next)) (sym k) turned
     where
       does : Simulates t s r s′ r′ (makes tok .heads) (makes tok .notes) (makes tok .pitches) (makes tok .scopes) (λ l. onToken l tok)
-      does = token-simulates line at tok (chord-pitches line at) (subst (λ (x : Tokenised). SimulatesToken line t s r s′ r′ (x .token)) k a)
+      does = token-simulates line at tok (chord-pitches ed line at) (subst (λ (x : Tokenised). SimulatesToken line t s r s′ r′ (x .token)) k a)
 
-      turned : Going line t s₀ r₀ s′ r′ (at + used)
+      turned : Going ed line t s₀ r₀ s′ r′ (at + used)
       turned =
           let d = does .grows in
           record {
-            within = token-within line at h;
+            within = token-within ed line at h;
             only = only-then (g .only) (does .only);
             heads-left = omega (arith, g .heads-left, d .more-heads, covered .bars-left);
             notes-left = omega (arith, g .notes-left, d .more-notes, covered .tones-left);
@@ -182,6 +183,6 @@ module _ {line : List ℕ} {t : Tables} {s₀ s : List ℕ} {r₀ r : Registers}
                   state = onToken (p .state) tok;
                   in-line = in-line-token (p .state) tok (p .in-line);
                   represents = does .holds (p .state) (standing (p .state) (p .in-line)) (p .represents);
-                  rest = sym (fold-at onToken (p .state) line at h) ∙ p .rest;
+                  rest = sym (fold-at ed onToken (p .state) line at h) ∙ p .rest;
                 };
           }

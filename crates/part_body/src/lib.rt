@@ -4,6 +4,7 @@ ghost use Rattle.part_layout.specs.Log.{onLine};
 ghost use Rattle.part_invariant.specs.Lines.{RepresentedBetween, RoomForBytes, SimulatesItem};
 ghost use Rattle.part_sounds.specs.Sounds.{OnceAppended};
 ghost use Rattle.part_body.specs.Body.{Ready, SimulatesToken};
+use editions::Edition;
 use field_keys::Key;
 use part_registers::Registers;
 use part_registers::Tables;
@@ -84,6 +85,7 @@ fn on_token(line: &[u8], store: &mut [u8], t: Tables, r: Registers, token: Token
 
 // A music line, which begins with this unit and meter in force.
 pub fn parse_body_line(
+    edition: Edition,
     line: &[u8],
     store: &mut [u8],
     t: Tables,
@@ -93,14 +95,14 @@ pub fn parse_body_line(
     bottom: u8,
 ) -> Registers
     requires { ⌜ RoomForBytes t (r .counts) (length (now store)) (now line) × RepresentedBetween t (now store) r ⌝ }
-    ensures { λ x. ⌜ SimulatesItem t (now (store .entry)) r (now (store .exit)) x (now (line .entry)) (onLine unit (top, bottom) (now (line .entry))) ⌝ }
+    ensures { λ x. ⌜ SimulatesItem t (now (store .entry)) r (now (store .exit)) x (now (line .entry)) (onLine edition unit (top, bottom) (now (line .entry))) ⌝ }
 {
     let classes = token_symbols::letter_classes();
     let mut x = part_steps::begin_line(store, t, r, unit, top, bottom);
     let mut at: usize = 0;
     while at < line.len() {
         let kept = x.line;
-        let taken = tokens::token_at(line, at, kept.unit, &classes);
+        let taken = tokens::token_at(edition, line, at, kept.unit, &classes);
         let token = taken.token;
         let deferred = on_token(line, store, t, x, token);
         x = part_sounds::append_deferred(store, t, deferred);

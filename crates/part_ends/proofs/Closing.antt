@@ -20,16 +20,15 @@ use Rattle.reader.specs.State.{Note, Volta, noVolta, voltaBegins, voltaEnds, vo
 use Rattle.reader.specs.Voltas.{endsEnding, isStart}
 use Rattle.reader.specs.Codes.{barlineCode, voltaCode, modeCode}
 use Rattle.reader.specs.Records.{keyMarkBytes, passBits, signed8, measureWidth}
-use Rattle.part_layout.specs.Log.{Head, withVolta, withKeyMark, isEmptyHead}
+use Rattle.part_layout.specs.Log.{Head, withVolta, withKeyMark, isEmptyHead, notesIn}
 use Rattle.part_layout.specs.Ends.{dropped, starts, lastThere, endsAt, close, markedBy, marked}
-use Rattle.part_layout.specs.Sections.{notesIn}
 use Rattle.part_layout.specs.Lines.{Fits}
 use Rattle.part_rows.specs.Table.{Table}
 use Rattle.part_measures.specs.Heads.{headRow, noNotes, rightAt, keyMarkAt, voltaAt, firstPassAt, passesAt}
 use Rattle.part_measures.proofs.Heads.{length-head, head-mark, head-empty}
 use Rattle.part_ends.specs.declared.Span.{Span}
 use Rattle.part_ends.specs.Spans.{Small, Stands, SpanIs, closedHead, spanAfter}
-use Rattle.part_ends.proofs.Zipped.{row-here, byte-here, u32-here, set-here, table-front}
+use Rattle.part_rows.proofs.Zipped.{row-here, byte-here, u32-here, set-here, table-front}
 
 -- BYTES OF A HEAD
 pub right-byte : (m : Head) → getD (headRow m) rightAt 0 ≡ barlineCode (m .right)

@@ -1,2 +1,1 @@
-pub mod Zipped
 pub mod Closing

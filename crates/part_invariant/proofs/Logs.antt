@@ -16,8 +16,7 @@ use Rattle.standard.specs.Notes as Notes
 use Rattle.reader.specs.State as State
 use Rattle.reader.specs.State.{Note}
 use Rattle.reader.specs.Part.{canBeam, grouped, groupIn, brokenNote, halvedNote, afterHalf}
-use Rattle.part_layout.specs.Log.{Head, LogState, onLastHead, atPlace, beamedNew, beamedBefore}
-use Rattle.part_layout.specs.Sections.{notesIn}
+use Rattle.part_layout.specs.Log.{Head, LogState, onLastHead, atPlace, beamedNew, beamedBefore, notesIn}
 use Rattle.part_layout.specs.Lines.{Fits}
 use Rattle.part_layout.specs.Lines.{Standing}
 use Rattle.part_invariant.specs.Invariant.{pitchesIn}

@@ -10,6 +10,7 @@ use lib.ListN.{length, getD}
 use Rattle.laws.specs.Bytes.{splice}
 use Rattle.laws.specs.Lists.{foldl}
 use Rattle.standard.specs.Keys.{Key, plainKey}
+use Rattle.editions.specs.declared.Edition.{Edition}
 use Rattle.reader.specs.Codes.{modeCode}
 use Rattle.reader.specs.Records.{signed8, measureWidth}
 use Rattle.reader.specs.Scan.{Item, voiceDeclared, reset, keyInHeader, keyChange, meterChange, lyricLine, musicLine}
@@ -88,16 +89,12 @@ keyed-represented k l h =
       verse-is = h .verse-is;
     }
 
-module _ {t : Tables} {s : List ℕ} {r : Registers} (header : Key) where
-  pub declared-in-header : (b : Bool) → b ≡ true → SimulatesItem t s r s (keyedAs r (record { fifths = 128; minor = false })) [] (λ l. onItem header l (voiceDeclared b))
-  unfolding onItem firstKey plainKey
-  declared-in-header b e = simulates-item-alone refl (λ l h. rw e (keyed-represented plainKey l h))
+module _ (ed : Edition) {t : Tables} {s : List ℕ} {r : Registers} (header : Key) where
+  pub declared-simulates : (b : Bool) → SimulatesItem t s r s (keyedAs r (firstKey ed header b)) [] (λ l. onItem ed header l (voiceDeclared b))
+  unfolding onItem
+  declared-simulates b = simulates-item-alone refl (λ l h. keyed-represented (firstKey ed header b) l h)
 
-  pub declared-in-body : (b : Bool) → b ≡ false → SimulatesItem t s r s (keyedAs r header) [] (λ l. onItem header l (voiceDeclared b))
-  unfolding onItem firstKey
-  declared-in-body b e = simulates-item-alone refl (λ l h. rw e (keyed-represented header l h))
-
-  pub key-in-header-simulates : SimulatesItem t s r s (keyedAs r header) [] (λ l. onItem header l keyInHeader)
+  pub key-in-header-simulates : SimulatesItem t s r s (keyedAs r header) [] (λ l. onItem ed header l keyInHeader)
   unfolding onItem
   key-in-header-simulates = simulates-item-alone refl (λ l h. keyed-represented header l h)
 
@@ -115,9 +112,9 @@ unpending r =
       verses = r .verses;
     }
 
-pub reset-simulates : {t : Tables} {s : List ℕ} {r : Registers} (header : Key) → SimulatesItem t s r s (unpending r) [] (λ l. onItem header l reset)
+pub reset-simulates : (ed : Edition) {t : Tables} {s : List ℕ} {r : Registers} (header : Key) → SimulatesItem t s r s (unpending r) [] (λ l. onItem ed header l reset)
 unfolding onItem
-reset-simulates header =
+reset-simulates ed header =
     simulates-item-alone refl
     (λ l h. record {
       stored = h .stored;
@@ -166,9 +163,9 @@ key-measured header k (m ∷ ms) l h = refl
 hearing-grows : (r : Registers) (k : Key) → GrowsBy (r .counts) (hearing r k .counts) []
 hearing-grows r k = record { more-heads = omega arith; more-notes = omega arith; more-pitches = omega arith; more-scopes = omega arith }
 
-module _ {t : Tables} {s : List ℕ} {r : Registers} (room : RoomForBytes t (r .counts) (length s) []) (header k : Key) where
+module _ (ed : Edition) {t : Tables} {s : List ℕ} {r : Registers} (room : RoomForBytes t (r .counts) (length s) []) (header k : Key) where
   -- where there is no measure
-  pub key-none : r .counts .heads ≡ 0 → SimulatesItem t s r s (hearing r header) [] (λ l. onItem header l (keyChange k))
+  pub key-none : r .counts .heads ≡ 0 → SimulatesItem t s r s (hearing r header) [] (λ l. onItem ed header l (keyChange k))
   unfolding onItem
   key-none e =
       record {
@@ -191,7 +188,7 @@ module _ {t : Tables} {s : List ℕ} {r : Registers} (room : RoomForBytes t (r .
 
     -- where there is one
     pub key-some : s′ ≡ splice s (t .heads + measureWidth * (r .counts .heads - 1) + keyMarkAt) (modeCode (k .minor) ∷ signed8 (k .fifths) ∷ [])
-        → SimulatesItem t s r s′ (hearing r k) [] (λ l. onItem header l (keyChange k))
+        → SimulatesItem t s r s′ (hearing r k) [] (λ l. onItem ed header l (keyChange k))
     unfolding onItem
     key-some e =
         let o = open-simulates-item keyMarkAt (modeCode (k .minor) ∷ signed8 (k .fifths) ∷ []) e (omega arith) (withKeyMark k) (λ m. head-mark m k) in
@@ -204,7 +201,7 @@ module _ {t : Tables} {s : List ℕ} {r : Registers} (room : RoomForBytes t (r .
         }
 
     -- AN M LINE on the open measure
-    pub meter-some : (top bottom : ℕ) → s′ ≡ splice s (t .heads + measureWidth * (r .counts .heads - 1) + meterAt) (top ∷ bottom ∷ []) → SimulatesItem t s r s′ r [] (λ l. onItem header l (meterChange (top, bottom)))
+    pub meter-some : (top bottom : ℕ) → s′ ≡ splice s (t .heads + measureWidth * (r .counts .heads - 1) + meterAt) (top ∷ bottom ∷ []) → SimulatesItem t s r s′ r [] (λ l. onItem ed header l (meterChange (top, bottom)))
     unfolding onItem
     meter-some top bottom e = open-simulates-item meterAt (top ∷ bottom ∷ []) e (omega arith) (withMeter (top, bottom)) (λ m. head-meter m (top, bottom))
 
@@ -218,9 +215,9 @@ open-none : (g : Head → Head) (l : LogState) → length (l .heads) ≡ 0 → l
 unfolding onOpen
 open-none g l e = ap (λ (hs : List Head). setHeads hs l) (none-changed g (l .heads) e)
 
-pub meter-none : {t : Tables} {s : List ℕ} {r : Registers} (header : Key) (top bottom : ℕ) → r .counts .heads ≡ 0 → SimulatesItem t s r s r [] (λ l. onItem header l (meterChange (top, bottom)))
+pub meter-none : (ed : Edition) {t : Tables} {s : List ℕ} {r : Registers} (header : Key) (top bottom : ℕ) → r .counts .heads ≡ 0 → SimulatesItem t s r s r [] (λ l. onItem ed header l (meterChange (top, bottom)))
 unfolding onItem
-meter-none {t} {s} {r} header top bottom e =
+meter-none ed {t} {s} {r} header top bottom e =
     simulates-item-alone refl (λ l h. subst (λ (x : LogState). Represents t s r [] x) (open-none (withMeter (top, bottom)) l (sym (h .stored .heads-are) ∙ e)) h)
 
 -- LINES: only a lyric line adds one
@@ -281,12 +278,12 @@ addedBy l (meterChange t) = []
 addedBy l (lyricLine p t) = record { start = l .verses .start; verse = l .verses .verse; text = t } ∷ []
 addedBy l (musicLine u t b) = []
 
-pub item-lines : (header : Key) (l : LogState) (x : Item) → onItem header l x .verses .lines ≡ addedBy l x ++ l .verses .lines
+pub item-lines : (ed : Edition) (header : Key) (l : LogState) (x : Item) → onItem ed header l x .verses .lines ≡ addedBy l x ++ l .verses .lines
 unfolding onItem addedBy onLyric onLine onOpen lineBegins
-item-lines header l (voiceDeclared b) = refl
-item-lines header l reset = refl
-item-lines header l keyInHeader = refl
-item-lines header l (keyChange k) = key-lines header k (l .heads) l
-item-lines header l (meterChange t) = refl
-item-lines header l (lyricLine p t) = refl
-item-lines header l (musicLine u t b) = tokens-lines (tokens 0 b) (lineBegins u t l)
+item-lines ed header l (voiceDeclared b) = refl
+item-lines ed header l reset = refl
+item-lines ed header l keyInHeader = refl
+item-lines ed header l (keyChange k) = key-lines header k (l .heads) l
+item-lines ed header l (meterChange t) = refl
+item-lines ed header l (lyricLine p t) = refl
+item-lines ed header l (musicLine u t b) = tokens-lines (tokens ed 0 b) (lineBegins u t l)

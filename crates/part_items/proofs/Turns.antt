@@ -18,6 +18,7 @@ use Rattle.laws.proofs.Splices.{length-splice}
 use Rattle.laws.proofs.Numbers.{length-little}
 use Rattle.standard.specs.Keys.{Key}
 use Rattle.standard.specs.Lyrics.{nextVerse}
+use Rattle.editions.specs.declared.Edition.{Edition}
 use Rattle.reader.specs.State.{Sung}
 use Rattle.reader.specs.Scan.{Item, voiceDeclared, reset, keyInHeader, keyChange, meterChange, lyricLine, musicLine}
 use Rattle.reader.specs.Steps.{itemsOf}
@@ -30,7 +31,7 @@ use Rattle.scan_table.specs.declared.Row.{Row}
 use Rattle.scan_table.specs.Rows.{rowFrom, itemAt, voiceDeclaredKind, resetKind, keyInHeaderKind, keyChangeKind, meterChangeKind, lyricLineKind, itemsFrom, itemRowWidth, decItem, itemAs, itemIn, itemsIn, bAt, unitAt, lyricRow, withLyric, RowIs}
 use Rattle.scan_table.proofs.Rows.{music-kind, lyric-back, items-none, items-more, items-get, length-items}
 use Rattle.lyrics.specs.Items.{isLine, lineIn, lineOf, linesIn}
-use Rattle.lyrics.proofs.Applying.{item-words, lines-more, lines-front}
+use Rattle.lyrics.proofs.Items.{item-words, lines-more, lines-front}
 use Rattle.part_rows.specs.Table.{Only}
 use Rattle.part_rows.proofs.Tables.{only-none, only-then, only-wider}
 use Rattle.part_registers.specs.declared.Tables.{Tables}
@@ -73,9 +74,9 @@ unfolding itemAs
 same-lyrics k text q verse start e = ap (λ (j : ℕ). itemAs j text (lyricRow q verse start)) e ∙ sym (ap (λ (j : ℕ). itemAs j text q) e)
 
 -- WHAT A LYRIC LINE NEEDS of a part that is represented: the next verse
-versed-represented : {t : Tables} {s : List ℕ} {r : Registers} (header : Key) (placed : Bool) (words : List ℕ) (l : LogState) → Represents t s r [] l → Represents t s (versed r placed) [] (onItem header l (lyricLine placed words))
+versed-represented : (ed : Edition) {t : Tables} {s : List ℕ} {r : Registers} (header : Key) (placed : Bool) (words : List ℕ) (l : LogState) → Represents t s r [] l → Represents t s (versed r placed) [] (onItem ed header l (lyricLine placed words))
 unfolding onItem onLyric
-versed-represented header placed words l h =
+versed-represented ed header placed words l h =
     record {
       stored = h .stored;
       scoped = h .scoped;
@@ -92,16 +93,16 @@ versed-represented header placed words l h =
     }
 
 -- the part by another name
-pub taken-as : {text : List ℕ} {t : Tables} {header : Key} {p q i : ℕ} {s : List ℕ} {r : Registers} {s′ : List ℕ} {r′ : Registers} → q ≡ p → Taken text t header q i s r s′ r′ → Taken text t header p i s r s′ r′
-taken-as {text} {t} {header} {p} {q} {i} {s} {r} {s′} {r′} e k = subst (λ (m : ℕ). Taken text t header m i s r s′ r′) e k
+pub taken-as : (ed : Edition) {text : List ℕ} {t : Tables} {header : Key} {p q i : ℕ} {s : List ℕ} {r : Registers} {s′ : List ℕ} {r′ : Registers} → q ≡ p → Taken ed text t header q i s r s′ r′ → Taken ed text t header p i s r s′ r′
+taken-as ed {text} {t} {header} {p} {q} {i} {s} {r} {s′} {r′} e k = subst (λ (m : ℕ). Taken ed text t header m i s r s′ r′) e k
 
 -- of another part
-module _ (text : List ℕ) (t : Tables) (header : Key) (p i : ℕ) (s : List ℕ) (r : Registers) (row : Row) (is : RowIs text (itemAt s i) row) where
+module _ (ed : Edition) (text : List ℕ) (t : Tables) (header : Key) (p i : ℕ) (s : List ℕ) (r : Registers) (row : Row) (is : RowIs text (itemAt s i) row) where
   other-owner : (row .part ≡ p → ⊥) → (itemIn text (itemAt s i) .0 ≡ p → ⊥)
   unfolding itemIn
   other-owner n e = n (ap (λ (x : ℕ × Item). x .0) (is .item) ∙ e)
 
-  pub taken-other : (row .part ≡ p → ⊥) → Taken text t header p i s r s r
+  pub taken-other : (row .part ≡ p → ⊥) → Taken ed text t header p i s r s r
   unfolding isLine itemIn
   taken-other n =
       let o : ownAt text p s i ≡ [] = own-no p (itemIn text (itemAt s i)) (other-owner n) in
@@ -113,12 +114,12 @@ module _ (text : List ℕ) (t : Tables) (header : Key) (p i : ℕ) (s : List ℕ
         grows = grows-none (r .counts) (musicOf (ownAt text p s i));
         holds = λ l b h. rw o h;
         lines =
-            λ l h. ap (λ (xs : List Item). reverse (foldl (onItem header) l xs .verses .lines)) o ∙ sym (append-nil (reverse (l .verses .lines)))
+            λ l h. ap (λ (xs : List Item). reverse (foldl (onItem ed header) l xs .verses .lines)) o ∙ sym (append-nil (reverse (l .verses .lines)))
             ∙ ap (λ (ls : List Sung). reverse (l .verses .lines) ++ ls) (sym (no-line text p (itemAt s i) (and-no-right (eqb (itemAt s i .kind) 5) _ (ne-eqb (itemAt s i .part) p (other-owner n)))));
       }
 
 -- of the part
-module _ (text : List ℕ) (t : Tables) (header : Key) (i : ℕ) (s : List ℕ) (r : Registers) (row : Row) (is : RowIs text (itemAt s i) row) where
+module _ (ed : Edition) (text : List ℕ) (t : Tables) (header : Key) (i : ℕ) (s : List ℕ) (r : Registers) (row : Row) (is : RowIs text (itemAt s i) row) where
   item-is : (x : Item) → itemAs (row .kind) text row ≡ x → itemIn text (itemAt s i) ≡ (row .part, x)
   unfolding itemIn
   item-is x e = sym (is .item) ∙ ap (λ (y : Item). (row .part, y)) e
@@ -139,8 +140,8 @@ module _ (text : List ℕ) (t : Tables) (header : Key) (i : ℕ) (s : List ℕ) 
       (represented-behind room m (rowFrom i + bAt) (r .verses .verse ∷ []) refl (omega (arith, ready .before)) l h)
 
   -- none but a lyric line
-  pub taken-plain : (x : Item) → itemAs (row .kind) text row ≡ x → (row .kind ≡ lyricLineKind → ⊥) → ((l : LogState) → addedBy l x ≡ []) → {s′ : List ℕ} {r′ : Registers} {bs : List ℕ} → musicIn x ≡ bs → SimulatesItem t s r s′ r′ bs (λ l. onItem header l x)
-      → Taken text t header (row .part) i s r s′ r′
+  pub taken-plain : (x : Item) → itemAs (row .kind) text row ≡ x → (row .kind ≡ lyricLineKind → ⊥) → ((l : LogState) → addedBy l x ≡ []) → {s′ : List ℕ} {r′ : Registers} {bs : List ℕ} → musicIn x ≡ bs → SimulatesItem t s r s′ r′ bs (λ l. onItem ed header l x)
+      → Taken ed text t header (row .part) i s r s′ r′
   unfolding isLine
   taken-plain x e n a {s′} {r′} {bs} m k =
       let o = own-is x e in
@@ -150,37 +151,37 @@ module _ (text : List ℕ) (t : Tables) (header : Key) (i : ℕ) (s : List ℕ) 
         tables = k .only;
         same-item = refl;
         grows = subst (λ (b : List ℕ). GrowsBy (r .counts) (r′ .counts) b) (sym (own-music x e ∙ m)) (k .grows);
-        holds = λ l b h. subst (λ (xs : List Item). Represents t s′ r′ [] (foldl (onItem header) l xs)) (sym o) (k .holds l b h);
+        holds = λ l b h. subst (λ (xs : List Item). Represents t s′ r′ [] (foldl (onItem ed header) l xs)) (sym o) (k .holds l b h);
         lines =
-            λ l h. ap (λ (xs : List Item). reverse (foldl (onItem header) l xs .verses .lines)) o ∙ ap reverse (item-lines header l x ∙ ap (λ (ls : List Sung). ls ++ l .verses .lines) (a l))
+            λ l h. ap (λ (xs : List Item). reverse (foldl (onItem ed header) l xs .verses .lines)) o ∙ ap reverse (item-lines ed header l x ∙ ap (λ (ls : List Sung). ls ++ l .verses .lines) (a l))
             ∙ sym (append-nil (reverse (l .verses .lines)))
             ∙ ap (λ (ls : List Sung). reverse (l .verses .lines) ++ ls) (sym (no-line text (row .part) (itemAt s i) (and-no-left _ _ (ne-eqb (itemAt s i .kind) lyricLineKind (λ f. n (is .kind ∙ f))))));
       }
 
   -- each kind of them
-  pub taken-voice-declared : {r′ : Registers} → row .kind ≡ voiceDeclaredKind → SimulatesItem t s r s r′ [] (λ l. onItem header l (voiceDeclared (eqb (row .a) 1))) → Taken text t header (row .part) i s r s r′
+  pub taken-voice-declared : {r′ : Registers} → row .kind ≡ voiceDeclaredKind → SimulatesItem t s r s r′ [] (λ l. onItem ed header l (voiceDeclared (eqb (row .a) 1))) → Taken ed text t header (row .part) i s r s r′
   unfolding itemAs addedBy musicIn
   taken-voice-declared e k = taken-plain (voiceDeclared (eqb (row .a) 1)) (ap (λ (j : ℕ). itemAs j text row) e) (λ f. omega (arith, e, f)) (λ l. refl) refl k
 
-  pub taken-reset : {r′ : Registers} → row .kind ≡ resetKind → SimulatesItem t s r s r′ [] (λ l. onItem header l reset) → Taken text t header (row .part) i s r s r′
+  pub taken-reset : {r′ : Registers} → row .kind ≡ resetKind → SimulatesItem t s r s r′ [] (λ l. onItem ed header l reset) → Taken ed text t header (row .part) i s r s r′
   unfolding itemAs addedBy musicIn
   taken-reset e k = taken-plain reset (ap (λ (j : ℕ). itemAs j text row) e) (λ f. omega (arith, e, f)) (λ l. refl) refl k
 
-  pub taken-key-in-header : {r′ : Registers} → row .kind ≡ keyInHeaderKind → SimulatesItem t s r s r′ [] (λ l. onItem header l keyInHeader) → Taken text t header (row .part) i s r s r′
+  pub taken-key-in-header : {r′ : Registers} → row .kind ≡ keyInHeaderKind → SimulatesItem t s r s r′ [] (λ l. onItem ed header l keyInHeader) → Taken ed text t header (row .part) i s r s r′
   unfolding itemAs addedBy musicIn
   taken-key-in-header e k = taken-plain keyInHeader (ap (λ (j : ℕ). itemAs j text row) e) (λ f. omega (arith, e, f)) (λ l. refl) refl k
 
-  pub taken-key-change : {s′ : List ℕ} {r′ : Registers} → row .kind ≡ keyChangeKind → SimulatesItem t s r s′ r′ [] (λ l. onItem header l (keyChange (record { fifths = row .a; minor = eqb (row .b) 1 }))) → Taken text t header (row .part) i s r s′ r′
+  pub taken-key-change : {s′ : List ℕ} {r′ : Registers} → row .kind ≡ keyChangeKind → SimulatesItem t s r s′ r′ [] (λ l. onItem ed header l (keyChange (record { fifths = row .a; minor = eqb (row .b) 1 }))) → Taken ed text t header (row .part) i s r s′ r′
   unfolding itemAs addedBy musicIn
   taken-key-change e k = taken-plain (keyChange (record { fifths = row .a; minor = eqb (row .b) 1 })) (ap (λ (j : ℕ). itemAs j text row) e) (λ f. omega (arith, e, f)) (λ l. refl) refl k
 
-  pub taken-meter-change : {s′ : List ℕ} {r′ : Registers} → row .kind ≡ meterChangeKind → SimulatesItem t s r s′ r′ [] (λ l. onItem header l (meterChange (row .a, row .b))) → Taken text t header (row .part) i s r s′ r′
+  pub taken-meter-change : {s′ : List ℕ} {r′ : Registers} → row .kind ≡ meterChangeKind → SimulatesItem t s r s′ r′ [] (λ l. onItem ed header l (meterChange (row .a, row .b))) → Taken ed text t header (row .part) i s r s′ r′
   unfolding itemAs addedBy musicIn
   taken-meter-change e k = taken-plain (meterChange (row .a, row .b)) (ap (λ (j : ℕ). itemAs j text row) e) (λ f. omega (arith, e, f)) (λ l. refl) refl k
 
   -- a lyric line
   pub taken-lyric-line : row .kind ≡ lyricLineKind → Ready text t (row .part) i s r → (s′ : List ℕ) (r′ : Registers) → r′ ≡ versed r (eqb (row .a) 1) → r .verses .start < 2 ^ 32 → s′ ≡ withLyric s i (r .verses .verse) (r .verses .start)
-      → Taken text t header (row .part) i s r s′ r′
+      → Taken ed text t header (row .part) i s r s′ r′
   unfolding itemIn isLine lineIn addedBy itemAs musicIn
   taken-lyric-line e ready s′ r′ er small es =
       let words = between text (row .at) (row .end) in
@@ -205,9 +206,9 @@ module _ (text : List ℕ) (t : Tables) (header : Key) (i : ℕ) (s : List ℕ) 
         holds =
             λ l b h.
             let w = represented-lyric ready l h in
-            subst (λ (xs : List Item). Represents t s′ r′ [] (foldl (onItem header) l xs)) (sym o) (subst (λ (u : List ℕ). Represents t u r′ [] (onItem header l x)) (sym es) (subst (λ (u : Registers). Represents t m u [] (onItem header l x)) (sym er) (versed-represented header (eqb (row .a) 1) words l w)));
+            subst (λ (xs : List Item). Represents t s′ r′ [] (foldl (onItem ed header) l xs)) (sym o) (subst (λ (u : List ℕ). Represents t u r′ [] (onItem ed header l x)) (sym es) (subst (λ (u : Registers). Represents t m u [] (onItem ed header l x)) (sym er) (versed-represented ed header (eqb (row .a) 1) words l w)));
         lines =
-            λ l h. ap (λ (xs : List Item). reverse (foldl (onItem header) l xs .verses .lines)) o ∙ ap reverse (item-lines header l x)
+            λ l h. ap (λ (xs : List Item). reverse (foldl (onItem ed header) l xs .verses .lines)) o ∙ ap reverse (item-lines ed header l x)
             ∙ reverse-one (record { start = l .verses .start; verse = l .verses .verse; text = words }) (l .verses .lines)
             ∙ (λ j. reverse (l .verses .lines) ++ (record { start = sym (h .start-is) j; verse = sym (h .verse-is) j; text = item-words text q row is e j } ∷ []))
             ∙ ap (λ (ls : List Sung). reverse (l .verses .lines) ++ ls) (sym line);
@@ -222,24 +223,24 @@ module _ (text : List ℕ) (t : Tables) (header : Key) (i : ℕ) (s : List ℕ) 
     unfolding musicIn
     music-line-room ready line e = (rest-as (own-music (musicLine (row .unit) (row .a, row .b) (between text (row .at) (row .end))) is-music-line ∙ sym e) (ready .room), ready .waits)
 
-    pub taken-music-line : {s′ : List ℕ} {r′ : Registers} (line : List ℕ) → line ≡ between text (row .at) (row .end) → SimulatesItem t s r s′ r′ line (onLine (row .unit) (row .a, row .b) line) → Taken text t header (row .part) i s r s′ r′
+    pub taken-music-line : {s′ : List ℕ} {r′ : Registers} (line : List ℕ) → line ≡ between text (row .at) (row .end) → SimulatesItem t s r s′ r′ line (onLine ed (row .unit) (row .a, row .b) line) → Taken ed text t header (row .part) i s r s′ r′
     unfolding addedBy musicIn onItem
     taken-music-line {s′} {r′} line e k =
         taken-plain (musicLine (row .unit) (row .a, row .b) (between text (row .at) (row .end))) is-music-line n5 (λ l. refl) refl
-        (subst (λ (b : List ℕ). SimulatesItem t s r s′ r′ b (onLine (row .unit) (row .a, row .b) b)) e k)
+        (subst (λ (b : List ℕ). SimulatesItem t s r s′ r′ b (onLine ed (row .unit) (row .a, row .b) b)) e k)
 
 -- what the other kinds need
 pub plain-room : {text : List ℕ} {t : Tables} {p i : ℕ} {s : List ℕ} {r : Registers} → Ready text t p i s r → RoomForBytes t (r .counts) (length s) [] × RepresentedBetween t s r
 plain-room {text} {t} {p} {i} {s} ready = (rest-first [] (musicOf (ownAt text p s i)) (ready .room), ready .waits)
 
 -- THE LOOP over the items: those before i are taken, those from i on are as they were
-pub record Going (text : List ℕ) (t : Tables) (header : Key) (p n : ℕ) (s₀ s : List ℕ) (r : Registers) (i : ℕ) : Type 0 where
+pub record Going (ed : Edition) (text : List ℕ) (t : Tables) (header : Key) (p n : ℕ) (s₀ s : List ℕ) (r : Registers) (i : ℕ) : Type 0 where
   pub low : i ≤ n
   pub only : Only itemsFrom (t .end) s₀ s
   pub ahead : (j : ℕ) → i ≤ j → j < n → itemAt s j ≡ itemAt s₀ j
   pub behind : (j : ℕ) → j < i → itemIn text (itemAt s j) ≡ itemIn text (itemAt s₀ j)
-  pub lines : linesIn text s p i ≡ reverse (after header text s₀ p i .verses .lines)
-  pub represents : Represents t s r [] (after header text s₀ p i)
+  pub lines : linesIn text s p i ≡ reverse (after ed header text s₀ p i .verses .lines)
+  pub represents : Represents t s r [] (after ed header text s₀ p i)
   pub room : RoomForBytes t (r .counts) (length s) (musicOf (itemsOf p (drop i (itemsIn text s₀ n))))
 
 -- items of rows
@@ -252,14 +253,14 @@ items-as text s s₀ (suc n) h =
     ∙ sym (map-append (itemIn text) (rows decItem itemRowWidth s₀ itemsFrom n) (itemAt s₀ n ∷ []))
 
 -- the part after one item more
-after-more : (header : Key) (text s : List ℕ) (p i : ℕ) → after header text s p (i + 1) ≡ foldl (onItem header) (after header text s p i) (ownAt text p s i)
-after-more header text s p i =
-    ap (λ (xs : List (ℕ × Item)). foldl (onItem header) newLog (itemsOf p xs)) (items-more text s i)
-    ∙ ap (foldl (onItem header) newLog) (mine-append p (itemsIn text s i) (itemIn text (itemAt s i) ∷ []))
-    ∙ foldl-append (onItem header) newLog (itemsOf p (itemsIn text s i)) (ownAt text p s i)
+after-more : (ed : Edition) (header : Key) (text s : List ℕ) (p i : ℕ) → after ed header text s p (i + 1) ≡ foldl (onItem ed header) (after ed header text s p i) (ownAt text p s i)
+after-more ed header text s p i =
+    ap (λ (xs : List (ℕ × Item)). foldl (onItem ed header) newLog (itemsOf p xs)) (items-more text s i)
+    ∙ ap (foldl (onItem ed header) newLog) (mine-append p (itemsIn text s i) (itemIn text (itemAt s i) ∷ []))
+    ∙ foldl-append (onItem ed header) newLog (itemsOf p (itemsIn text s i)) (ownAt text p s i)
 
-module _ (text : List ℕ) (t : Tables) (header : Key) (p n : ℕ) (s₀ : List ℕ) (before : itemsFrom + itemRowWidth * n ≤ t .heads) where
-  pub going-start : RoomForBytes t (begun .counts) (length s₀) (musicOf (itemsOf p (itemsIn text s₀ n))) → (r : Registers) → r ≡ begun → Going text t header p n s₀ s₀ r 0
+module _ (ed : Edition) (text : List ℕ) (t : Tables) (header : Key) (p n : ℕ) (s₀ : List ℕ) (before : itemsFrom + itemRowWidth * n ≤ t .heads) where
+  pub going-start : RoomForBytes t (begun .counts) (length s₀) (musicOf (itemsOf p (itemsIn text s₀ n))) → (r : Registers) → r ≡ begun → Going ed text t header p n s₀ s₀ r 0
   unfolding linesIn newLog
   going-start room r e =
       let none = items-none text s₀ in
@@ -270,12 +271,12 @@ module _ (text : List ℕ) (t : Tables) (header : Key) (p n : ℕ) (s₀ : List 
         behind = λ j l. absurd (not-suc-le-zero l);
         lines =
             ap (λ (rs : List Row). map (lineIn text) (filter (isLine p) rs)) (rows-none decItem itemRowWidth s₀ itemsFrom)
-            ∙ sym (ap (λ (xs : List (ℕ × Item)). reverse (foldl (onItem header) newLog (itemsOf p xs) .verses .lines)) none);
+            ∙ sym (ap (λ (xs : List (ℕ × Item)). reverse (foldl (onItem ed header) newLog (itemsOf p xs) .verses .lines)) none);
         represents = rw (none, e) (begun-represented t s₀);
         room = rw e room;
       }
 
-  module _ (s : List ℕ) (r : Registers) (i : ℕ) (g : Going text t header p n s₀ s r i) (l : i < n) where
+  module _ (s : List ℕ) (r : Registers) (i : ℕ) (g : Going ed text t header p n s₀ s r i) (l : i < n) where
     same-own : ownAt text p s i ≡ ownAt text p s₀ i
     same-own = ap (λ (q : Row). itemsOf p (itemIn text q ∷ [])) (g .ahead i (omega arith) l)
 
@@ -294,11 +295,11 @@ module _ (text : List ℕ) (t : Tables) (header : Key) (p n : ℕ) (s₀ : List 
     going-ready =
         record {
           room = rest-first (musicOf (ownAt text p s i)) (musicOf (itemsOf p (drop (i + 1) (itemsIn text s₀ n)))) (rest-as music-next (g .room));
-          waits = record { state = after header text s₀ p i; between = between-items header (itemsOf p (itemsIn text s₀ i)); represents = g .represents };
+          waits = record { state = after ed header text s₀ p i; between = between-items ed header (itemsOf p (itemsIn text s₀ i)); represents = g .represents };
           before = omega (arith, before, l);
         }
 
-    module _ (s′ : List ℕ) (r′ : Registers) (k : Taken text t header p i s r s′ r′) where
+    module _ (s′ : List ℕ) (r′ : Registers) (k : Taken ed text t header p i s r s′ r′) where
       -- a row before the tables
       row-now : (j : ℕ) → j < n → itemAt s′ j ≡ itemAt (k .middle) j
       row-now j h = ap decItem (part-front s′ (k .middle) (t .heads) (rowFrom j) itemRowWidth (k .tables .front) (omega (arith, before, h)))
@@ -330,10 +331,10 @@ module _ (text : List ℕ) (t : Tables) (header : Key) (p n : ℕ) (s₀ : List 
           (λ e. let d = eqb-false j i e in let m : j < i = omega arith in ap (itemIn text) (row-before j m) ∙ g .behind j m)
 
       -- the part after this item
-      after-now : foldl (onItem header) (after header text s₀ p i) (ownAt text p s i) ≡ after header text s₀ p (i + 1)
-      after-now = ap (foldl (onItem header) (after header text s₀ p i)) same-own ∙ sym (after-more header text s₀ p i)
+      after-now : foldl (onItem ed header) (after ed header text s₀ p i) (ownAt text p s i) ≡ after ed header text s₀ p (i + 1)
+      after-now = ap (foldl (onItem ed header) (after ed header text s₀ p i)) same-own ∙ sym (after-more ed header text s₀ p i)
 
-      pub going-next : Going text t header p n s₀ s′ r′ (i + 1)
+      pub going-next : Going ed text t header p n s₀ s′ r′ (i + 1)
       going-next =
           record {
             low = omega arith;
@@ -343,19 +344,19 @@ module _ (text : List ℕ) (t : Tables) (header : Key) (p n : ℕ) (s₀ : List 
             lines =
                 lines-more text s′ p i
                 ∙ (λ j. (lines-front text s s′ p i (rowFrom i) same-front (omega arith) ∙ g .lines) j ++ lineOf text p (row-now i l j))
-                ∙ sym (k .lines (after header text s₀ p i) (g .represents))
+                ∙ sym (k .lines (after ed header text s₀ p i) (g .represents))
                 ∙ ap (λ (x : LogState). reverse (x .verses .lines)) after-now;
-            represents = subst (λ (x : LogState). Represents t s′ r′ [] x) after-now (k .holds (after header text s₀ p i) (between-items header (itemsOf p (itemsIn text s₀ i))) (g .represents));
+            represents = subst (λ (x : LogState). Represents t s′ r′ [] x) after-now (k .holds (after ed header text s₀ p i) (between-items ed header (itemsOf p (itemsIn text s₀ i))) (g .represents));
             room = rest-then (musicOf (ownAt text p s i)) (musicOf (itemsOf p (drop (i + 1) (itemsIn text s₀ n)))) (rest-as music-next (g .room)) (r′ .counts) (length s′) (now-only .same-length) (k .grows);
           }
 
-  pub going-end : (s : List ℕ) (r : Registers) (i : ℕ) → Going text t header p n s₀ s r i → n ≤ i → Built text t header p n s₀ s r
+  pub going-end : (s : List ℕ) (r : Registers) (i : ℕ) → Going ed text t header p n s₀ s r i → n ≤ i → Built ed text t header p n s₀ s r
   going-end s r i g h =
       let e : i ≡ n = omega (arith, h, g .low) in
       record {
-        represents = subst (λ (k : ℕ). Represents t s r [] (after header text s₀ p k)) e (g .represents);
+        represents = subst (λ (k : ℕ). Represents t s r [] (after ed header text s₀ p k)) e (g .represents);
         room = rest-first [] (musicOf (itemsOf p (drop i (itemsIn text s₀ n)))) (g .room);
         same-items = items-as text s s₀ n (λ j l. g .behind j (omega (arith, l, h)));
-        lines = subst (λ (k : ℕ). linesIn text s p k ≡ reverse (after header text s₀ p k .verses .lines)) e (g .lines);
+        lines = subst (λ (k : ℕ). linesIn text s p k ≡ reverse (after ed header text s₀ p k .verses .lines)) e (g .lines);
         only = g .only;
       }

@@ -8,6 +8,7 @@ use Rattle.laws.specs.Lists.{foldl}
 use Rattle.laws.specs.Bytes.{splice, le32}
 use Rattle.standard.specs.Keys.{Key}
 use Rattle.standard.specs.Lyrics.{nextVerse}
+use Rattle.editions.specs.declared.Edition.{Edition}
 use Rattle.reader.specs.Scan.{Item}
 use Rattle.reader.specs.Steps.{itemsOf}
 use Rattle.part_layout.specs.Log.{LogState, newLog}
@@ -82,23 +83,23 @@ pub record Ready (text : List ℕ) (t : Tables) (p i : ℕ) (s : List ℕ) (r : 
   pub before : rowFrom i + itemRowWidth ≤ t .heads
 
 -- IT WAS TAKEN: at most its own row changed, which is the same item still, and then the tables
-pub record Taken (text : List ℕ) (t : Tables) (header : Key) (p i : ℕ) (s : List ℕ) (r : Registers) (s′ : List ℕ) (r′ : Registers) : Type 0 where
+pub record Taken (ed : Edition) (text : List ℕ) (t : Tables) (header : Key) (p i : ℕ) (s : List ℕ) (r : Registers) (s′ : List ℕ) (r′ : Registers) : Type 0 where
   pub middle : List ℕ
   pub own-row : Only (rowFrom i) (rowFrom i + itemRowWidth) s middle
   pub tables : Only (t .heads) (t .end) middle s′
   pub same-item : itemIn text (itemAt middle i) ≡ itemIn text (itemAt s i)
   pub grows : GrowsBy (r .counts) (r′ .counts) (musicOf (ownAt text p s i))
-  pub holds : (l : LogState) → Between l → Represents t s r [] l → Represents t s′ r′ [] (foldl (onItem header) l (ownAt text p s i))
-  pub lines : (l : LogState) → Represents t s r [] l → reverse (foldl (onItem header) l (ownAt text p s i) .verses .lines) ≡ reverse (l .verses .lines) ++ lineOf text p (itemAt middle i)
+  pub holds : (l : LogState) → Between l → Represents t s r [] l → Represents t s′ r′ [] (foldl (onItem ed header) l (ownAt text p s i))
+  pub lines : (l : LogState) → Represents t s r [] l → reverse (foldl (onItem ed header) l (ownAt text p s i) .verses .lines) ≡ reverse (l .verses .lines) ++ lineOf text p (itemAt middle i)
 
 -- a part after those of the first n items that are its own
-abbrev pub after : Key → List ℕ → List ℕ → ℕ → ℕ → LogState
-after header text s p n = foldl (onItem header) newLog (itemsOf p (itemsIn text s n))
+abbrev pub after : Edition → Key → List ℕ → List ℕ → ℕ → ℕ → LogState
+after ed header text s p n = foldl (onItem ed header) newLog (itemsOf p (itemsIn text s n))
 
 -- ALL ITEMS were taken: the part is represented, the line table is the same, and its lyric lines have their verses and first notes
-pub record Built (text : List ℕ) (t : Tables) (header : Key) (p n : ℕ) (s s′ : List ℕ) (r : Registers) : Type 0 where
-  pub represents : Represents t s′ r [] (after header text s p n)
+pub record Built (ed : Edition) (text : List ℕ) (t : Tables) (header : Key) (p n : ℕ) (s s′ : List ℕ) (r : Registers) : Type 0 where
+  pub represents : Represents t s′ r [] (after ed header text s p n)
   pub room : RoomForBytes t (r .counts) (length s′) []
   pub same-items : itemsIn text s′ n ≡ itemsIn text s n
-  pub lines : linesIn text s′ p n ≡ reverse (after header text s p n .verses .lines)
+  pub lines : linesIn text s′ p n ≡ reverse (after ed header text s p n .verses .lines)
   pub only : Only itemsFrom (t .end) s s′

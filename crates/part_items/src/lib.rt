@@ -6,7 +6,9 @@ ghost use Prim.Native.Nat.{ℕ, _+_, _*_, _^_, _≤_, _<_};
 ghost use lib.ListN.{length};
 ghost use Rattle.standard.specs.Keys.{Key as StandardKey};
 ghost use Rattle.standard.specs.Lyrics.{nextVerse};
+ghost use Rattle.editions.specs.declared.Edition.{Edition};
 ghost use Rattle.reader.specs.Scan as scan;
+ghost use Rattle.reader.specs.Part.{firstKey};
 ghost use Rattle.reader.specs.Steps.{itemsOf};
 ghost use Rattle.field_keys.specs.Passed.{keyAs};
 ghost use Rattle.part_layout.specs.Ends.{onItem};
@@ -14,6 +16,7 @@ ghost use Rattle.capacity.specs.Music.{musicOf};
 ghost use Rattle.scan_table.specs.Rows.{itemAt, itemsIn, withLyric, RowIs, tableEnd};
 ghost use Rattle.part_invariant.specs.Lines.{RoomForBytes, RepresentedBetween, SimulatesItem};
 ghost use Rattle.part_items.specs.Items.{begun, keyedAs, versed, Ready, Taken, Built};
+use editions::Edition;
 use field_keys::Key;
 use part_accidentals::AbcPartParseState;
 use part_registers::Counts;
@@ -84,30 +87,37 @@ fn set_key(r: Registers, key: Key) -> Registers
     x
 }
 
-// The part is named for the first time: in the header it begins with C major, else with the header's key.
-fn on_voice_declared(r: Registers, in_header: bool, header: Key) -> Registers
-    ensures { λ x. ⌜ ((t : Tables) (s : List ℕ) → SimulatesItem t s r s x [] (λ l. onItem (keyAs header) l (scan.voiceDeclared in_header))) ⌝ }
+// The key of a part that is named for the first time: the header's, but for one that the header names, which in the first edition begins with C major.
+fn first_key(edition: Edition, in_header: bool, header: Key) -> Key
+    ensures { λ k. ⌜ keyAs k ≡ firstKey edition (keyAs header) in_header ⌝ }
 {
-    if in_header {
-        let plain = Key {
-            fifths: 128,
-            minor: false,
-        };
-        return set_key(r, plain);
+    let plain = Key {
+        fifths: 128,
+        minor: false,
+    };
+    match edition {
+        Edition::First => { if in_header { plain } else { header } }
+        Edition::Second => header,
     }
-    set_key(r, header)
+}
+
+// The part is named for the first time.
+fn on_voice_declared(edition: Edition, r: Registers, in_header: bool, header: Key) -> Registers
+    ensures { λ x. ⌜ ((t : Tables) (s : List ℕ) → SimulatesItem t s r s x [] (λ l. onItem edition (keyAs header) l (scan.voiceDeclared in_header))) ⌝ }
+{
+    set_key(r, first_key(edition, in_header, header))
 }
 
 // The part hears the header's key.
 fn on_header_key(r: Registers, header: Key) -> Registers
-    ensures { λ x. ⌜ ((t : Tables) (s : List ℕ) → SimulatesItem t s r s x [] (λ l. onItem (keyAs header) l scan.keyInHeader)) ⌝ }
+    ensures { λ x. ⌜ ((ed : Edition) (t : Tables) (s : List ℕ) → SimulatesItem t s r s x [] (λ l. onItem ed (keyAs header) l scan.keyInHeader)) ⌝ }
 {
     set_key(r, header)
 }
 
 // A V line: nothing is pending any more.
 fn on_reset(r: Registers) -> Registers
-    ensures { λ x. ⌜ ((t : Tables) (s : List ℕ) (header : StandardKey) → SimulatesItem t s r s x [] (λ l. onItem header l scan.reset)) ⌝ }
+    ensures { λ x. ⌜ ((ed : Edition) (t : Tables) (s : List ℕ) (header : StandardKey) → SimulatesItem t s r s x [] (λ l. onItem ed header l scan.reset)) ⌝ }
 {
     let none = Pending {
         tie: false,
@@ -122,7 +132,7 @@ fn on_reset(r: Registers) -> Registers
 // A K line of the body: it marks the open measure. Where there is none, the header's key is heard.
 fn on_key(store: &mut [u8], t: Tables, r: Registers, header: Key, key: Key) -> Registers
     requires { ⌜ RoomForBytes t (r .counts) (length (now store)) [] × RepresentedBetween t (now store) r ⌝ }
-    ensures { λ x. ⌜ SimulatesItem t (now (store .entry)) r (now (store .exit)) x [] (λ l. onItem (keyAs header) l (scan.keyChange (keyAs key))) ⌝ }
+    ensures { λ x. ⌜ ((ed : Edition) → SimulatesItem t (now (store .entry)) r (now (store .exit)) x [] (λ l. onItem ed (keyAs header) l (scan.keyChange (keyAs key)))) ⌝ }
 {
     let counts = r.counts;
     if counts.heads == 0 {
@@ -136,7 +146,7 @@ fn on_key(store: &mut [u8], t: Tables, r: Registers, header: Key, key: Key) -> R
 // An M line of the body, on the open measure, if there is one.
 fn on_meter(store: &mut [u8], t: Tables, r: Registers, top: u8, bottom: u8)
     requires { ⌜ RoomForBytes t (r .counts) (length (now store)) [] × RepresentedBetween t (now store) r ⌝ }
-    ensures { λ _. ⌜ ((header : StandardKey) → SimulatesItem t (now (store .entry)) r (now (store .exit)) r [] (λ l. onItem header l (scan.meterChange (top, bottom)))) ⌝ }
+    ensures { λ _. ⌜ ((ed : Edition) (header : StandardKey) → SimulatesItem t (now (store .entry)) r (now (store .exit)) r [] (λ l. onItem ed header l (scan.meterChange (top, bottom)))) ⌝ }
 {
     let counts = r.counts;
     if counts.heads == 0 {
@@ -175,6 +185,7 @@ fn on_lyric(store: &mut [u8], i: usize, r: Registers, placed: bool) -> Registers
 
 // An item of the part, by its kind.
 fn on_item(
+    edition: Edition,
     text: &[u8],
     store: &mut [u8],
     i: usize,
@@ -184,11 +195,11 @@ fn on_item(
     header: Key,
 ) -> Registers
     requires { ⌜ Ready (now text) t (row .part) i (now store) r × RowIs (now text) (itemAt (now store) i) row ⌝ }
-    ensures { λ x. ⌜ Taken (now (text .entry)) t (keyAs header) (row .part) i (now (store .entry)) r (now (store .exit)) x ⌝ }
+    ensures { λ x. ⌜ Taken edition (now (text .entry)) t (keyAs header) (row .part) i (now (store .entry)) r (now (store .exit)) x ⌝ }
 {
     let kind = row.kind;
     if kind == scan_table::VOICE_DECLARED {
-        return on_voice_declared(r, row.a == 1, header);
+        return on_voice_declared(edition, r, row.a == 1, header);
     }
     if kind == scan_table::RESET {
         return on_reset(r);
@@ -212,11 +223,12 @@ fn on_item(
     }
     let at = row.at;
     let end = row.end;
-    part_body::parse_body_line(&text[at..end], store, t, r, row.unit, row.a, row.b)
+    part_body::parse_body_line(edition, &text[at..end], store, t, r, row.unit, row.a, row.b)
 }
 
 // Item i, if it is one of the part's.
 fn take_item(
+    edition: Edition,
     text: &[u8],
     store: &mut [u8],
     i: usize,
@@ -226,17 +238,18 @@ fn take_item(
     header: Key,
 ) -> Registers
     requires { ⌜ Ready (now text) t part i (now store) r ⌝ }
-    ensures { λ x. ⌜ Taken (now (text .entry)) t (keyAs header) part i (now (store .entry)) r (now (store .exit)) x ⌝ }
+    ensures { λ x. ⌜ Taken edition (now (text .entry)) t (keyAs header) part i (now (store .entry)) r (now (store .exit)) x ⌝ }
 {
     let row = scan_table::get_item(text, store, i);
     if row.part != part {
         return r;
     }
-    on_item(text, store, i, row, t, r, header)
+    on_item(edition, text, store, i, row, t, r, header)
 }
 
 // The part's items among the first n, in order, into empty tables.
 pub fn build_items(
+    edition: Edition,
     text: &[u8],
     scratch: &mut [u8],
     n: usize,
@@ -245,12 +258,12 @@ pub fn build_items(
     header: Key,
 ) -> Registers
     requires { ⌜ (tableEnd n ≤ t .heads) × RoomForBytes t (begun .counts) (length (now scratch)) (musicOf (itemsOf part (itemsIn (now text) (now scratch) n))) ⌝ }
-    ensures { λ r. ⌜ Built (now (text .entry)) t (keyAs header) part n (now (scratch .entry)) (now (scratch .exit)) r ⌝ }
+    ensures { λ r. ⌜ Built edition (now (text .entry)) t (keyAs header) part n (now (scratch .entry)) (now (scratch .exit)) r ⌝ }
 {
     let mut r = begin_part();
     let mut i: usize = 0;
     while i < n {
-        r = take_item(text, scratch, i, part, t, r, header);
+        r = take_item(edition, text, scratch, i, part, t, r, header);
         i += 1;
     }
     r

@@ -9,6 +9,7 @@ use Rattle.laws.specs.Lists.{All, concat, isNil}
 use Rattle.laws.proofs.Bools.{by-test, and-no-right, cond-ap, both-true}
 use Rattle.laws.proofs.Lists.{map-append, map-map, concat-snoc}
 use Rattle.standard.specs.Keys.{Key}
+use Rattle.editions.specs.declared.Edition.{Edition}
 use Rattle.reader.specs.State
 use Rattle.reader.specs.State.{Note, Measure, PartState, isEmpty, voltaEnds, voltaAlone}
 use Rattle.reader.specs.Voltas
@@ -263,8 +264,8 @@ marked-bars header (b ∷ bs) =
 -- A FINISHED PART: its heads, its plain measures and its log are those of the same bars, the oldest first
 pub record Final (header : Key) (l : LogState) (p : PartState) : Type 0 where
   pub bars : List Bar
-  pub heads-are : map headOf bars ≡ Ends.finished header l .heads
-  pub measures-are : map finalOf bars ≡ Part.finished header p .measures
+  pub heads-are : map headOf bars ≡ Ends.finishedHeads header l
+  pub measures-are : map finalOf bars ≡ Part.finishedMeasures header p
   pub log-is : concat (map chunk bars) ≡ l .log
   pub voices-below : All Below bars
 
@@ -280,7 +281,7 @@ under P f (x ∷ xs) h = (h .0, under P f xs (h .1))
 
 -- the end of a state of both
 final-of : (header : Key) (s : BarState) → Inv s → Final header (laid s) (plain s)
-unfolding Ends.finished Part.finished closed
+unfolding Ends.finishedHeads Part.finishedMeasures closed
 final-of header s g =
     let ds = dropBars (s .bars) in
     let cs = back [] ds in

@@ -9,13 +9,14 @@ use lib.Seq.{take-at, drop-at}
 use Rattle.laws.specs.Lists.{foldl, All, concat, sum}
 use Rattle.laws.proofs.Lists.{All-append}
 use Rattle.standard.specs.Keys.{Key}
+use Rattle.editions.specs.declared.Edition.{Edition}
 use Rattle.reader.specs.Scan.{Item}
 use Rattle.reader.specs.State.{Note, PartState, newPart}
 use Rattle.reader.specs.Part
 use Rattle.reader.specs.Records.{tagged}
-use Rattle.part_layout.specs.Log.{Head, LogState, newLog}
+use Rattle.part_layout.specs.Log.{Head, LogState, newLog, notesIn}
 use Rattle.part_layout.specs.Ends
-use Rattle.part_layout.specs.Sections.{notesIn, ofVoice}
+use Rattle.part_layout.specs.Sections.{ofVoice}
 use Rattle.part_layout.specs.Lines.{four, Counted, Fits}
 use Rattle.part_layout.proofs.Back.{back, length-back, All-back, map-back}
 use Rattle.part_layout.proofs.Voices.{voice}
@@ -84,23 +85,23 @@ sim-measures l p s =
     ∙ ap (λ (x : PartState). length (x .measures)) (s .plain-is)
 
 -- EVERY PART
-pub items-fit : (header : Key) (items : List Item) → Fits (foldl (Ends.onItem header) newLog items .heads) (foldl (Ends.onItem header) newLog items .log)
-items-fit header items = sim-fits _ _ (sim-items header items)
+pub items-fit : (ed : Edition) (header : Key) (items : List Item) → Fits (foldl (Ends.onItem ed header) newLog items .heads) (foldl (Ends.onItem ed header) newLog items .log)
+items-fit ed header items = sim-fits _ _ (sim-items ed header items)
 
 -- once it is ended
-pub build-fits : (header : Key) (items : List Item) → Fits (Ends.build header items .heads) (Ends.build header items .log)
+pub build-fits : (ed : Edition) (header : Key) (items : List Item) → Fits (Ends.build ed header items .heads) (Ends.build ed header items .log)
 unfolding Ends.build Ends.finished
-build-fits header items =
-    let l = foldl (Ends.onItem header) newLog items in
-    let p = foldl (Part.onItem header) newPart items in
-    let f = sim-final header l p (sim-items header items) in
-    fits-as (f .bars) (Ends.finished header l .heads) (l .log) (f .voices-below) (f .heads-are) (f .log-is)
+build-fits ed header items =
+    let l = foldl (Ends.onItem ed header) newLog items in
+    let p = foldl (Part.onItem ed header) newPart items in
+    let f = sim-final header l p (sim-items ed header items) in
+    fits-as (f .bars) (Ends.finishedHeads header l) (l .log) (f .voices-below) (f .heads-are) (f .log-is)
 
 -- and as many heads as measures
-pub build-measures : (header : Key) (items : List Item) → length (Ends.build header items .heads) ≡ length (Part.build header items .measures)
-unfolding Ends.build Part.build
-build-measures header items =
-    let l = foldl (Ends.onItem header) newLog items in
-    let p = foldl (Part.onItem header) newPart items in
-    let f = sim-final header l p (sim-items header items) in
+pub build-measures : (ed : Edition) (header : Key) (items : List Item) → length (Ends.build ed header items .heads) ≡ length (Part.build ed header items .measures)
+unfolding Ends.build Part.build Ends.finished Part.finished
+build-measures ed header items =
+    let l = foldl (Ends.onItem ed header) newLog items in
+    let p = foldl (Part.onItem ed header) newPart items in
+    let f = sim-final header l p (sim-items ed header items) in
     ap length (sym (f .heads-are)) ∙ length-map (f .bars) headOf ∙ sym (length-map (f .bars) finalOf) ∙ ap length (f .measures-are)

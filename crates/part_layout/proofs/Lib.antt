@@ -6,5 +6,6 @@ pub mod Measures
 pub mod Reading
 pub mod Closing
 pub mod Same
+pub mod Sounded
 pub mod Counts
 pub mod Lines

@@ -9,15 +9,15 @@ use Rattle.laws.specs.Lists.{foldl, sum}
 use Rattle.laws.proofs.Lists.{foldl-holds}
 use Rattle.standard.specs.Keys.{Key, plainKey}
 use Rattle.standard.specs.Fields.{Meter}
+use Rattle.editions.specs.declared.Edition.{Edition}
 use Rattle.reader.specs.Token.{Token}
 use Rattle.reader.specs.Scan.{Item}
 use Rattle.reader.specs.State.{Note, PartState, newPart, voiceIn, voiceNow}
 use Rattle.reader.specs.Part
 use Rattle.reader.proofs.LineLaws.{Ready, ready-token, ready-begins, Kept, kept-item, kept-after}
 use Rattle.part_layout.specs.Log
-use Rattle.part_layout.specs.Log.{Head, LogState, newLog, lastPlace}
+use Rattle.part_layout.specs.Log.{Head, LogState, newLog, lastPlace, notesIn}
 use Rattle.part_layout.specs.Ends
-use Rattle.part_layout.specs.Sections.{notesIn}
 use Rattle.part_layout.specs.Lines.{Place, Standing, Between}
 use Rattle.part_layout.proofs.Back.{length-back, getD-four}
 use Rattle.part_layout.proofs.Voices.{voice, lastOf, lastOf-le, lastOf-open, lastOf-voice, lastOf-none, none-lastOf}
@@ -86,21 +86,21 @@ pub record InLine (l : LogState) : Type 0 where
   pub ready : Ready part
 
 -- so a part begins
-kept-new : KeptBetween newLog
-kept-new = record { part = newPart; sim = sim-items plainKey []; kept = kept-after plainKey [] }
+kept-new : Edition → KeptBetween newLog
+kept-new ed = record { part = newPart; sim = sim-items ed plainKey []; kept = kept-after ed plainKey [] }
 
 -- each item keeps it
-kept-by-item : (header : Key) (l : LogState) (i : Item) → KeptBetween l → KeptBetween (Ends.onItem header l i)
-kept-by-item header l i b =
+kept-by-item : (ed : Edition) (header : Key) (l : LogState) (i : Item) → KeptBetween l → KeptBetween (Ends.onItem ed header l i)
+kept-by-item ed header l i b =
     record {
-      part = Part.onItem header (b .part) i;
-      sim = sim-step Inv Inv (λ x. Ends.onItem header x i) (λ x. Part.onItem header x i) (λ s k. sim-item header s i k) l (b .part) (b .sim);
-      kept = kept-item header (b .part) i (b .kept);
+      part = Part.onItem ed header (b .part) i;
+      sim = sim-step Inv Inv (λ x. Ends.onItem ed header x i) (λ x. Part.onItem ed header x i) (λ s k. sim-item ed header s i k) l (b .part) (b .sim);
+      kept = kept-item ed header (b .part) i (b .kept);
     }
 
 -- so any items
 kept-between : (l : LogState) → Between l → KeptBetween l
-kept-between l b = subst KeptBetween (b .made) (foldl-holds KeptBetween (Ends.onItem (b .header)) (kept-by-item (b .header)) newLog (b .items) kept-new)
+kept-between l b = subst KeptBetween (b .made) (foldl-holds KeptBetween (Ends.onItem (b .edition) (b .header)) (kept-by-item (b .edition) (b .header)) newLog (b .items) (kept-new (b .edition)))
 
 -- a line begins
 pub in-line-begins : (u : ℕ) (t : Meter) (l : LogState) → Between l → InLine (Log.lineBegins u t l)
@@ -145,8 +145,8 @@ unfolding lastPlace
 last-voice l b = let s = standing l b in s .places (l .line .overlay) (s .overlay-4) .of-voice
 
 -- AFTER ANY ITEMS a part is between lines
-pub between-items : (header : Key) (items : List Item) → Between (foldl (Ends.onItem header) newLog items)
-between-items header items = record { header = header; items = items; made = refl }
+pub between-items : (ed : Edition) (header : Key) (items : List Item) → Between (foldl (Ends.onItem ed header) newLog items)
+between-items ed header items = record { edition = ed; header = header; items = items; made = refl }
 
 -- AFTER ANY TOKENS of a line that began so it is in a line
 pub in-line-tokens : (u : ℕ) (t : Meter) (ts : List Token) (l : LogState) → Between l → InLine (foldl Log.onToken (Log.lineBegins u t l) ts)

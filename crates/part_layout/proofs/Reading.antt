@@ -11,6 +11,7 @@ use Rattle.standard.specs.Fields.{Meter}
 use Rattle.standard.specs.Notes.{nothingPending, pendingAfter, slurOpens, graceOpens, graceCloses, nextVoice, Behind}
 use Rattle.standard.specs.Pitches.{Written}
 use Rattle.standard.specs.Lyrics.{nextVerse}
+use Rattle.editions.specs.declared.Edition.{Edition}
 use Rattle.reader.specs.Lengths.{Length, valueOf}
 use Rattle.reader.specs.Pitches.{soundsOf, scopeAfterAll}
 use Rattle.reader.specs.Token.{Token, space, overlay, quoted, broken, tuplet, slur, graceOpen, graceClose, decoration, barline, volta, unit, meter, key, field, chord, rest, note, nothing, skipped, refused}
@@ -87,11 +88,11 @@ pub sim-between : (l : LogState) (p : PartState) → Sim Reading l p → Sim Inv
 sim-between l p s = record { state = s .state; holds = s .holds .good; laid-is = s .laid-is; plain-is = s .plain-is }
 
 -- a music line
-sim-line : (u : ℕ) (t : Meter) (x : List ℕ) (s : BarState) → Inv s → Sim Inv (Log.onLine u t x (laid s)) (Part.onLine u t x (plain s))
+sim-line : (ed : Edition) (u : ℕ) (t : Meter) (x : List ℕ) (s : BarState) → Inv s → Sim Inv (Log.onLine ed u t x (laid s)) (Part.onLine ed u t x (plain s))
 unfolding Log.onLine Part.onLine
-sim-line u t x s g =
-    sim-between (Log.onLine u t x (laid s)) (Part.onLine u t x (plain s))
-    (sim-tokens u t (tokens 0 x) (laid s) (plain s) (record { state = s; holds = g; laid-is = refl; plain-is = refl }))
+sim-line ed u t x s g =
+    sim-between (Log.onLine ed u t x (laid s)) (Part.onLine ed u t x (plain s))
+    (sim-tokens u t (tokens ed 0 x) (laid s) (plain s) (record { state = s; holds = g; laid-is = refl; plain-is = refl }))
 
 -- a body K line, where a measure is open
 key-some : (header k : Key) (hs : List Head) (h : Head) (l : LogState) → Ends.onKey header k (hs ++ (h ∷ [])) l ≡ Log.onOpen (Log.withKeyMark k) (Log.hears k l)
@@ -109,14 +110,14 @@ key-open header k s (b ∷ bs) g =
     (sim-open (barMark k) (Log.withKeyMark k) (State.withKeyMark k) (λ b. refl) (λ b. refl) (λ b. refl) (setScopes noScopes (setKey k (setBars (b ∷ bs) s))) g)
 
 -- WHAT AN ITEM DOES
-pub sim-item : (header : Key) (s : BarState) (i : Item) → Inv s → Sim Inv (Ends.onItem header (laid s) i) (Part.onItem header (plain s) i)
+pub sim-item : (ed : Edition) (header : Key) (s : BarState) (i : Item) → Inv s → Sim Inv (Ends.onItem ed header (laid s) i) (Part.onItem ed header (plain s) i)
 unfolding Ends.onItem Part.onItem Ends.onLyric Part.onLyric
-sim-item header s (voiceDeclared inHeader) g = record { state = setKey (firstKey header inHeader) s; holds = g; laid-is = refl; plain-is = refl }
-sim-item header s reset g = record { state = setPending nothingPending s; holds = g; laid-is = refl; plain-is = refl }
-sim-item header s keyInHeader g = record { state = setKey header s; holds = g; laid-is = refl; plain-is = refl }
-sim-item header s (keyChange k) g = key-open header k s (s .bars) g
-sim-item header s (meterChange t) g = sim-open (barMeter t) (Log.withMeter t) (State.withMeter t) (λ b. refl) (λ b. refl) (λ b. refl) s g
-sim-item header s (lyricLine placed t) g =
+sim-item ed header s (voiceDeclared inHeader) g = record { state = setKey (firstKey ed header inHeader) s; holds = g; laid-is = refl; plain-is = refl }
+sim-item ed header s reset g = record { state = setPending nothingPending s; holds = g; laid-is = refl; plain-is = refl }
+sim-item ed header s keyInHeader g = record { state = setKey header s; holds = g; laid-is = refl; plain-is = refl }
+sim-item ed header s (keyChange k) g = key-open header k s (s .bars) g
+sim-item ed header s (meterChange t) g = sim-open (barMeter t) (Log.withMeter t) (State.withMeter t) (λ b. refl) (λ b. refl) (λ b. refl) s g
+sim-item ed header s (lyricLine placed t) g =
     let v = s .verses in
     record {
       state = setVerses (record { sounded = v .sounded; start = v .start; verse = cond placed (nextVerse (v .verse)) (v .verse); lines = record { start = v .start; verse = v .verse; text = t } ∷ v .lines }) s;
@@ -124,13 +125,13 @@ sim-item header s (lyricLine placed t) g =
       laid-is = refl;
       plain-is = refl;
     }
-sim-item header s (musicLine u t l) g = sim-line u t l s g
+sim-item ed header s (musicLine u t l) g = sim-line ed u t l s g
 
 -- A PART AFTER ANY ITEMS
-pub sim-items : (header : Key) (items : List Item) → Sim Inv (foldl (Ends.onItem header) newLog items) (foldl (Part.onItem header) newPart items)
+pub sim-items : (ed : Edition) (header : Key) (items : List Item) → Sim Inv (foldl (Ends.onItem ed header) newLog items) (foldl (Part.onItem ed header) newPart items)
 unfolding newLog newPart newLine
-sim-items header items =
-    sim-fold Inv (Ends.onItem header) (Part.onItem header) (sim-item header) newLog newPart items
+sim-items ed header items =
+    sim-fold Inv (Ends.onItem ed header) (Part.onItem ed header) (sim-item ed header) newLog newPart items
     (record {
       state =
           record {

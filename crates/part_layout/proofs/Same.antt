@@ -8,23 +8,25 @@ use lib.Dec.{eqb}
 use lib.ListN.{length, getD, replicate, length-map}
 use lib.Seq.{take-at, drop-at}
 use borrow.Author.Tests.{eqb-true}
-use Rattle.laws.specs.Lists.{foldl, All, concat}
+use Rattle.laws.specs.Lists.{foldl, All, concat, filter}
 use Rattle.laws.specs.Bytes.{le32}
 use Rattle.laws.proofs.Bools.{by-test}
 use Rattle.laws.proofs.Lists.{map-append, map-map, map-agree, filter-snoc-yes, filter-snoc-no}
 use Rattle.standard.specs.Keys.{Key}
+use Rattle.standard.specs.Notes.{isSounded}
+use Rattle.editions.specs.declared.Edition.{Edition}
 use Rattle.reader.specs.Scan.{Item}
 use Rattle.reader.specs.State.{Note, PartState, newPart}
-use Rattle.reader.specs.Lyrics.{Syllable, sungBy}
+use Rattle.reader.specs.Lyrics.{Syllable, sungBy, sungIn}
 use Rattle.reader.specs.Part
-use Rattle.reader.specs.Part.{inOrder}
+use Rattle.reader.specs.Part.{inOrder, soundedIn}
 use Rattle.reader.specs.Codes.{barlineCode, voltaCode}
 use Rattle.reader.specs.Records
-use Rattle.reader.specs.Records.{keyMarkBytes, passBits, noteCounts, measureBytes, noteBytes, pitchBytes, lyricBytes, lyricsOf, section, tagged, allNotes}
-use Rattle.part_layout.specs.Log.{LogState, newLog}
+use Rattle.reader.specs.Records.{keyMarkBytes, passBits, noteCounts, measureBytes, noteBytes, pitchBytes, lyricBytes, lyricsOf, section, tagged, allNotes, isSung}
+use Rattle.part_layout.specs.Log.{LogState, newLog, notesIn}
 use Rattle.part_layout.specs.Ends
 use Rattle.part_layout.specs.Sections
-use Rattle.part_layout.specs.Sections.{headBytes, notesIn, ofVoice}
+use Rattle.part_layout.specs.Sections.{headBytes, ofVoice}
 use Rattle.part_layout.proofs.Back.{back, length-back, reverse-back, length-reverse}
 use Rattle.part_layout.proofs.Voices.{voice}
 use Rattle.part_layout.proofs.Bars.{Bar, headOf, Below}
@@ -106,19 +108,72 @@ notes-same (b ∷ bs) h =
     (λ i. Sections.byVoice (take-at (chunk b) r n e i) ++ Sections.inOrder (map headOf bs) (drop-at (chunk b) r n e i))
     ∙ (λ i. notes-by-voice b i ++ notes-same bs (h .1) i)
 
+-- THE NOTES THAT TAKE A SYLLABLE
+-- of a measure's notes those of voice 0 alone
+takers-voice : (n : ℕ) (xs : List (ℕ × Note)) → Ends.takers n xs ≡ Ends.takers n (ofVoice 0 xs)
+unfolding Ends.takers ofVoice isSung
+takers-voice n [] = refl
+takers-voice n (x ∷ xs) =
+    by-test (eqb (x .0) 0)
+    (λ e. rw (e, filter)
+    (by-test (isSounded (x .1 .kind))
+    (λ k. by-test (x .1 .flags .grace) (λ g. rw (e, k, g, Ends.takers) (takers-voice (suc n) xs)) (λ g. rw (e, k, g, Ends.takers) (ap (λ (l : List ℕ). n ∷ l) (takers-voice (suc n) xs))))
+    (λ k. rw (e, k, Ends.takers) (takers-voice n xs))))
+    (λ e. rw (e, filter, Ends.takers) (takers-voice n xs))
+
+sung-voice : (xs : List (ℕ × Note)) → Ends.sungNotes xs ≡ Ends.sungNotes (ofVoice 0 xs)
+unfolding Ends.sungNotes ofVoice isSung
+sung-voice [] = refl
+sung-voice (x ∷ xs) =
+    by-test (eqb (x .0) 0)
+    (λ e. rw (e, filter) (by-test (isSounded (x .1 .kind)) (λ k. rw (e, k, Ends.sungNotes) (ap suc (sung-voice xs))) (λ k. rw (e, k, Ends.sungNotes) (sung-voice xs))))
+    (λ e. rw (e, filter, Ends.sungNotes) (sung-voice xs))
+
+-- and of those as of a plain voice
+takers-plain : (n : ℕ) (xs : List Note) → Ends.takers n (tagged 0 xs) ≡ Part.takers n xs
+unfolding Ends.takers Part.takers tagged isSung
+takers-plain n [] = refl
+takers-plain n (x ∷ xs) =
+    by-test (isSounded (x .kind))
+    (λ k. by-test (x .flags .grace) (λ g. rw (k, g, Ends.takers, Part.takers) (takers-plain (suc n) xs)) (λ g. rw (k, g, Ends.takers, Part.takers) (ap (λ (l : List ℕ). n ∷ l) (takers-plain (suc n) xs))))
+    (λ k. rw (k, Ends.takers, Part.takers) (takers-plain n xs))
+
+sung-plain : (xs : List Note) → Ends.sungNotes (tagged 0 xs) ≡ soundedIn xs
+unfolding Ends.sungNotes soundedIn tagged isSung
+sung-plain [] = refl
+sung-plain (x ∷ xs) = by-test (isSounded (x .kind)) (λ k. rw (k, Ends.sungNotes, soundedIn) (ap suc (sung-plain xs))) (λ k. rw (k, Ends.sungNotes, soundedIn) (sung-plain xs))
+
+-- measure by measure
+takers-same : (n : ℕ) (bars : List Bar) → All Below bars → Ends.takersIn n (map headOf bars) (concat (map chunk bars)) ≡ Part.takersIn n (map finalOf bars)
+unfolding Ends.takersIn Part.takersIn inOrder
+takers-same n [] h = refl
+takers-same n (b ∷ bs) h =
+    let r = concat (map chunk bs) in
+    let k = notesIn (headOf b) in
+    let e : length (chunk b) ≡ k = count-chunk b (h .0) in
+    let v = reverse (voice 0 (b .notes)) in
+    let o : ofVoice 0 (chunk b) ≡ tagged 0 v = voice-order 0 (b .notes) ∙ ap (tagged 0) (sym (reverse-back (voice 0 (b .notes)))) in
+    let t : Ends.takers n (chunk b) ≡ Part.takers n v = takers-voice n (chunk b) ∙ ap (Ends.takers n) o ∙ takers-plain n v in
+    let c : Ends.sungNotes (chunk b) ≡ soundedIn v = sung-voice (chunk b) ∙ ap Ends.sungNotes o ∙ sung-plain v in
+    (λ i. Ends.takers n (take-at (chunk b) r k e i) ∷ Ends.takersIn (n + Ends.sungNotes (take-at (chunk b) r k e i)) (map headOf bs) (drop-at (chunk b) r k e i))
+    ∙ (λ i. t i ∷ Ends.takersIn (n + c i) (map headOf bs) r) ∙ ap (λ (l : List (List ℕ)). Part.takers n v ∷ l) (takers-same (n + soundedIn v) bs (h .1))
+
 -- THE SECTIONS
 -- of a state of both
-final-sections : (header : Key) (l : LogState) (p : PartState) → l .verses ≡ p .verses → Final header l p
-    → Sections.sections (Ends.finished header l) ≡ Records.sections (Part.finished header p)
+final-sections : (ed : Edition) (header : Key) (l : LogState) (p : PartState) → l .verses ≡ p .verses → Final header l p
+    → Sections.sections (Ends.finished ed header l) ≡ Records.sections (Part.finished ed header p)
 unfolding Sections.sections Records.sections Sections.notesOf Records.notesOf Sections.pitchesOf Records.pitchesOf Sections.lyrics Records.lyrics Sections.lyricText Records.lyricText Ends.finished Part.finished
-final-sections header l p v f =
-    let m : section headBytes (Ends.finished header l .heads) ≡ section measureBytes (Part.finished header p .measures) =
+final-sections ed header l p v f =
+    let m : section headBytes (Ends.finishedHeads header l) ≡ section measureBytes (Part.finishedMeasures header p) =
     ap (section headBytes) (sym (f .heads-are)) ∙ section-same headBytes measureBytes headOf finalOf bytes-same (f .bars) ∙ ap (section measureBytes) (f .measures-are)
     in
-    let n : Sections.inOrder (Ends.finished header l .heads) (l .log) ≡ allNotes (Part.finished header p .measures) =
+    let n : Sections.inOrder (Ends.finishedHeads header l) (l .log) ≡ allNotes (Part.finishedMeasures header p) =
     (λ i. Sections.inOrder (sym (f .heads-are) i) (sym (f .log-is) i)) ∙ notes-same (f .bars) (f .voices-below) ∙ ap allNotes (f .measures-are)
     in
-    let w : Ends.finished header l .words ≡ Part.finished header p .words = λ i. sungBy (reverse (v i .lines)) (replicate (v i .sounded) []) in
+    let t : Ends.takersIn 0 (Ends.finishedHeads header l) (l .log) ≡ Part.takersIn 0 (Part.finishedMeasures header p) =
+    (λ i. Ends.takersIn 0 (sym (f .heads-are) i) (sym (f .log-is) i)) ∙ takers-same 0 (f .bars) (f .voices-below) ∙ ap (Part.takersIn 0) (f .measures-are)
+    in
+    let w : Ends.finished ed header l .words ≡ Part.finished ed header p .words = λ i. sungIn ed (t i) (reverse (v i .lines)) (replicate (v i .sounded) []) in
     λ i. m i
     ++ section (λ (x : ℕ × Note). noteBytes (x .1)) (n i)
     ++ section pitchBytes (concat (map (λ (x : ℕ × Note). x .1 .pitches) (n i)))
@@ -126,10 +181,10 @@ final-sections header l p v f =
     ++ section (λ (c : ℕ). c ∷ []) (concat (map (λ (x : ℕ × Syllable). x .1 .text) (lyricsOf 0 (n i) (w i))))
 
 -- EVERY PART, LAID OUT OR PLAIN, HAS THE SAME SECTIONS
-pub same-sections : (header : Key) (items : List Item) → Sections.sections (Ends.build header items) ≡ Records.sections (Part.build header items)
+pub same-sections : (ed : Edition) (header : Key) (items : List Item) → Sections.sections (Ends.build ed header items) ≡ Records.sections (Part.build ed header items)
 unfolding Ends.build Part.build
-same-sections header items =
-    let s = sim-items header items in
-    let l = foldl (Ends.onItem header) newLog items in
-    let p = foldl (Part.onItem header) newPart items in
-    final-sections header l p (ap (λ (x : LogState). x .verses) (sym (s .laid-is)) ∙ ap (λ (x : PartState). x .verses) (s .plain-is)) (sim-final header l p s)
+same-sections ed header items =
+    let s = sim-items ed header items in
+    let l = foldl (Ends.onItem ed header) newLog items in
+    let p = foldl (Part.onItem ed header) newPart items in
+    final-sections ed header l p (ap (λ (x : LogState). x .verses) (sym (s .laid-is)) ∙ ap (λ (x : PartState). x .verses) (s .plain-is)) (sim-final header l p s)

@@ -5,11 +5,12 @@ use mathlib.Core.List.{List, [], _∷_, _++_}
 use lib.ListN.{length, getD, take, drop}
 use Rattle.laws.specs.Lists.{foldl, All, sum}
 use Rattle.standard.specs.Keys.{Key}
+use Rattle.editions.specs.declared.Edition.{Edition}
 use Rattle.reader.specs.Scan.{Item}
 use Rattle.reader.specs.State.{Note}
-use Rattle.part_layout.specs.Log.{Head, LogState, newLog, lastPlace}
+use Rattle.part_layout.specs.Log.{Head, LogState, newLog, lastPlace, notesIn}
 use Rattle.part_layout.specs.Ends.{onItem}
-use Rattle.part_layout.specs.Sections.{notesIn, ofVoice}
+use Rattle.part_layout.specs.Sections.{ofVoice}
 
 -- one for each overlay voice
 abbrev pub four {ℓ} : {A : Type ℓ} → (ℕ → A) → List A
@@ -50,6 +51,7 @@ pub record Standing (l : LogState) : Type 0 where
 
 -- BETWEEN LINES: the part is one that items make
 pub record Between (l : LogState) : Type 0 where
+  pub edition : Edition
   pub header : Key
   pub items : List Item
-  pub made : foldl (onItem header) newLog items ≡ l
+  pub made : foldl (onItem edition header) newLog items ≡ l

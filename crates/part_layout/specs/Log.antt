@@ -7,13 +7,14 @@ use mathlib.Core.Option.{Option, none, some}
 use mathlib.Core.List.{List, [], _∷_, _++_}
 use lib.Dec.{eqb}
 use lib.ListN.{length, getD}
-use Rattle.laws.specs.Lists.{foldl, all, alterAt}
+use Rattle.laws.specs.Lists.{foldl, all, alterAt, sum}
 use Rattle.standard.specs.Pitches.{Written}
 use Rattle.standard.specs.Keys.{Key, plainKey}
 use Rattle.standard.specs.Bars.{Barline, normal, repeatStart, repeatEnd, repeatBoth, double, final}
 use Rattle.standard.specs.Notes
 use Rattle.standard.specs.Notes.{Behind, Pending, nothingPending, pendingAfter, slurOpens, graceOpens, graceCloses, nextVoice}
 use Rattle.standard.specs.Fields.{Meter}
+use Rattle.editions.specs.declared.Edition.{Edition}
 use Rattle.reader.specs.Lengths.{Length, valueOf}
 use Rattle.reader.specs.Pitches.{Scope, soundsOf, scopeAfterAll}
 use Rattle.reader.specs.Token.{Token, space, overlay, quoted, broken, tuplet, slur, graceOpen, graceClose, decoration, barline, volta, unit, meter, key, field, chord, rest, note, nothing, skipped, refused}
@@ -21,7 +22,7 @@ use Rattle.reader.specs.Barlines.{leftOf}
 use Rattle.reader.specs.Tokens.{tokens}
 use Rattle.reader.specs.Scan.{Item, voiceDeclared, reset, keyInHeader, keyChange, meterChange, lyricLine, musicLine}
 use Rattle.reader.specs.State.{Note, Volta, noVolta, voltaBegins, Half, Line, Verses, withBeam, withRun, withOverlay, withHalf, withTuplet, withUnit, withTime, noScopes, newLine}
-use Rattle.reader.specs.Part.{brokenNote, afterHalf, canBeam, runAfter, beamedAgain, grouped, oneFewer, countedIn, restNote, soundNote, firstKey}
+use Rattle.reader.specs.Part.{brokenNote, afterHalf, canBeam, runAfter, beamedAgain, inMeter, grouped, oneFewer, countedIn, restNote, soundNote, firstKey}
 
 -- a measure without its notes: how many each of its four voices has
 pub record Head : Type 0 where
@@ -44,6 +45,10 @@ pub record LogState : Type 0 where
   pub pending : Pending
   pub verses : Verses
   pub line : Line
+
+-- how many notes a measure has
+unfoldable pub notesIn : Head → ℕ
+notesIn m = sum (λ n. n) (m .counts)
 
 -- CHANGING ONE THING
 abbrev pub withCounts : List ℕ → Head → Head
@@ -220,7 +225,7 @@ onToken s space = setLine (withRun 0 (s .line)) s
 onToken s overlay = setLine (withOverlay (nextVoice (s .line .overlay)) (s .line)) s
 onToken s quoted = s
 onToken s (broken up n) = onBroken up n (lastPlace s) s
-onToken s (tuplet t) = setLine (withTuplet (some (record { tuplet = t; remaining = t .count })) (s .line)) s
+onToken s (tuplet t) = setLine (withTuplet (some (record { tuplet = inMeter (s .line .meter) t; remaining = t .count })) (s .line)) s
 onToken s slur = setPending (slurOpens (s .pending)) s
 onToken s graceOpen = setPending (graceOpens (s .pending)) s
 onToken s graceClose = setPending (graceCloses (s .pending)) s
@@ -248,5 +253,5 @@ lineBegins u t s =
     setVerses (record { sounded = s .verses .sounded; start = s .verses .sounded; verse = 1; lines = s .verses .lines })
     (setLine (newLine u t) (setHeads (opened t (s .heads)) s))
 
-unfoldable pub onLine : ℕ → Meter → List ℕ → LogState → LogState
-onLine u t l s = foldl onToken (lineBegins u t s) (tokens 0 l)
+unfoldable pub onLine : Edition → ℕ → Meter → List ℕ → LogState → LogState
+onLine ed u t l s = foldl onToken (lineBegins u t s) (tokens ed 0 l)

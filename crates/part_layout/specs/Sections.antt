@@ -4,14 +4,14 @@ use mathlib.Core.Bool.{Bool, true, false}
 use mathlib.Core.List.{List, [], _∷_, _++_, map}
 use lib.Dec.{eqb}
 use lib.ListN.{take, drop, getD}
-use Rattle.laws.specs.Lists.{concat, filter, sum}
+use Rattle.laws.specs.Lists.{concat, filter}
 use Rattle.laws.specs.Bytes.{le32}
 use Rattle.standard.specs.Pitches.{Pitch}
 use Rattle.reader.specs.State.{Note}
 use Rattle.reader.specs.Lyrics.{Syllable}
 use Rattle.reader.specs.Codes.{barlineCode, voltaCode}
 use Rattle.reader.specs.Records.{keyMarkBytes, passBits, noteBytes, pitchBytes, lyricBytes, lyricsOf, section}
-use Rattle.part_layout.specs.Log.{Head}
+use Rattle.part_layout.specs.Log.{Head, notesIn}
 use Rattle.part_layout.specs.Ends.{Laid}
 
 -- MEASURE: measureWidth bytes, where its counts are four
@@ -21,10 +21,6 @@ headBytes m =
     ++ (barlineCode (m .left) ∷ barlineCode (m .right) ∷ m .meter .0 ∷ m .meter .1 ∷ [])
     ++ keyMarkBytes (m .key)
     ++ (voltaCode (m .volta) ∷ getD (m .passes) 0 0 ∷ le32 (passBits (m .passes)))
-
--- how many notes a measure has
-unfoldable pub notesIn : Head → ℕ
-notesIn m = sum (λ n. n) (m .counts)
 
 -- the notes of one voice
 unfoldable pub ofVoice : ℕ → List (ℕ × Note) → List (ℕ × Note)

@@ -1,12 +1,12 @@
 -- THE HEAD OF A MEASURE as a row, as wide as the measure record: part_layout's headBytes.
-use Prim.Native.Nat.{ℕ, _+_}
+use Prim.Native.Nat.{ℕ, zero, suc, _+_}
 use mathlib.Core.Bool.{Bool, true, _&&_}
 use mathlib.Core.List.{List, [], _∷_, _++_}
 use lib.Dec.{eqb}
 use lib.ListN.{getD}
 use Rattle.laws.specs.Bytes.{le32, u32At}
 use Rattle.reader.specs.Codes.{barlineCode, voltaCode}
-use Rattle.reader.specs.Records.{keyMarkBytes, passBits}
+use Rattle.reader.specs.Records.{measureWidth, keyMarkBytes, passBits}
 use Rattle.part_layout.specs.Log.{Head}
 
 -- WHERE THE FIELDS OF A MEASURE'S ROW STAND, as in the measure record: four counts of four bytes first
@@ -57,3 +57,8 @@ noNotes s at = eqb 0 (u32At s at) && (eqb 0 (u32At s (at + 4)) && (eqb 0 (u32At 
 -- READ BY THE WRITERS: how many notes the four counts at a place make
 unfoldable pub noteCount : List ℕ → ℕ → ℕ
 noteCount s at = u32At s at + u32At s (at + 4) + u32At s (at + 8) + u32At s (at + 12)
+
+-- and those of the n rows from h on
+unfoldable pub total : List ℕ → ℕ → ℕ → ℕ
+total s h zero = 0
+total s h (suc n) = noteCount s h + total s (h + measureWidth) n

@@ -1,8 +1,8 @@
 -- WHAT THE WRITERS READ of the row of a note that stands at p.
-use Prim.Native.Nat.{ℕ, _+_}
-use mathlib.Core.Bool.{Bool}
+use Prim.Native.Nat.{ℕ, _+_, _%_}
+use mathlib.Core.Bool.{Bool, _&&_}
 use mathlib.Core.List.{List}
-use lib.Dec.{eqb}
+use lib.Dec.{eqb, leb}
 use lib.ListN.{getD}
 use Rattle.laws.specs.Bytes.{part, u32At}
 use Rattle.part_rows.specs.Encoded.{valueAt, dotsAt, flagsAt, beamAt, pitchCountAt, voiceAt}
@@ -23,6 +23,18 @@ soundsAt s p = eqb (getD s p 0) 0
 -- it is of voice v
 abbrev pub ofVoiceAt : List ℕ → ℕ → ℕ → Bool
 ofVoiceAt s v p = eqb (getD s (p + voiceAt) 0) v
+
+-- it is a grace note: flag 16
+abbrev pub graceAt : List ℕ → ℕ → Bool
+graceAt s p = leb 16 (getD s (p + flagsAt) 0 % 32)
+
+-- it is of voice 0
+unfoldable pub leadRow : List ℕ → ℕ → Bool
+leadRow s p = ofVoiceAt s 0 p
+
+-- and no rest
+unfoldable pub sungRow : List ℕ → ℕ → Bool
+sungRow s p = leadRow s p && soundsAt s p
 
 -- how many pitches it has
 abbrev pub pitchCount : List ℕ → ℕ → ℕ

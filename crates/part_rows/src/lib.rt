@@ -7,7 +7,7 @@ ghost use lib.ListN.{length, getD};
 ghost use Rattle.laws.specs.Bytes.{part, splice};
 ghost use Rattle.reader.specs.Records.{noteWidth, signed8, signed16};
 ghost use Rattle.part_rows.specs.Encoded.{rowBytes, pitchRow, noteRowWidth, pitchRowWidth, valueAt, dotsAt, beamAt};
-ghost use Rattle.part_rows.specs.Read.{startAt, restAt, soundsAt, ofVoiceAt, pitchCount};
+ghost use Rattle.part_rows.specs.Read.{startAt, restAt, soundsAt, ofVoiceAt, graceAt, sungRow, pitchCount};
 
 // The bytes of a row: a note's, a pitch's (those of its record), that of a step and octave with accidentals; and of the index of those.
 pub const NOTE_ROW: usize = 16;
@@ -30,6 +30,9 @@ const BEAM: usize = 4;
 const PITCH_COUNT: usize = 8;
 
 const VOICE: usize = 12;
+
+// The flag of a grace note.
+const GRACE: u8 = 16;
 
 // Where the last byte of a pitch's row stands: the higher one of its cents.
 const CENTS_SIGN: usize = 4;
@@ -204,6 +207,25 @@ pub fn is_of_voice(store: &[u8], place: usize, voice: u8) -> bool
     ensures { λ r. ⌜ r ≡ ofVoiceAt (now (store .entry)) voice place ⌝ }
 {
     store[place + VOICE] == voice
+}
+
+// Whether the note is of voice 0 and no rest.
+pub fn is_sung(store: &[u8], place: usize) -> bool
+    requires { ⌜ place + noteRowWidth ≤ length (now store) ⌝ }
+    ensures { λ r. ⌜ r ≡ sungRow (now (store .entry)) place ⌝ }
+{
+    if !is_of_voice(store, place, 0) {
+        return false;
+    }
+    !is_rest(store, place)
+}
+
+// Whether the note is a grace note.
+pub fn is_grace(store: &[u8], place: usize) -> bool
+    requires { ⌜ place + noteRowWidth ≤ length (now store) ⌝ }
+    ensures { λ r. ⌜ r ≡ graceAt (now (store .entry)) place ⌝ }
+{
+    GRACE <= store[place + FLAGS] % 32
 }
 
 // How many pitches the note has.

@@ -1,5 +1,5 @@
--- THE TABLES FIT: a byte of music brings a measure's bytes and makes a measure, or a note, its pitch and its lyric head, or a rest and the head that it may get,
--- or an accidental; none of these is wider than a measure. A byte of lyrics brings a lyric row.
+-- THE TABLES FIT: a byte of music brings a measure's bytes and makes a measure, or a note, its pitch, its lyric head and its stop, or a rest and those that it
+-- may get, or an accidental; none of these is wider than a measure. A byte of lyrics brings a lyric row.
 use Prim.Native.Nat.{ℕ, _+_, _-_, _*_, _^_, _≤_, _<_}
 use mathlib.Core.Path.{_≡_, refl, ap, _∙_}
 use mathlib.Core.Bool.{Bool, true, false, cond, _&&_, _||_}
@@ -26,7 +26,7 @@ use Rattle.part_rows.specs.Encoded.{noteRowWidth, pitchRowWidth, scopeRowWidth}
 use Rattle.part_registers.specs.declared.Tables.{Tables}
 use Rattle.part_sizing.specs.declared.Made.{Made}
 use Rattle.part_sizing.specs.Counting.{madeOf, tablesAt}
-use Rattle.lyrics.specs.Sheet.{lyricHeadWidth}
+use Rattle.lyrics.specs.Sheet.{lyricHeadWidth, lyricStopWidth}
 use Rattle.part_sizing.specs.Room.{PartRoom, musicAt, Sized}
 use Rattle.part_sizing.proofs.Counting.{bytes-in}
 
@@ -36,10 +36,10 @@ one b = cond b 1 0
 
 -- what a letter and a rest can make
 abbrev letterWidth : ℕ
-letterWidth = noteRowWidth + pitchRowWidth + lyricHeadWidth
+letterWidth = noteRowWidth + pitchRowWidth + lyricHeadWidth + lyricStopWidth
 
 abbrev restWidth : ℕ
-restWidth = noteRowWidth + lyricHeadWidth
+restWidth = noteRowWidth + lyricHeadWidth + lyricStopWidth
 
 abbrev Enough : ℕ → Type 0
 Enough c = measureWidth * one (isBar c) + letterWidth * one (isLetter c) + restWidth * one (isRest c) + scopeRowWidth * one (isSign c) ≤ measureWidth
@@ -152,7 +152,7 @@ module _ (text s : List ℕ) (n p : ℕ) (room : PartRoom text s n p) where
 
 -- THE SHEET of the lyrics, once the part is read: scratch has the same items, and of its notes that sound there are no more than its music can make
 pub sheet-fits : (text s : List ℕ) (n p : ℕ) (t : Tables) → Sized text s n p t → length text ≤ 67108864 → (s′ : List ℕ) → itemsIn text s′ n ≡ itemsIn text s n → length s′ ≡ length s
-    → (h : Sheet) → h .heads ≡ t .scopes → h .log ≡ t .scopes + lyricHeadWidth * h .sounded → h .sounded ≤ tones (musicAt text s n p) → Fits text s′ n p h
+    → (h : Sheet) → h .heads ≡ t .scopes → h .log ≡ t .scopes + lyricHeadWidth * h .sounded + lyricStopWidth * h .sounded → h .sounded ≤ tones (musicAt text s n p) → Fits text s′ n p h
 sheet-fits text s n p t z short s′ e l h at log most =
     let few : rowsOf (linesIn text s′ p n) ≤ sum lyricBytes (itemsOf p (itemsIn text s n)) = rw e at (rows-most text s′ p n) in
     record {

@@ -13,7 +13,7 @@ use Rattle.scan_table.specs.Rows.{itemsIn, tableEnd}
 use Rattle.part_registers.specs.declared.Tables.{Tables}
 use Rattle.part_registers.specs.declared.Counts.{Counts}
 use Rattle.part_invariant.specs.Lines.{RoomForBytes}
-use Rattle.lyrics.specs.Sheet.{lyricHeadWidth, lyricRowWidth}
+use Rattle.lyrics.specs.Sheet.{lyricHeadWidth, lyricStopWidth, lyricRowWidth}
 use Rattle.part_sizing.specs.Counting.{madeOf, tablesAt}
 
 -- behind the line table there are the index of accidentals, and a measure's bytes for a first measure and for each byte of the part's lines
@@ -29,11 +29,11 @@ musicAt text s n part = musicOf (itemsOf part (itemsIn text s n))
 abbrev pub noRows : Counts
 noRows = record { heads = 0; notes = 0; pitches = 0; scopes = 0 }
 
--- THE TABLES have room for all that the part's music can make; and where the last one begins there is room for the lyrics: a head for each note and a row
--- for each byte of the lyric lines (proofs/Fits.sheet-fits)
+-- THE TABLES have room for all that the part's music can make; and where the last one begins there is room for the lyrics: a head and a stop for each note and a
+-- row for each byte of the lyric lines (proofs/Fits.sheet-fits)
 pub record Sized (text s : List ℕ) (n part : ℕ) (t : Tables) : Type 0 where
   pub is : t ≡ tablesAt n (madeOf (musicAt text s n part))
   pub behind-items : t .heads ≡ tableEnd n
   pub rest : RoomForBytes t noRows (length s) (musicAt text s n part)
-  pub sheet : t .scopes + lyricHeadWidth * tones (musicAt text s n part) + lyricRowWidth * sum lyricBytes (itemsOf part (itemsIn text s n)) ≤ length s
+  pub sheet : t .scopes + lyricHeadWidth * tones (musicAt text s n part) + lyricStopWidth * tones (musicAt text s n part) + lyricRowWidth * sum lyricBytes (itemsOf part (itemsIn text s n)) ≤ length s
   pub few : sum lyricBytes (itemsOf part (itemsIn text s n)) < 2 ^ 32

@@ -20,6 +20,7 @@ use Rattle.part_registers.specs.declared.Registers.{Registers}
 use Rattle.part_registers.specs.States.{pendingFor, runningFor, lineFor}
 use Rattle.part_invariant.specs.Invariant.{Simulates}
 use Rattle.part_bars.proofs.Heads.{grows-none}
+use Rattle.reader.specs.Part.{normalIn, inMeter}
 
 abbrev lined : Registers → Line → Running → Registers
 lined r line group =
@@ -32,7 +33,7 @@ pended r p =
 module _ (r : Registers) (t : Tables) (s : List ℕ) where
   -- another line: f leaves its half
   lined-simulates : (line : Line) (group : Running) (f : State.Line → State.Line) → ((n : State.Line) → r .line ≡ lineFor n → line ≡ lineFor (f n)) → ((n : State.Line) → f n .half ≡ n .half)
-      → ((n : State.Line) → r .group .running ≡ runningFor (n .tuplet) → group ≡ runningFor (f n .tuplet)) → Simulates t s r s (lined r line group) 0 0 0 0 (λ l. setLine (f (l .line)) l)
+      → ((n : State.Line) → r .line ≡ lineFor n → r .group .running ≡ runningFor (n .tuplet) → group ≡ runningFor (f n .tuplet)) → Simulates t s r s (lined r line group) 0 0 0 0 (λ l. setLine (f (l .line)) l)
   lined-simulates line group f a b c =
       record {
         only = only-none (t .heads) (t .end) s;
@@ -47,7 +48,7 @@ module _ (r : Registers) (t : Tables) (s : List ℕ) where
               pending-is = h .pending-is;
               line-is = a (l .line) (h .line-is);
               half-is = rw (b (l .line)) (h .half-is);
-              running-is = c (l .line) (h .running-is);
+              running-is = c (l .line) (h .line-is) (h .running-is);
               sounded-is = h .sounded-is;
               sounded-most = h .sounded-most;
               start-is = h .start-is;
@@ -82,7 +83,7 @@ module _ (r : Registers) (t : Tables) (s : List ℕ) where
   pub space-simulates : Simulates t s r s (lined r (record { unit = r .line .unit; top = r .line .top; bottom = r .line .bottom; overlay = r .line .overlay; run = 0 }) (r .group .running)) 0 0 0 0 (λ l. onToken l token.space)
   unfolding onToken
   space-simulates =
-      lined-simulates _ _ (withRun 0) (λ n e i. record { unit = e i .unit; top = e i .top; bottom = e i .bottom; overlay = e i .overlay; run = 0 }) (λ n. refl) (λ n e. e)
+      lined-simulates _ _ (withRun 0) (λ n e i. record { unit = e i .unit; top = e i .top; bottom = e i .bottom; overlay = e i .overlay; run = 0 }) (λ n. refl) (λ n e d. d)
 
   pub overlay-simulates : (voice : ℕ) → voice ≡ nextVoice (r .line .overlay)
       → Simulates t s r s (lined r (record { unit = r .line .unit; top = r .line .top; bottom = r .line .bottom; overlay = voice; run = 0 }) (r .group .running)) 0 0 0 0 (λ l. onToken l token.overlay)
@@ -90,17 +91,20 @@ module _ (r : Registers) (t : Tables) (s : List ℕ) where
   overlay-simulates voice d =
       lined-simulates _ _ (λ n. withOverlay (nextVoice (n .overlay)) n)
       (λ n e. let v : voice ≡ nextVoice (n .overlay) = d ∙ ap (λ (x : Line). nextVoice (x .overlay)) e in λ i. record { unit = e i .unit; top = e i .top; bottom = e i .bottom; overlay = v i; run = 0 })
-      (λ n. refl) (λ n e. e)
+      (λ n. refl) (λ n e d. d)
 
-  pub tuplet-simulates : (actual normal count : ℕ) → Simulates t s r s (lined r (r .line) (running.Tuplet actual normal count count)) 0 0 0 0 (λ l. onToken l (token.tuplet (record { actual = actual; normal = normal; count = count })))
-  unfolding onToken
-  tuplet-simulates actual normal count =
-      lined-simulates _ _ (withTuplet (some (record { tuplet = record { actual = actual; normal = normal; count = count }; remaining = count }))) (λ n e. e) (λ n. refl) (λ n e. refl)
+  -- the meter of the line decides a default that waits for it
+  pub tuplet-simulates : (actual normal count there : ℕ) → ((bottom : ℕ) → there ≡ normalIn (r .line .top, bottom) normal)
+      → Simulates t s r s (lined r (r .line) (running.Tuplet actual there count count)) 0 0 0 0 (λ l. onToken l (token.tuplet (record { actual = actual; normal = normal; count = count })))
+  unfolding onToken inMeter
+  tuplet-simulates actual normal count there k =
+      lined-simulates _ _ (λ n. withTuplet (some (record { tuplet = inMeter (n .meter) (record { actual = actual; normal = normal; count = count }); remaining = count })) n) (λ n e. e) (λ n. refl)
+      (λ n e d. ap (λ (q : ℕ). running.Tuplet actual q count count) (k (n .meter .1) ∙ ap (λ (x : Line). normalIn (x .top, n .meter .1) normal) e))
 
   pub unit-simulates : (unit : ℕ) → Simulates t s r s (lined r (record { unit = unit; top = r .line .top; bottom = r .line .bottom; overlay = r .line .overlay; run = r .line .run }) (r .group .running)) 0 0 0 0 (λ l. onToken l (token.unit unit))
   unfolding onToken
   unit-simulates unit =
-      lined-simulates _ _ (withUnit unit) (λ n e i. record { unit = unit; top = e i .top; bottom = e i .bottom; overlay = e i .overlay; run = e i .run }) (λ n. refl) (λ n e. e)
+      lined-simulates _ _ (withUnit unit) (λ n e i. record { unit = unit; top = e i .top; bottom = e i .bottom; overlay = e i .overlay; run = e i .run }) (λ n. refl) (λ n e d. d)
 
   pub slur-simulates : Simulates t s r s (pended r (record { tie = r .pending .tie; slur = true; grace = r .pending .grace })) 0 0 0 0 (λ l. onToken l token.slur)
   unfolding onToken slurOpens

@@ -5,6 +5,7 @@ ghost use Prim.Native.Nat.{ℕ, _≤_};
 ghost use lib.ListN.{length};
 ghost use Rattle.standard.specs.Notes.{nextVoice};
 ghost use Rattle.reader.specs.Token as token;
+ghost use Rattle.reader.specs.Part.{normalIn};
 ghost use Rattle.field_keys.specs.Passed.{keyAs};
 ghost use Rattle.part_layout.specs.Log.{onToken, lineBegins};
 ghost use Rattle.part_invariant.specs.Invariant.{Room, RepresentedInLine, Simulates};
@@ -48,13 +49,24 @@ pub fn on_overlay(r: Registers) -> Registers
     x
 }
 
+// The normal number of a tuplet under a meter with this top number: "of 5, 7 and 9 in the time of 3 where the meter's top is divisible by 3, else 2".
+fn normal_in(top: u8, normal: u8) -> u8
+    ensures { λ r. ⌜ ((bottom : ℕ) → r ≡ normalIn (top, bottom) normal) ⌝ }
+{
+    if normal != token_symbols::BY_METER {
+        return normal;
+    }
+    if top % 3 == 0 { 3 } else { 2 }
+}
+
 // A tuplet, all of whose notes are to come.
 pub fn on_tuplet(r: Registers, actual: u8, normal: u8, count: u64) -> Registers
     ensures { λ x. ⌜ ((t : Tables) (s : List ℕ) → Simulates t s r s x 0 0 0 0 (λ l. onToken l (token.tuplet (record { actual = actual; normal = normal; count = count })))) ⌝ }
 {
+    let line = r.line;
     let running = Running::Tuplet {
         actual,
-        normal,
+        normal: normal_in(line.top, normal),
         count,
         remaining: count,
     };

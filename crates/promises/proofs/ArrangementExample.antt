@@ -7,8 +7,10 @@ use Rattle.laws.specs.Lists.{concat, eqText}
 use Rattle.laws.proofs.Bools.{by-test}
 use Rattle.laws.proofs.Lists.{eqText-true}
 use Rattle.standard.specs.Bytes.{ascii}
+use Rattle.editions.specs.declared.Edition.the-variants.{First, Second}
 use Rattle.reader.specs.Steps.{TextLine}
 use Rattle.reader.specs.Answer.{parseAbc}
+use Rattle.reader.specs.Tally.{Counts}
 use Rattle.reader.specs.All.{all}
 use Rattle.blocks.specs.Demand.{Hypotheses}
 use Rattle.blocks.proofs.Tests.{meant-test}
@@ -21,13 +23,13 @@ blockAbout = ascii "V:1\nV:2\nK:C\nV:1\nA-|\nw:a\nA|\nV:2\nz|\nc|\n"
 abbrev lineAbout : List ℕ
 lineAbout = ascii "V:1\nV:2\nK:C\nV:1\nA-|\nw:a\nV:2\nz|\nV:1\nA|\nV:2\nc|\n"
 
-block-meant : Hypotheses blockAbout 600 12000
+block-meant : Hypotheses First blockAbout 600 12000
 unfolding all
-block-meant = meant-test 2 blockAbout 600 12000 tt refl refl refl refl refl
+block-meant = meant-test First 2 blockAbout 600 12000 tt refl refl refl refl refl
 
-line-meant : Hypotheses lineAbout 600 12000
+line-meant : Hypotheses First lineAbout 600 12000
 unfolding all
-line-meant = meant-test 2 lineAbout 600 12000 tt refl refl refl refl refl
+line-meant = meant-test First 2 lineAbout 600 12000 tt refl refl refl refl refl
 
 -- each voice's lines, by whether v is the one or the other
 abbrev picked : Bool → List TextLine → List (List TextLine) → List (List TextLine)
@@ -52,10 +54,43 @@ unfolding all
 arranged = record { header-same = refl; opening-same = refl; lines-same = λ v. by-names (eqText (ascii "1") v) (eqText (ascii "2") v) (not-both v) }
 
 -- one tally, by the theorem
-pub one-tally : tallyOf (parseAbc blockAbout 600 12000 .verdict) ≡ tallyOf (parseAbc lineAbout 600 12000 .verdict)
+pub one-tally : tallyOf (parseAbc First blockAbout 600 12000 .verdict) ≡ tallyOf (parseAbc First lineAbout 600 12000 .verdict)
 one-tally = any-arrangement blockAbout lineAbout 600 12000 600 12000 block-meant line-meant arranged
 
 -- and two readings: the tie over the V: line is lost
-pub two-readings : eqText (parseAbc blockAbout 600 12000 .reading) (parseAbc lineAbout 600 12000 .reading) ≡ false
+pub two-readings : eqText (parseAbc First blockAbout 600 12000 .reading) (parseAbc First lineAbout 600 12000 .reading) ≡ false
 unfolding all
 two-readings = refl
+
+-- IN THE SECOND EDITION, where a grace note takes no syllable, a V: line that ends a grace brace changes the syllables: the one text is the other without its last V: line, both meet the
+-- hypotheses, and the tallies differ
+abbrev pub oneBlock : List ℕ
+oneBlock = ascii "V:1\nK:C\nV:1\n{\nA\nw:a\n"
+
+abbrev pub twoBlocks : List ℕ
+twoBlocks = ascii "V:1\nK:C\nV:1\n{\nV:1\nA\nw:a\n"
+
+pub both-meant : Hypotheses Second oneBlock 200 12000 × Hypotheses Second twoBlocks 200 12000
+unfolding all
+both-meant = (meant-test Second 1 oneBlock 200 12000 tt refl refl refl refl refl, meant-test Second 1 twoBlocks 200 12000 tt refl refl refl refl refl)
+
+one-voice : (x : Bool)
+    → concat (map bodyOf (picked x (ascii "V:1\n" ∷ ascii "{\n" ∷ ascii "A\n" ∷ ascii "w:a\n" ∷ []) []))
+    ≡ concat (map bodyOf (picked x (ascii "V:1\n" ∷ ascii "{\n" ∷ []) (picked x (ascii "V:1\n" ∷ ascii "A\n" ∷ ascii "w:a\n" ∷ []) [])))
+one-voice true = refl
+one-voice false = refl
+
+pub both-arranged : Rearranged oneBlock twoBlocks
+unfolding all
+both-arranged = record { header-same = refl; opening-same = refl; lines-same = λ v. one-voice (eqText (ascii "1") v) }
+
+abbrev syllablesOf : List Counts → List ℕ
+syllablesOf cs = map (λ (c : Counts). c .syllables) cs
+
+pub first-counts : (syllablesOf (tallyOf (parseAbc First oneBlock 200 12000 .verdict)) ≡ 1 ∷ []) × (syllablesOf (tallyOf (parseAbc First twoBlocks 200 12000 .verdict)) ≡ 1 ∷ [])
+unfolding all
+first-counts = (refl, refl)
+
+pub second-counts : (syllablesOf (tallyOf (parseAbc Second oneBlock 200 12000 .verdict)) ≡ 0 ∷ []) × (syllablesOf (tallyOf (parseAbc Second twoBlocks 200 12000 .verdict)) ≡ 1 ∷ [])
+unfolding all
+second-counts = (refl, refl)

@@ -1,3 +1,4 @@
+pub mod KeyFields
 pub mod TokenRefusals
 pub mod Refusals
 pub mod SameTally
@@ -6,6 +7,12 @@ pub mod EachPart
 pub mod Free
 pub mod SameTokens
 pub mod Sung
+pub mod KeyRange
 pub mod ArrangementExample
 pub mod StillRead
 pub mod Domain
+pub mod AlikeTokens
+pub mod AlikeLyrics
+pub mod AlikeParts
+pub mod Alike
+pub mod AlikeNeeded

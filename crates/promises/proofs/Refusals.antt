@@ -4,7 +4,7 @@ use mathlib.Core.Path.{_≡_, refl, sym, ap, subst, _∙_}
 use mathlib.Core.Logic.{_⊎_, inl, inr, ⊎-elim}
 use mathlib.Core.Bool.{Bool, true, false, cond, _&&_, _||_, false≢true}
 use mathlib.Core.Option.{Option, none, some}
-use mathlib.Core.List.{List, [], _∷_, _++_}
+use mathlib.Core.List.{List, [], _∷_, _++_, map}
 use native.Mathlib.Omega.{arith}
 use lib.Dec.{eqb, leb, ltb}
 use lib.ListN.{length, drop}
@@ -13,11 +13,13 @@ use Rattle.laws.specs.Lists.{elem, isNil, sum}
 use Rattle.laws.proofs.Bools.{by-test, both-true, and-left, and-right, or-either}
 use Rattle.standard.specs.Keys.{Key}
 use Rattle.standard.specs.Fields.{Meter}
+use Rattle.editions.specs.declared.Edition.{Edition}
+use Rattle.editions.specs.declared.Edition.the-variants.{First}
 use Rattle.reader.specs.Text.{isUtf8, isBlank, textLines, clean, hasHigh}
 use Rattle.reader.specs.Keys.{keyOf}
-use Rattle.reader.specs.Fields.{meterOf, unitOf, identifier, middleWord}
-use Rattle.reader.specs.Tokens.{Effect, counts, refuses, setsUnit, setsMeter, noEffect, effects}
-use Rattle.reader.specs.Lines.{isV, isK, isL, isM, isX, isLyric, isField, begins, Kind, blank, refused, lyric, voice, key, meter, unit, tune, other, music, voiceKind, keyKind, fieldKind, lineKind, kindOf}
+use Rattle.reader.specs.Fields.{meterOf, unitOf, identifier, middleWord, keyRefusal}
+use Rattle.reader.specs.Tokens.{Effect, counts, refuses, setsUnit, setsMeter, noEffect, effectOf, effects}
+use Rattle.reader.specs.Lines.{isV, isK, isL, isM, isX, isLyric, isField, begins, Kind, blank, refused, lyric, voice, key, meter, unit, tune, other, music, voiceKind, keyKind, fieldKind, lineKind, kindOf, kindUnless}
 use Rattle.reader.specs.Steps.{TextLine, refuse, on, first, run}
 use Rattle.reader.specs.Scan.{Items, Out, ScanState, begin, mostLines, mostVoices, mostNotes, noteCount, voicesBefore, firstRefusal, playOn, voiceOn, unitOn, act, step, scan}
 use Rattle.reader.specs.Answer.{Verdict, refusal, reading, Outcome, mostBytes, scratchNeeded, refusedWith, early, encode, measureCount, written, ended, finish, scanned, unless, parseAbc}
@@ -25,8 +27,9 @@ use Rattle.blocks.proofs.Keeps.{laws}
 use Rattle.blocks.proofs.Instance.{reader}
 use Rattle.blocks.proofs.Runs.{run-of, run-lines}
 use Rattle.blocks.specs.Demand.{IsReading}
-use Rattle.promises.specs.Refusals.{partsAfter, InMusic, MusicLine, Why, many-lines, long-line, high-field, high-music, second-tune, no-identifier, many-voices, middle-V, middle-K, in-music, First, At, Begins, Reason, long-text, not-utf8, blank-text, short-scratch, at-line, no-measure, short-reading}
-use Rattle.promises.proofs.TokenRefusals.{first-why, music-meets, To14Or17Or18, music-range}
+use Rattle.promises.specs.Refusals.{bracketed, key-inline, octave-note, octave-chord, many-more, many-less, list-shape, list-range, list-rise, Here, token, note, partsAfter, InMusic, MusicLine, Why, many-lines, long-line, high-field, high-music, second-tune, no-identifier, many-voices, middle-V, key-line, in-music, Smallest, At, KeyMeets, Begins, Reason, long-text, not-utf8, blank-text, short-scratch, at-line, no-measure, short-reading}
+use Rattle.promises.proofs.TokenRefusals.{first-why, music-meets, To14Or17Or18Or21, key-field-range, music-range}
+use Rattle.promises.proofs.KeyFields.{key-field-why, key-field-meets, first-key-field}
 
 -- a refusal is told by its number and line
 number-of : Out → ℕ
@@ -42,30 +45,30 @@ is-on (refuse n l) = 0
 is-on (on s a) = 1
 
 -- what a refusal n at line k of a row comes to
-abbrev Refused : ScanState → List ℕ → ℕ → ℕ → Type 0
-Refused s l n k = Why s l n × (k ≡ suc (s .lines))
+abbrev Refused : Edition → ScanState → List ℕ → ℕ → ℕ → Type 0
+Refused ed s l n k = Why ed s l n × (k ≡ suc (s .lines))
 
-this : (s : ScanState) (l : List ℕ) (a n k : ℕ) → Why s l a → _≡_ {A = Out} (refuse a (suc (s .lines))) (refuse n k) → Refused s l n k
+this : (ed : Edition) (s : ScanState) (l : List ℕ) (a n k : ℕ) → Why ed s l a → _≡_ {A = Out} (refuse a (suc (s .lines))) (refuse n k) → Refused ed s l n k
 unfolding number-of line-of
-this s l a n k w e = (subst (λ (x : ℕ). Why s l x) (ap number-of e) w, sym (ap line-of e))
+this ed s l a n k w e = (subst (λ (x : ℕ). Why ed s l x) (ap number-of e) w, sym (ap line-of e))
 
 never : (t : ScanState) (a : Items) (n k : ℕ) → _≡_ {A = Out} (on t a) (refuse n k) → ⊥
 unfolding is-on
 never t a n k e = let z : _≡_ {A = ℕ} 1 0 = ap is-on e in absurd (omega (arith, z))
 
 -- V LINES
-voice-why : (s : ScanState) (l : List ℕ) (n k : ℕ) → isV l ≡ true → act s (voiceKind (drop 2 l)) (s .env .inHeader) ≡ refuse n k → Refused s l n k
+voice-why : (ed : Edition) (s : ScanState) (l : List ℕ) (n k : ℕ) → isV l ≡ true → act s (voiceKind (drop 2 l)) (s .env .inHeader) ≡ refuse n k → Refused ed s l n k
 unfolding act voiceKind voiceOn
-voice-why s l n k v e =
-    by-test (isNil (identifier (drop 2 l))) (λ i. this s l 8 n k (no-identifier v i) (rw (i, voiceKind) at e))
+voice-why ed s l n k v e =
+    by-test (isNil (identifier (drop 2 l))) (λ i. this ed s l 8 n k (no-identifier v i) (rw (i, voiceKind) at e))
     (λ i. named (elem (identifier (drop 2 l)) (voicesBefore s)) refl (leb mostVoices (length (voicesBefore s))) refl (middleWord (drop 2 l)) refl (rw (i, voiceKind) at e))
   where
     named : (h : Bool) → elem (identifier (drop 2 l)) (voicesBefore s) ≡ h → (f : Bool) → leb mostVoices (length (voicesBefore s)) ≡ f → (m : Bool) → middleWord (drop 2 l) ≡ m
-        → voiceOn s (identifier (drop 2 l)) (voicesBefore s) h f m ≡ refuse n k → Refused s l n k
-    named true eh f ef true em e = this s l 10 n k (middle-V v em) e
+        → voiceOn s (identifier (drop 2 l)) (voicesBefore s) h f m ≡ refuse n k → Refused ed s l n k
+    named true eh f ef true em e = this ed s l 10 n k (middle-V v em) e
     named true eh f ef false em e = absurd (never _ _ n k e)
-    named false eh true ef m em e = this s l 9 n k (many-voices v eh (leb-true mostVoices (length (voicesBefore s)) ef)) e
-    named false eh false ef true em e = this s l 10 n k (middle-V v em) e
+    named false eh true ef m em e = this ed s l 9 n k (many-voices v eh (leb-true mostVoices (length (voicesBefore s)) ef)) e
+    named false eh false ef true em e = this ed s l 10 n k (middle-V v em) e
     named false eh false ef false em e = absurd (never _ _ n k e)
 
 -- what no line of its kind is refused for
@@ -90,17 +93,19 @@ lyric-never s t true n k e = never _ _ n k e
 lyric-never s t false n k e = never _ _ n k e
 
 -- K LINES
-key-why : (s : ScanState) (l : List ℕ) (n k : ℕ) → isK l ≡ true → act s (keyKind (drop 2 l)) (s .env .inHeader) ≡ refuse n k → Refused s l n k
-unfolding act keyKind
-key-why s l n k v e =
-    by-test (middleWord (drop 2 l)) (λ m. this s l 10 n k (middle-K v m) (rw (m, keyKind) at e))
-    (λ m. absurd (key-never s (keyOf (drop 2 l)) (s .env .inHeader) n k (rw (m, keyKind) at e)))
+key-why : (ed : Edition) (s : ScanState) (l : List ℕ) (n k : ℕ) → isK l ≡ true → act s (keyKind ed (drop 2 l)) (s .env .inHeader) ≡ refuse n k → Refused ed s l n k
+unfolding act keyKind kindUnless
+key-why ed s l n k v e = go (keyRefusal ed (drop 2 l)) refl e
+  where
+    go : (o : Option ℕ) → keyRefusal ed (drop 2 l) ≡ o → act s (kindUnless (keyOf ed (drop 2 l)) o) (s .env .inHeader) ≡ refuse n k → Refused ed s l n k
+    go none o e = absurd (key-never s (keyOf ed (drop 2 l)) (s .env .inHeader) n k e)
+    go (some m) o e = this ed s l m n k (key-line v (key-field-why ed (drop 2 l) m o)) e
 
 -- X LINES
-tune-why : (s : ScanState) (l : List ℕ) (n k : ℕ) → isX l ≡ true → (h : Bool) → s .env .inHeader ≡ h → act s tune h ≡ refuse n k → Refused s l n k
+tune-why : (ed : Edition) (s : ScanState) (l : List ℕ) (n k : ℕ) → isX l ≡ true → (h : Bool) → s .env .inHeader ≡ h → act s tune h ≡ refuse n k → Refused ed s l n k
 unfolding act
-tune-why s l n k v true b e = absurd (never _ _ n k e)
-tune-why s l n k v false b e = this s l 7 n k (second-tune b v) e
+tune-why ed s l n k v true b e = absurd (never _ _ n k e)
+tune-why ed s l n k v false b e = this ed s l 7 n k (second-tune b v) e
 
 -- FIELDS
 four : (a b c d : Bool) → (a ≡ true) ⊎ ((b ≡ true) ⊎ ((c ≡ true) ⊎ (d ≡ true))) → (a || b || c || d) ≡ true
@@ -119,56 +124,56 @@ module _ (s : ScanState) (n k : ℕ) (P : Type 0) where
   either true x y f g = f refl
   either false x y f g = g refl
 
-field-why : (s : ScanState) (l : List ℕ) (n k : ℕ) → act s (fieldKind l) (s .env .inHeader) ≡ refuse n k → Refused s l n k
+field-why : (ed : Edition) (s : ScanState) (l : List ℕ) (n k : ℕ) → act s (fieldKind ed l) (s .env .inHeader) ≡ refuse n k → Refused ed s l n k
 unfolding fieldKind act
-field-why s l n k =
-    by (isV l) _ _ (λ v. high (inl v) (voiceKind (drop 2 l)) (voice-why s l n k v))
-    (λ _. by (isK l) _ _ (λ v. high (inr (inl v)) (keyKind (drop 2 l)) (key-why s l n k v))
+field-why ed s l n k =
+    by (isV l) _ _ (λ v. high (inl v) (voiceKind (drop 2 l)) (voice-why ed s l n k v))
+    (λ _. by (isK l) _ _ (λ v. high (inr (inl v)) (keyKind ed (drop 2 l)) (key-why ed s l n k v))
     (λ _. by (isL l) _ _ (λ v. high (inr (inr (inl v))) (unit (unitOf (drop 2 l))) (λ e. absurd (unit-never s (unitOf (drop 2 l)) (s .env .inHeader) n k e)))
     (λ _. by (isM l) _ _ (λ v. high (inr (inr (inr v))) (meter (meterOf (drop 2 l))) (λ e. absurd (meter-never s (meterOf (drop 2 l)) (s .env .inHeader) n k e)))
-    (λ _. by (isX l) tune other (λ v. tune-why s l n k v (s .env .inHeader) refl) (λ _ e. absurd (never _ _ n k e))))))
+    (λ _. by (isX l) tune other (λ v. tune-why ed s l n k v (s .env .inHeader) refl) (λ _ e. absurd (never _ _ n k e))))))
   where
-    by : (b : Bool) (x y : Kind) → (b ≡ true → Comes s n k (Refused s l n k) x) → (b ≡ false → Comes s n k (Refused s l n k) y) → Comes s n k (Refused s l n k) (cond b x y)
-    by = either s n k (Refused s l n k)
+    by : (b : Bool) (x y : Kind) → (b ≡ true → Comes s n k (Refused ed s l n k) x) → (b ≡ false → Comes s n k (Refused ed s l n k) y) → Comes s n k (Refused ed s l n k) (cond b x y)
+    by = either s n k (Refused ed s l n k)
 
-    high : (isV l ≡ true) ⊎ ((isK l ≡ true) ⊎ ((isL l ≡ true) ⊎ (isM l ≡ true))) → (x : Kind) → Comes s n k (Refused s l n k) x → Comes s n k (Refused s l n k) (cond (hasHigh l) (refused 6) x)
-    high o x f = by (hasHigh l) (refused 6) x (λ h e. this s l 6 n k (high-field (four (isV l) (isK l) (isL l) (isM l) o) h) e) (λ _. f)
+    high : (isV l ≡ true) ⊎ ((isK l ≡ true) ⊎ ((isL l ≡ true) ⊎ (isM l ≡ true))) → (x : Kind) → Comes s n k (Refused ed s l n k) x → Comes s n k (Refused ed s l n k) (cond (hasHigh l) (refused 6) x)
+    high o x f = by (hasHigh l) (refused 6) x (λ h e. this ed s l 6 n k (high-field (four (isV l) (isK l) (isL l) (isM l) o) h) e) (λ _. f)
 
 -- MUSIC LINES
-play-why : (s : ScanState) (l : List ℕ) (n k : ℕ) → s .env .inHeader ≡ false → isLyric l ≡ false → isField l ≡ false → hasHigh l ≡ false
-    → (o : Option ℕ) → firstRefusal (s .notes) (effects l) ≡ o → playOn s (effects l) l o ≡ refuse n k → Refused s l n k
+play-why : (ed : Edition) (s : ScanState) (l : List ℕ) (n k : ℕ) → s .env .inHeader ≡ false → isLyric l ≡ false → isField l ≡ false → hasHigh l ≡ false
+    → (o : Option ℕ) → firstRefusal (s .notes) (effects ed l) ≡ o → playOn s (effects ed l) l o ≡ refuse n k → Refused ed s l n k
 unfolding playOn
-play-why s l n k b y f h none o e = absurd (never _ _ n k e)
-play-why s l n k b y f h (some m) o e = this s l m n k (in-music (b, (y, f)) (first-why (s .notes) m l o)) e
+play-why ed s l n k b y f h none o e = absurd (never _ _ n k e)
+play-why ed s l n k b y f h (some m) o e = this ed s l m n k (in-music (b, (y, f)) (first-why ed (s .notes) m l o)) e
 
-music-why : (s : ScanState) (l : List ℕ) (n k : ℕ) → isLyric l ≡ false → isField l ≡ false → (b : Bool) → s .env .inHeader ≡ b → (h : Bool) → hasHigh l ≡ h
-    → act s (music h (effects l) l) b ≡ refuse n k → Refused s l n k
+music-why : (ed : Edition) (s : ScanState) (l : List ℕ) (n k : ℕ) → isLyric l ≡ false → isField l ≡ false → (b : Bool) → s .env .inHeader ≡ b → (h : Bool) → hasHigh l ≡ h
+    → act s (music h (effects ed l) l) b ≡ refuse n k → Refused ed s l n k
 unfolding act
-music-why s l n k y f true b h i e = absurd (never _ _ n k e)
-music-why s l n k y f false b true i e = this s l 6 n k (high-music (b, (y, f)) i) e
-music-why s l n k y f false b false i e = play-why s l n k b y f i (firstRefusal (s .notes) (effects l)) refl e
+music-why ed s l n k y f true b h i e = absurd (never _ _ n k e)
+music-why ed s l n k y f false b true i e = this ed s l 6 n k (high-music (b, (y, f)) i) e
+music-why ed s l n k y f false b false i e = play-why ed s l n k b y f i (firstRefusal (s .notes) (effects ed l)) refl e
 
 -- LINES
-line-why : (s : ScanState) (l : List ℕ) (n k : ℕ) → act s (lineKind l) (s .env .inHeader) ≡ refuse n k → Refused s l n k
+line-why : (ed : Edition) (s : ScanState) (l : List ℕ) (n k : ℕ) → act s (lineKind ed l) (s .env .inHeader) ≡ refuse n k → Refused ed s l n k
 unfolding lineKind act
-line-why s l n k =
+line-why ed s l n k =
     by (isNil l) blank _ (λ _ e. absurd (never _ _ n k e))
-    (λ _. by (ltb 1048576 (length l)) (refused 5) _ (λ h e. this s l 5 n k (long-line (ltb-true 1048576 (length l) h)) e)
+    (λ _. by (ltb 1048576 (length l)) (refused 5) _ (λ h e. this ed s l 5 n k (long-line (ltb-true 1048576 (length l) h)) e)
     (λ _. by (isLyric l) (lyric (drop 2 l)) _ (λ _ e. absurd (lyric-never s (drop 2 l) (s .env .inHeader) n k e))
-    (λ y. by (isField l) (fieldKind l) (music (hasHigh l) (effects l) l) (λ _. field-why s l n k)
-    (λ f. music-why s l n k y f (s .env .inHeader) refl (hasHigh l) refl))))
+    (λ y. by (isField l) (fieldKind ed l) (music (hasHigh l) (effects ed l) l) (λ _. field-why ed s l n k)
+    (λ f. music-why ed s l n k y f (s .env .inHeader) refl (hasHigh l) refl))))
   where
-    by : (b : Bool) (x y : Kind) → (b ≡ true → Comes s n k (Refused s l n k) x) → (b ≡ false → Comes s n k (Refused s l n k) y) → Comes s n k (Refused s l n k) (cond b x y)
-    by = either s n k (Refused s l n k)
+    by : (b : Bool) (x y : Kind) → (b ≡ true → Comes s n k (Refused ed s l n k) x) → (b ≡ false → Comes s n k (Refused ed s l n k) y) → Comes s n k (Refused ed s l n k) (cond b x y)
+    by = either s n k (Refused ed s l n k)
 
 -- A ROW THAT IS REFUSED has the condition of the refusal's number, and the next line's number
-pub row-why : (s : ScanState) (r : TextLine) (n k : ℕ) → step s r ≡ refuse n k → Refused s (clean r) n k
+pub row-why : (ed : Edition) (s : ScanState) (r : TextLine) (n k : ℕ) → step ed s r ≡ refuse n k → Refused ed s (clean r) n k
 unfolding step kindOf
-row-why s r n k e =
+row-why ed s r n k e =
     by-test (ltb (s .lines) mostLines)
-    (λ h. line-why s (clean r) n k (subst (λ (b : Bool). cond b (act s (kindOf r) (s .env .inHeader)) (refuse 4 (suc (s .lines))) ≡ refuse n k) h e))
-    (λ h. this s (clean r) 4 n k (many-lines (ltb-false (s .lines) mostLines h))
-    (subst (λ (b : Bool). cond b (act s (kindOf r) (s .env .inHeader)) (refuse 4 (suc (s .lines))) ≡ refuse n k) h e))
+    (λ h. line-why ed s (clean r) n k (subst (λ (b : Bool). cond b (act s (kindOf ed r) (s .env .inHeader)) (refuse 4 (suc (s .lines))) ≡ refuse n k) h e))
+    (λ h. this ed s (clean r) 4 n k (many-lines (ltb-false (s .lines) mostLines h))
+    (subst (λ (b : Bool). cond b (act s (kindOf ed r) (s .env .inHeader)) (refuse 4 (suc (s .lines))) ≡ refuse n k) h e))
 
 -- A LINE THAT HAS A CONDITION IS REFUSED: by the number of the condition, or by a smaller one
 abbrev Sooner : ScanState → Kind → ℕ → Type 0
@@ -186,30 +191,30 @@ two a b (x ∷ (y ∷ r)) h =
 abbrev NotLong : List ℕ → Type 0
 NotLong l = ltb 1048576 (length l) ≡ false
 
-kind-V : (r : List ℕ) → NotLong (86 ∷ (58 ∷ r)) → lineKind (86 ∷ (58 ∷ r)) ≡ cond (hasHigh r) (refused 6) (voiceKind r)
+kind-V : (ed : Edition) (r : List ℕ) → NotLong (86 ∷ (58 ∷ r)) → lineKind ed (86 ∷ (58 ∷ r)) ≡ cond (hasHigh r) (refused 6) (voiceKind r)
 unfolding lineKind fieldKind hasHigh
-kind-V r t = rw t
+kind-V ed r t = rw t
 
-kind-K : (r : List ℕ) → NotLong (75 ∷ (58 ∷ r)) → lineKind (75 ∷ (58 ∷ r)) ≡ cond (hasHigh r) (refused 6) (keyKind r)
+kind-K : (ed : Edition) (r : List ℕ) → NotLong (75 ∷ (58 ∷ r)) → lineKind ed (75 ∷ (58 ∷ r)) ≡ cond (hasHigh r) (refused 6) (keyKind ed r)
 unfolding lineKind fieldKind hasHigh
-kind-K r t = rw t
+kind-K ed r t = rw t
 
-kind-L : (r : List ℕ) → NotLong (76 ∷ (58 ∷ r)) → lineKind (76 ∷ (58 ∷ r)) ≡ cond (hasHigh r) (refused 6) (unit (unitOf r))
+kind-L : (ed : Edition) (r : List ℕ) → NotLong (76 ∷ (58 ∷ r)) → lineKind ed (76 ∷ (58 ∷ r)) ≡ cond (hasHigh r) (refused 6) (unit (unitOf r))
 unfolding lineKind fieldKind hasHigh
-kind-L r t = rw t
+kind-L ed r t = rw t
 
-kind-M : (r : List ℕ) → NotLong (77 ∷ (58 ∷ r)) → lineKind (77 ∷ (58 ∷ r)) ≡ cond (hasHigh r) (refused 6) (meter (meterOf r))
+kind-M : (ed : Edition) (r : List ℕ) → NotLong (77 ∷ (58 ∷ r)) → lineKind ed (77 ∷ (58 ∷ r)) ≡ cond (hasHigh r) (refused 6) (meter (meterOf r))
 unfolding lineKind fieldKind hasHigh
-kind-M r t = rw t
+kind-M ed r t = rw t
 
-kind-X : (r : List ℕ) → NotLong (88 ∷ (58 ∷ r)) → lineKind (88 ∷ (58 ∷ r)) ≡ tune
+kind-X : (ed : Edition) (r : List ℕ) → NotLong (88 ∷ (58 ∷ r)) → lineKind ed (88 ∷ (58 ∷ r)) ≡ tune
 unfolding lineKind fieldKind
-kind-X r t = rw t
+kind-X ed r t = rw t
 
 -- a line that is no lyric line and no field is music
-kind-music : (c : ℕ) (l : List ℕ) → NotLong (c ∷ l) → isLyric (c ∷ l) ≡ false → isField (c ∷ l) ≡ false → lineKind (c ∷ l) ≡ music (hasHigh (c ∷ l)) (effects (c ∷ l)) (c ∷ l)
+kind-music : (ed : Edition) (c : ℕ) (l : List ℕ) → NotLong (c ∷ l) → isLyric (c ∷ l) ≡ false → isField (c ∷ l) ≡ false → lineKind ed (c ∷ l) ≡ music (hasHigh (c ∷ l)) (effects ed (c ∷ l)) (c ∷ l)
 unfolding lineKind
-kind-music c l t y f = rw t (rw y (rw f))
+kind-music ed c l t y f = rw t (rw y (rw f))
 
 -- refusal 6 of such a line, and what comes behind it
 six : (s : ScanState) (n : ℕ) (k : Kind) (h : Bool) (x : Kind) → 6 ≤ n → k ≡ cond h (refused 6) x → (h ≡ false → Sooner s x n) → Sooner s k n
@@ -240,9 +245,10 @@ ten s w b m =
     by-test (elem w (voicesBefore s)) (λ e. (10, (omega arith, rw (e, m))))
     (λ e. by-test (leb mostVoices (length (voicesBefore s))) (λ f. (9, (omega arith, rw (e, f)))) (λ f. (10, (omega arith, rw (e, f, m)))))
 
-ten-K : (s : ScanState) (v : List ℕ) → middleWord v ≡ true → Sooner s (keyKind v) 10
-unfolding keyKind act
-ten-K s v m = (10, (omega arith, rw (m, keyKind)))
+-- K lines: 10 or 21
+key-refused : (ed : Edition) (s : ScanState) (v : List ℕ) (n : ℕ) → KeyMeets ed v n → Sooner s (keyKind ed v) n
+unfolding keyKind kindUnless act
+key-refused ed s v n m = (n, (omega arith, rw (key-field-meets ed v n m, kindUnless)))
 
 seven : (s : ScanState) → s .env .inHeader ≡ false → Sooner s tune 7
 unfolding act
@@ -258,97 +264,97 @@ unfolding act playOn
 music-first s es l n h b e f = (n, (omega arith, rw (e, b, f)))
 
 -- no condition but that of 4 is below 5
-above-four : (s : ScanState) (l : List ℕ) (n : ℕ) → ltb (s .lines) mostLines ≡ true → Why s l n → 5 ≤ n
-above-four s l n t (many-lines h) = absurd (omega (arith, h, ltb-true (s .lines) mostLines t))
-above-four s l n t (long-line h) = omega arith
-above-four s l n t (high-field f h) = omega arith
-above-four s l n t (high-music f h) = omega arith
-above-four s l n t (second-tune b x) = omega arith
-above-four s l n t (no-identifier v i) = omega arith
-above-four s l n t (many-voices v e h) = omega arith
-above-four s l n t (middle-V v m) = omega arith
-above-four s l n t (middle-K v m) = omega arith
-above-four s l n t (in-music f q) = omega (arith, music-range (s .notes) n l q .0)
+above-four : (ed : Edition) (s : ScanState) (l : List ℕ) (n : ℕ) → ltb (s .lines) mostLines ≡ true → Why ed s l n → 5 ≤ n
+above-four ed s l n t (many-lines h) = absurd (omega (arith, h, ltb-true (s .lines) mostLines t))
+above-four ed s l n t (long-line h) = omega arith
+above-four ed s l n t (high-field f h) = omega arith
+above-four ed s l n t (high-music f h) = omega arith
+above-four ed s l n t (second-tune b x) = omega arith
+above-four ed s l n t (no-identifier v i) = omega arith
+above-four ed s l n t (many-voices v e h) = omega arith
+above-four ed s l n t (middle-V v m) = omega arith
+above-four ed s l n t (key-line v m) = omega (arith, key-field-range ed (drop 2 l) n m .0)
+above-four ed s l n t (in-music f q) = omega (arith, music-range ed (s .notes) n l q .0)
 
 -- an empty line has no other
-none-empty : (s : ScanState) (n : ℕ) → ltb (s .lines) mostLines ≡ true → Why s [] n → ⊥
+none-empty : (ed : Edition) (s : ScanState) (n : ℕ) → ltb (s .lines) mostLines ≡ true → Why ed s [] n → ⊥
 unfolding hasHigh
-none-empty s n t (many-lines h) = absurd (omega (arith, h, ltb-true (s .lines) mostLines t))
-none-empty s n t (long-line h) = absurd (omega (arith, h))
-none-empty s n t (high-field f h) = false≢true h
-none-empty s n t (high-music f h) = false≢true h
-none-empty s n t (second-tune b x) = false≢true x
-none-empty s n t (no-identifier v i) = false≢true v
-none-empty s n t (many-voices v e h) = false≢true v
-none-empty s n t (middle-V v m) = false≢true v
-none-empty s n t (middle-K v m) = false≢true v
-none-empty s n t (in-music f q) = omega (arith, q .inside)
+none-empty ed s n t (many-lines h) = absurd (omega (arith, h, ltb-true (s .lines) mostLines t))
+none-empty ed s n t (long-line h) = absurd (omega (arith, h))
+none-empty ed s n t (high-field f h) = false≢true h
+none-empty ed s n t (high-music f h) = false≢true h
+none-empty ed s n t (second-tune b x) = false≢true x
+none-empty ed s n t (no-identifier v i) = false≢true v
+none-empty ed s n t (many-voices v e h) = false≢true v
+none-empty ed s n t (middle-V v m) = false≢true v
+none-empty ed s n t (key-line v m) = false≢true v
+none-empty ed s n t (in-music f q) = omega (arith, q .inside)
 
 -- where the letter and the colon are known
-module _ (s : ScanState) (n : ℕ) (l : List ℕ) where
+module _ (ed : Edition) (s : ScanState) (n : ℕ) (l : List ℕ) where
   abbrev Line : Type 0
-  Line = Sooner s (lineKind l) n
+  Line = Sooner s (lineKind ed l) n
 
-  from-two : (a : ℕ) → begins a 58 l ≡ true → NotLong l → ((r : List ℕ) → l ≡ a ∷ (58 ∷ r) → NotLong (a ∷ (58 ∷ r)) → Sooner s (lineKind (a ∷ (58 ∷ r))) n) → Line
+  from-two : (a : ℕ) → begins a 58 l ≡ true → NotLong l → ((r : List ℕ) → l ≡ a ∷ (58 ∷ r) → NotLong (a ∷ (58 ∷ r)) → Sooner s (lineKind ed (a ∷ (58 ∷ r))) n) → Line
   from-two a h t f =
       let q = two a 58 l h in
-      subst (λ (z : List ℕ). Sooner s (lineKind z) n) (sym (q .1)) (f (q .0) (q .1) (subst NotLong (q .1) t))
+      subst (λ (z : List ℕ). Sooner s (lineKind ed z) n) (sym (q .1)) (f (q .0) (q .1) (subst NotLong (q .1) t))
 
-high-field-line : (s : ScanState) (l : List ℕ) → NotLong l → hasHigh l ≡ true → (isV l || isK l || isL l || isM l) ≡ true → Sooner s (lineKind l) 6
+high-field-line : (ed : Edition) (s : ScanState) (l : List ℕ) → NotLong l → hasHigh l ≡ true → (isV l || isK l || isL l || isM l) ≡ true → Sooner s (lineKind ed l) 6
 unfolding hasHigh
-high-field-line s l t h f =
+high-field-line ed s l t h f =
     ⊎-elim
     (λ f. ⊎-elim
-    (λ f. ⊎-elim (λ v. from-two s 6 l 86 v t (λ r e u. high-six s _ _ (hasHigh r) (kind-V r u) (subst (λ (z : List ℕ). hasHigh z ≡ true) e h)))
-    (λ v. from-two s 6 l 75 v t (λ r e u. high-six s _ _ (hasHigh r) (kind-K r u) (subst (λ (z : List ℕ). hasHigh z ≡ true) e h))) (or-either (isV l) (isK l) f))
-    (λ v. from-two s 6 l 76 v t (λ r e u. high-six s _ _ (hasHigh r) (kind-L r u) (subst (λ (z : List ℕ). hasHigh z ≡ true) e h))) (or-either (isV l || isK l) (isL l) f))
-    (λ v. from-two s 6 l 77 v t (λ r e u. high-six s _ _ (hasHigh r) (kind-M r u) (subst (λ (z : List ℕ). hasHigh z ≡ true) e h))) (or-either (isV l || isK l || isL l) (isM l) f)
+    (λ f. ⊎-elim (λ v. from-two ed s 6 l 86 v t (λ r e u. high-six s _ _ (hasHigh r) (kind-V ed r u) (subst (λ (z : List ℕ). hasHigh z ≡ true) e h)))
+    (λ v. from-two ed s 6 l 75 v t (λ r e u. high-six s _ _ (hasHigh r) (kind-K ed r u) (subst (λ (z : List ℕ). hasHigh z ≡ true) e h))) (or-either (isV l) (isK l) f))
+    (λ v. from-two ed s 6 l 76 v t (λ r e u. high-six s _ _ (hasHigh r) (kind-L ed r u) (subst (λ (z : List ℕ). hasHigh z ≡ true) e h))) (or-either (isV l || isK l) (isL l) f))
+    (λ v. from-two ed s 6 l 77 v t (λ r e u. high-six s _ _ (hasHigh r) (kind-M ed r u) (subst (λ (z : List ℕ). hasHigh z ≡ true) e h))) (or-either (isV l || isK l || isL l) (isM l) f)
 
 -- by its condition, in a line that is not too long
-by-condition : (s : ScanState) (c : ℕ) (l : List ℕ) (n : ℕ) → ltb (s .lines) mostLines ≡ true → NotLong (c ∷ l) → Why s (c ∷ l) n → Sooner s (lineKind (c ∷ l)) n
-by-condition s c l n t u (many-lines h) = absurd (omega (arith, h, ltb-true (s .lines) mostLines t))
-by-condition s c l n t u (long-line h) = absurd (both-true (ltb 1048576 (length (c ∷ l))) (lt-ltb 1048576 (length (c ∷ l)) h) u)
-by-condition s c l n t u (high-field f h) = high-field-line s (c ∷ l) u h f
-by-condition s c l n t u (high-music (b, (y, f)) h) = subst (λ (z : Kind). Sooner s z 6) (sym (kind-music c l u y f)) (music-six s _ _ 6 (hasHigh (c ∷ l)) (omega arith) b h)
-by-condition s c l n t u (second-tune b x) = from-two s 7 (c ∷ l) 88 x u (λ r e w. subst (λ (z : Kind). Sooner s z 7) (sym (kind-X r w)) (seven s b))
-by-condition s c l n t u (no-identifier v i) =
-    from-two s 8 (c ∷ l) 86 v u
-    (λ r e w. six s 8 _ (hasHigh r) _ (omega arith) (kind-V r w)
+by-condition : (ed : Edition) (s : ScanState) (c : ℕ) (l : List ℕ) (n : ℕ) → ltb (s .lines) mostLines ≡ true → NotLong (c ∷ l) → Why ed s (c ∷ l) n → Sooner s (lineKind ed (c ∷ l)) n
+by-condition ed s c l n t u (many-lines h) = absurd (omega (arith, h, ltb-true (s .lines) mostLines t))
+by-condition ed s c l n t u (long-line h) = absurd (both-true (ltb 1048576 (length (c ∷ l))) (lt-ltb 1048576 (length (c ∷ l)) h) u)
+by-condition ed s c l n t u (high-field f h) = high-field-line ed s (c ∷ l) u h f
+by-condition ed s c l n t u (high-music (b, (y, f)) h) = subst (λ (z : Kind). Sooner s z 6) (sym (kind-music ed c l u y f)) (music-six s _ _ 6 (hasHigh (c ∷ l)) (omega arith) b h)
+by-condition ed s c l n t u (second-tune b x) = from-two ed s 7 (c ∷ l) 88 x u (λ r e w. subst (λ (z : Kind). Sooner s z 7) (sym (kind-X ed r w)) (seven s b))
+by-condition ed s c l n t u (no-identifier v i) =
+    from-two ed s 8 (c ∷ l) 86 v u
+    (λ r e w. six s 8 _ (hasHigh r) _ (omega arith) (kind-V ed r w)
     (λ h. eight s r 8 (omega arith) (λ j. absurd (both-true (isNil (identifier r)) (subst (λ (z : List ℕ). isNil (identifier (drop 2 z)) ≡ true) e i) j))))
-by-condition s c l n t u (many-voices v i m) =
-    from-two s 9 (c ∷ l) 86 v u
-    (λ r e w. six s 9 _ (hasHigh r) _ (omega arith) (kind-V r w)
+by-condition ed s c l n t u (many-voices v i m) =
+    from-two ed s 9 (c ∷ l) 86 v u
+    (λ r e w. six s 9 _ (hasHigh r) _ (omega arith) (kind-V ed r w)
     (λ h. eight s r 9 (omega arith) (λ j. nine s (identifier r) (middleWord r) (subst (λ (z : List ℕ). elem (identifier (drop 2 z)) (voicesBefore s) ≡ false) e i) m)))
-by-condition s c l n t u (middle-V v m) =
-    from-two s 10 (c ∷ l) 86 v u
-    (λ r e w. six s 10 _ (hasHigh r) _ (omega arith) (kind-V r w)
+by-condition ed s c l n t u (middle-V v m) =
+    from-two ed s 10 (c ∷ l) 86 v u
+    (λ r e w. six s 10 _ (hasHigh r) _ (omega arith) (kind-V ed r w)
     (λ h. eight s r 10 (omega arith) (λ j. ten s (identifier r) (middleWord r) (subst (λ (z : List ℕ). middleWord (drop 2 z) ≡ true) e m))))
-by-condition s c l n t u (middle-K v m) =
-    from-two s 10 (c ∷ l) 75 v u
-    (λ r e w. six s 10 _ (hasHigh r) _ (omega arith) (kind-K r w) (λ h. ten-K s r (subst (λ (z : List ℕ). middleWord (drop 2 z) ≡ true) e m)))
-by-condition s c l n t u (in-music (b, (y, f)) q) =
-    subst (λ (z : Kind). Sooner s z n) (sym (kind-music c l u y f))
-    (by-test (hasHigh (c ∷ l)) (λ h. music-six s _ _ n (hasHigh (c ∷ l)) (omega (arith, music-range (s .notes) n (c ∷ l) q .0)) b h)
-    (λ h. music-first s _ _ n (hasHigh (c ∷ l)) b h (music-meets (s .notes) n (c ∷ l) q)))
+by-condition ed s c l n t u (key-line v m) =
+    from-two ed s n (c ∷ l) 75 v u
+    (λ r e w. six s n _ (hasHigh r) _ (omega (arith, key-field-range ed (drop 2 (c ∷ l)) n m .0)) (kind-K ed r w) (λ h. key-refused ed s r n (subst (λ (z : List ℕ). KeyMeets ed (drop 2 z) n) e m)))
+by-condition ed s c l n t u (in-music (b, (y, f)) q) =
+    subst (λ (z : Kind). Sooner s z n) (sym (kind-music ed c l u y f))
+    (by-test (hasHigh (c ∷ l)) (λ h. music-six s _ _ n (hasHigh (c ∷ l)) (omega (arith, music-range ed (s .notes) n (c ∷ l) q .0)) b h)
+    (λ h. music-first s _ _ n (hasHigh (c ∷ l)) b h (music-meets ed (s .notes) n (c ∷ l) q)))
 
-line-meets : (s : ScanState) (l : List ℕ) (n : ℕ) → ltb (s .lines) mostLines ≡ true → Why s l n → Sooner s (lineKind l) n
+line-meets : (ed : Edition) (s : ScanState) (l : List ℕ) (n : ℕ) → ltb (s .lines) mostLines ≡ true → Why ed s l n → Sooner s (lineKind ed l) n
 unfolding lineKind act
-line-meets s [] n t w = absurd (none-empty s n t w)
-line-meets s (c ∷ l) n t w =
-    by-test (ltb 1048576 (length (c ∷ l))) (λ h. five h) (λ h. by-condition s c l n t h w)
+line-meets ed s [] n t w = absurd (none-empty ed s n t w)
+line-meets ed s (c ∷ l) n t w =
+    by-test (ltb 1048576 (length (c ∷ l))) (λ h. five h) (λ h. by-condition ed s c l n t h w)
   where
-    five : ltb 1048576 (length (c ∷ l)) ≡ true → Sooner s (lineKind (c ∷ l)) n
-    five h = (5, (above-four s (c ∷ l) n t w, rw (h, lineKind)))
+    five : ltb 1048576 (length (c ∷ l)) ≡ true → Sooner s (lineKind ed (c ∷ l)) n
+    five h = (5, (above-four ed s (c ∷ l) n t w, rw (h, lineKind)))
 
 -- a row that has a condition is refused, by the number of the first of them
-pub row-meets : (s : ScanState) (r : TextLine) (n : ℕ) → Why s (clean r) n → (m : ℕ) × ((m ≤ n) × (step s r ≡ refuse m (suc (s .lines))))
+pub row-meets : (ed : Edition) (s : ScanState) (r : TextLine) (n : ℕ) → Why ed s (clean r) n → (m : ℕ) × ((m ≤ n) × (step ed s r ≡ refuse m (suc (s .lines))))
 unfolding step kindOf
-row-meets s r n w =
+row-meets ed s r n w =
     by-test (ltb (s .lines) mostLines)
-    (λ t. let q = line-meets s (clean r) n t w in (q .0, (q .1 .0, ap (λ (b : Bool). cond b (act s (kindOf r) (s .env .inHeader)) (refuse 4 (suc (s .lines)))) t ∙ q .1 .1)))
-    (λ t. (4, (four-least s (clean r) n w, ap (λ (b : Bool). cond b (act s (kindOf r) (s .env .inHeader)) (refuse 4 (suc (s .lines)))) t)))
+    (λ t. let q = line-meets ed s (clean r) n t w in (q .0, (q .1 .0, ap (λ (b : Bool). cond b (act s (kindOf ed r) (s .env .inHeader)) (refuse 4 (suc (s .lines)))) t ∙ q .1 .1)))
+    (λ t. (4, (four-least s (clean r) n w, ap (λ (b : Bool). cond b (act s (kindOf ed r) (s .env .inHeader)) (refuse 4 (suc (s .lines)))) t)))
   where
-    four-least : (s : ScanState) (l : List ℕ) (n : ℕ) → Why s l n → 4 ≤ n
+    four-least : (s : ScanState) (l : List ℕ) (n : ℕ) → Why ed s l n → 4 ≤ n
     four-least s l n (many-lines h) = omega arith
     four-least s l n (long-line h) = omega arith
     four-least s l n (high-field f h) = omega arith
@@ -357,25 +363,25 @@ row-meets s r n w =
     four-least s l n (no-identifier v i) = omega arith
     four-least s l n (many-voices v e h) = omega arith
     four-least s l n (middle-V v m) = omega arith
-    four-least s l n (middle-K v m) = omega arith
-    four-least s l n (in-music f q) = omega (arith, music-range (s .notes) n l q .0)
+    four-least s l n (key-line v m) = omega (arith, key-field-range ed (drop 2 l) n m .0)
+    four-least s l n (in-music f q) = omega (arith, music-range ed (s .notes) n l q .0)
 
 same-number : (a b k l : ℕ) → _≡_ {A = Out} (refuse a k) (refuse b l) → a ≡ b
 unfolding number-of
 same-number a b k l e = ap number-of e
 
 -- A ROW IS REFUSED BY n just where n is the first number whose condition it has
-pub row-first : (s : ScanState) (r : TextLine) (n k : ℕ) → step s r ≡ refuse n k → First s (clean r) n × (k ≡ suc (s .lines))
-row-first s r n k e =
-    let w = row-why s r n k e in
-    ((w .0, λ m less u. let q = row-meets s r m u in absurd (omega (arith, less, q .1 .0, same-number n (q .0) k (suc (s .lines)) (sym e ∙ q .1 .1)))), w .1)
+pub row-first : (ed : Edition) (s : ScanState) (r : TextLine) (n k : ℕ) → step ed s r ≡ refuse n k → Smallest ed s (clean r) n × (k ≡ suc (s .lines))
+row-first ed s r n k e =
+    let w = row-why ed s r n k e in
+    ((w .0, λ m less u. let q = row-meets ed s r m u in absurd (omega (arith, less, q .1 .0, same-number n (q .0) k (suc (s .lines)) (sym e ∙ q .1 .1)))), w .1)
 
-pub first-row : (s : ScanState) (r : TextLine) (n : ℕ) → First s (clean r) n → step s r ≡ refuse n (suc (s .lines))
-first-row s r n (w, least) = go (row-meets s r n w)
+pub first-row : (ed : Edition) (s : ScanState) (r : TextLine) (n : ℕ) → Smallest ed s (clean r) n → step ed s r ≡ refuse n (suc (s .lines))
+first-row ed s r n (w, least) = go (row-meets ed s r n w)
   where
-    go : (m : ℕ) × ((m ≤ n) × (step s r ≡ refuse m (suc (s .lines)))) → step s r ≡ refuse n (suc (s .lines))
+    go : (m : ℕ) × ((m ≤ n) × (step ed s r ≡ refuse m (suc (s .lines)))) → step ed s r ≡ refuse n (suc (s .lines))
     go (m, (le, e)) =
-        by-test (ltb m n) (λ h. absurd (least m (ltb-true m n h) (row-why s r m (suc (s .lines)) e .0)))
+        by-test (ltb m n) (λ h. absurd (least m (ltb-true m n h) (row-why ed s r m (suc (s .lines)) e .0)))
         (λ h. let q : m ≡ n = omega (arith, le, ltb-false m n h) in e ∙ ap (λ (x : ℕ). refuse x (suc (s .lines))) q)
 
 after-first : (a : Items) (o : Out) (n k : ℕ) → first a o ≡ refuse n k → o ≡ refuse n k
@@ -383,28 +389,28 @@ after-first a (refuse m l) n k e = e
 after-first a (on t b) n k e = absurd (never t (a ++ b) n k e)
 
 -- what the rows behind one come to
-abbrev onward : List TextLine → Out → Out
-onward rs (refuse n l) = refuse n l
-onward rs (on t a) = first a (run step t rs)
+abbrev onward : Edition → List TextLine → Out → Out
+onward ed rs (refuse n l) = refuse n l
+onward ed rs (on t a) = first a (run (step ed) t rs)
 
-cons-is : (x : Out) (rs : List TextLine) → _≡_ {A = Out} (elim x as (λ _. Out) [ refuse n l ↦ refuse n l | on t a ↦ first a (run step t rs) ]) (onward rs x)
-cons-is (refuse n l) rs = refl
-cons-is (on t a) rs = refl
+cons-is : (ed : Edition) (x : Out) (rs : List TextLine) → _≡_ {A = Out} (elim x as (λ _. Out) [ refuse n l ↦ refuse n l | on t a ↦ first a (run (step ed) t rs) ]) (onward ed rs x)
+cons-is ed (refuse n l) rs = refl
+cons-is ed (on t a) rs = refl
 
-run-cons : (s : ScanState) (r : TextLine) (rs : List TextLine) → run step s (r ∷ rs) ≡ onward rs (step s r)
-run-cons s r rs = cons-is (step s r) rs
+run-cons : (ed : Edition) (s : ScanState) (r : TextLine) (rs : List TextLine) → run (step ed) s (r ∷ rs) ≡ onward ed rs (step ed s r)
+run-cons ed s r rs = cons-is ed (step ed s r) rs
 
-rows-why : (rs : List TextLine) (s : ScanState) (n k : ℕ) → run step s rs ≡ refuse n k → At s rs n k
-rows-why [] s n k e = absurd (never s [] n k e)
-rows-why (r ∷ rs) s n k e = go (λ t. rows-why rs t n k) (step s r) refl (sym (run-cons s r rs) ∙ e)
+rows-why : (ed : Edition) (rs : List TextLine) (s : ScanState) (n k : ℕ) → run (step ed) s rs ≡ refuse n k → At ed s rs n k
+rows-why ed [] s n k e = absurd (never s [] n k e)
+rows-why ed (r ∷ rs) s n k e = go (λ t. rows-why ed rs t n k) (step ed s r) refl (sym (run-cons ed s r rs) ∙ e)
   where
-    go : ((t : ScanState) → run step t rs ≡ refuse n k → At t rs n k) → (x : Out) → step s r ≡ x → onward rs x ≡ refuse n k → At s (r ∷ rs) n k
+    go : ((t : ScanState) → run (step ed) t rs ≡ refuse n k → At ed t rs n k) → (x : Out) → step ed s r ≡ x → onward ed rs x ≡ refuse n k → At ed s (r ∷ rs) n k
     go later (refuse m l) x e =
-        let w = row-first s r n k (x ∙ e) in
+        let w = row-first ed s r n k (x ∙ e) in
         record { before = []; row = r; behind = rs; state = s; items = []; are = refl; pass = refl; why = w .0; line = omega (arith, w .1) }
     go later (on t a) x e =
-        let q : At t rs n k = later t (after-first a (run step t rs) n k e) in
-        let l : t .lines ≡ suc (s .lines) = laws .line s t r a x in
+        let q : At ed t rs n k = later t (after-first a (run (step ed) t rs) n k e) in
+        let l : t .lines ≡ suc (s .lines) = laws ed .line s t r a x in
         record {
           before = r ∷ q .before;
           row = q .row;
@@ -412,7 +418,7 @@ rows-why (r ∷ rs) s n k e = go (λ t. rows-why rs t n k) (step s r) refl (sym 
           state = q .state;
           items = a ++ q .items;
           are = ap (λ (z : List TextLine). r ∷ z) (q .are);
-          pass = run-cons s r (q .before) ∙ ap (onward (q .before)) x ∙ ap (first a) (q .pass);
+          pass = run-cons ed s r (q .before) ∙ ap (onward ed (q .before)) x ∙ ap (first a) (q .pass);
           why = q .why;
           line = omega (arith, q .line, l);
         }
@@ -422,12 +428,12 @@ state-of : Out → ScanState
 state-of (refuse n l) = begin
 state-of (on s a) = s
 
-refused-behind : (xs : List TextLine) (r : TextLine) (bs : List TextLine) (s t : ScanState) (a : Items) (n k : ℕ) → run step s xs ≡ on t a → step t r ≡ refuse n k → run step s (xs ++ (r ∷ bs)) ≡ refuse n k
+refused-behind : (ed : Edition) (xs : List TextLine) (r : TextLine) (bs : List TextLine) (s t : ScanState) (a : Items) (n k : ℕ) → run (step ed) s xs ≡ on t a → step ed t r ≡ refuse n k → run (step ed) s (xs ++ (r ∷ bs)) ≡ refuse n k
 unfolding state-of is-on
-refused-behind [] r bs s t a n k p e =
+refused-behind ed [] r bs s t a n k p e =
     let q : s ≡ t = ap state-of p in
-    run-cons s r bs ∙ ap (onward bs) (ap (λ (z : ScanState). step z r) q ∙ e)
-refused-behind (x ∷ xs) r bs s t a n k p e = go (λ u. refused-behind xs r bs u t) (step s x) refl (sym (run-cons s x xs) ∙ p)
+    run-cons ed s r bs ∙ ap (onward ed bs) (ap (λ (z : ScanState). step ed z r) q ∙ e)
+refused-behind ed (x ∷ xs) r bs s t a n k p e = go (λ u. refused-behind ed xs r bs u t) (step ed s x) refl (sym (run-cons ed s x xs) ∙ p)
   where
     not-on : (m l : ℕ) → _≡_ {A = Out} (refuse m l) (on t a) → ⊥
     not-on m l e = let z : _≡_ {A = ℕ} 0 1 = ap is-on e in absurd (omega (arith, z))
@@ -436,22 +442,22 @@ refused-behind (x ∷ xs) r bs s t a n k p e = go (λ u. refused-behind xs r bs 
     state b (refuse m l) e = absurd (not-on m l e)
     state b (on u c) e = (c, ap (λ (z : ScanState). on z c) (ap state-of e))
 
-    go : ((u : ScanState) (a : Items) (n k : ℕ) → run step u xs ≡ on t a → step t r ≡ refuse n k → run step u (xs ++ (r ∷ bs)) ≡ refuse n k)
-        → (o : Out) → step s x ≡ o → onward xs o ≡ on t a → run step s (x ∷ (xs ++ (r ∷ bs))) ≡ refuse n k
+    go : ((u : ScanState) (a : Items) (n k : ℕ) → run (step ed) u xs ≡ on t a → step ed t r ≡ refuse n k → run (step ed) u (xs ++ (r ∷ bs)) ≡ refuse n k)
+        → (o : Out) → step ed s x ≡ o → onward ed xs o ≡ on t a → run (step ed) s (x ∷ (xs ++ (r ∷ bs))) ≡ refuse n k
     go later (refuse m l) o p = absurd (not-on m l p)
     go later (on u b) o p =
-        let q = state b (run step u xs) p in
-        run-cons s x (xs ++ (r ∷ bs)) ∙ ap (onward (xs ++ (r ∷ bs))) o ∙ ap (first b) (later u (q .0) n k (q .1) e)
+        let q = state b (run (step ed) u xs) p in
+        run-cons ed s x (xs ++ (r ∷ bs)) ∙ ap (onward ed (xs ++ (r ∷ bs))) o ∙ ap (first b) (later u (q .0) n k (q .1) e)
 
-lines-after : (xs : List TextLine) (s t : ScanState) (a : Items) → run step s xs ≡ on t a → t .lines ≡ s .lines + length xs
-lines-after xs s t a e = run-lines reader laws (run-of reader xs s t a e)
+lines-after : (ed : Edition) (xs : List TextLine) (s t : ScanState) (a : Items) → run (step ed) s xs ≡ on t a → t .lines ≡ s .lines + length xs
+lines-after ed xs s t a e = run-lines (reader ed) (laws ed) (run-of (reader ed) xs s t a e)
 
-rows-meet : (rs : List TextLine) (s : ScanState) (n k : ℕ) → At s rs n k → run step s rs ≡ refuse n k
-rows-meet rs s n k q =
-    let l = lines-after (q .before) s (q .state) (q .items) (q .pass) in
+rows-meet : (ed : Edition) (rs : List TextLine) (s : ScanState) (n k : ℕ) → At ed s rs n k → run (step ed) s rs ≡ refuse n k
+rows-meet ed rs s n k q =
+    let l = lines-after ed (q .before) s (q .state) (q .items) (q .pass) in
     let j : suc (q .state .lines) ≡ k = omega (arith, l, q .line) in
-    ap (run step s) (q .are)
-    ∙ refused-behind (q .before) (q .row) (q .behind) s (q .state) (q .items) n k (q .pass) (first-row (q .state) (q .row) n (q .why) ∙ ap (λ (i : ℕ). refuse n i) j)
+    ap (run (step ed) s) (q .are)
+    ∙ refused-behind ed (q .before) (q .row) (q .behind) s (q .state) (q .items) n k (q .pass) (first-row ed (q .state) (q .row) n (q .why) ∙ ap (λ (i : ℕ). refuse n i) j)
 
 -- a refusal's number and line
 number-in : Verdict → ℕ
@@ -466,25 +472,25 @@ read-in : Verdict → ℕ
 read-in (refusal n l) = 0
 read-in (reading ps) = 1
 
-module _ (text : List ℕ) (rl sl : ℕ) where
+module _ (ed : Edition) (text : List ℕ) (rl sl : ℕ) where
   abbrev Justified : Outcome → Type 0
-  Justified w = (n l : ℕ) → w .verdict ≡ refusal n l → Reason text rl sl n l
+  Justified w = (n l : ℕ) → w .verdict ≡ refusal n l → Reason ed text rl sl n l
 
-  so : (a b : ℕ) → Reason text rl sl a b → Justified (refusedWith a b rl sl)
+  so : (a b : ℕ) → Reason ed text rl sl a b → Justified (refusedWith a b rl sl)
   unfolding refusedWith number-in line-in
-  so a b r n l e = subst (λ (x : ℕ). Reason text rl sl n x) (ap line-in e) (subst (λ (x : ℕ). Reason text rl sl x b) (ap number-in e) r)
+  so a b r n l e = subst (λ (x : ℕ). Reason ed text rl sl n x) (ap line-in e) (subst (λ (x : ℕ). Reason ed text rl sl x b) (ap number-in e) r)
 
-  scan-so : Begins text sl → (o : Out) → scan (textLines text) ≡ o → Justified (scanned rl sl o)
+  scan-so : Begins text sl → (o : Out) → scan ed (textLines text) ≡ o → Justified (scanned ed rl sl o)
   unfolding scanned finish ended written read-in scan
-  scan-so b (refuse m k) e = so m k (at-line b (rows-why (textLines text) begin m k e))
+  scan-so b (refuse m k) e = so m k (at-line b (rows-why ed (textLines text) begin m k e))
   scan-so b (on t a) e =
-      by-test (leb 1 (sum measureCount (partsAfter t a)))
+      by-test (leb 1 (sum measureCount (partsAfter ed t a)))
       (λ m. rw m
-      (by-test (leb (length (encode (partsAfter t a))) rl) (λ k. rw k (λ n l h. absurd (let z : _≡_ {A = ℕ} 1 0 = ap read-in h in omega (arith, z))))
-      (λ k. rw k (so 16 0 (short-reading t a b e (leb-true 1 (sum measureCount (partsAfter t a)) m) (leb-false (length (encode (partsAfter t a))) rl k))))))
-      (λ m. rw m (so 1 0 (no-measure t a b e (omega (arith, leb-false 1 (sum measureCount (partsAfter t a)) m)))))
+      (by-test (leb (length (encode (partsAfter ed t a))) rl) (λ k. rw k (λ n l h. absurd (let z : _≡_ {A = ℕ} 1 0 = ap read-in h in omega (arith, z))))
+      (λ k. rw k (so 16 0 (short-reading t a b e (leb-true 1 (sum measureCount (partsAfter ed t a)) m) (leb-false (length (encode (partsAfter ed t a))) rl k))))))
+      (λ m. rw m (so 1 0 (no-measure t a b e (omega (arith, leb-false 1 (sum measureCount (partsAfter ed t a)) m)))))
 
-  justified : Justified (parseAbc text rl sl)
+  justified : Justified (parseAbc ed text rl sl)
   unfolding parseAbc early unless
   justified =
       by-test (leb (length text) mostBytes)
@@ -494,71 +500,107 @@ module _ (text : List ℕ) (rl sl : ℕ) where
       (by-test (isBlank text) (λ c. rw c (so 1 0 (blank-text (leb-true (length text) mostBytes a) b c)))
       (λ c. rw c
       (by-test (leb (scratchNeeded (length text)) sl)
-      (λ d. rw d (scan-so (record { short = leb-true (length text) mostBytes a; utf8 = b; not-blank = c; scratch = leb-true (scratchNeeded (length text)) sl d }) (scan (textLines text)) refl))
+      (λ d. rw d (scan-so (record { short = leb-true (length text) mostBytes a; utf8 = b; not-blank = c; scratch = leb-true (scratchNeeded (length text)) sl d }) (scan ed (textLines text)) refl))
       (λ d. rw d (so 15 0 (short-scratch (leb-true (length text) mostBytes a) b c (leb-false (scratchNeeded (length text)) sl d))))))))
       (λ b. rw b (so 3 0 (not-utf8 (leb-true (length text) mostBytes a) b)))))
       (λ a. rw a (so 2 0 (long-text (leb-false (length text) mostBytes a))))
 
   -- what follows where the four tests before the first line are passed
-  pub after-tests : Begins text sl → parseAbc text rl sl ≡ scanned rl sl (scan (textLines text))
+  pub after-tests : Begins text sl → parseAbc ed text rl sl ≡ scanned ed rl sl (scan ed (textLines text))
   unfolding parseAbc early unless
   after-tests b = rw (le-leb (length text) mostBytes (b .short)) (rw (b .utf8) (rw (b .not-blank) (rw (le-leb (scratchNeeded (length text)) sl (b .scratch)))))
 
-  meets : (n l : ℕ) → Reason text rl sl n l → parseAbc text rl sl ≡ refusedWith n l rl sl
+  meets : (n l : ℕ) → Reason ed text rl sl n l → parseAbc ed text rl sl ≡ refusedWith n l rl sl
   unfolding parseAbc early unless scanned finish ended scan
   meets n l (long-text h) = rw (lt-leb (length text) mostBytes h)
   meets n l (not-utf8 a b) = rw (le-leb (length text) mostBytes a) (rw b)
   meets n l (blank-text a b c) = rw (le-leb (length text) mostBytes a) (rw b (rw c))
   meets n l (short-scratch a b c d) = rw (le-leb (length text) mostBytes a) (rw b (rw c (rw (lt-leb (scratchNeeded (length text)) sl d))))
-  meets n l (at-line b q) = after-tests b ∙ ap (scanned rl sl) (rows-meet (textLines text) begin n l q)
-  meets n l (no-measure t a b e m) = after-tests b ∙ ap (scanned rl sl) e ∙ rw m
-  meets n l (short-reading t a b e m h) = after-tests b ∙ ap (scanned rl sl) e ∙ rw (le-leb 1 (sum measureCount (partsAfter t a)) m) (rw (lt-leb (length (encode (partsAfter t a))) rl h))
+  meets n l (at-line b q) = after-tests b ∙ ap (scanned ed rl sl) (rows-meet ed (textLines text) begin n l q)
+  meets n l (no-measure t a b e m) = after-tests b ∙ ap (scanned ed rl sl) e ∙ rw m
+  meets n l (short-reading t a b e m h) = after-tests b ∙ ap (scanned ed rl sl) e ∙ rw (le-leb 1 (sum measureCount (partsAfter ed t a)) m) (rw (lt-leb (length (encode (partsAfter ed t a))) rl h))
 
 -- "Each refusal is given under its condition only, and answers its number and a line from 1"
-pub only-under-its-condition : (text : List ℕ) (rl sl n l : ℕ) → parseAbc text rl sl .verdict ≡ refusal n l → Reason text rl sl n l
-only-under-its-condition text rl sl n l e = justified text rl sl n l e
+pub only-under-its-condition : (ed : Edition) (text : List ℕ) (rl sl n l : ℕ) → parseAbc ed text rl sl .verdict ≡ refusal n l → Reason ed text rl sl n l
+only-under-its-condition ed text rl sl n l e = justified ed text rl sl n l e
 
 -- and always under it: the answer is that number and line, and both stores are zeros
-pub under-its-condition : (text : List ℕ) (rl sl n l : ℕ) → Reason text rl sl n l → parseAbc text rl sl ≡ refusedWith n l rl sl
-under-its-condition text rl sl n l r = meets text rl sl n l r
+pub under-its-condition : (ed : Edition) (text : List ℕ) (rl sl n l : ℕ) → Reason ed text rl sl n l → parseAbc ed text rl sl ≡ refusedWith n l rl sl
+under-its-condition ed text rl sl n l r = meets ed text rl sl n l r
 
 -- a text that meets no condition is not refused: it is read
-pub not-refused : (text : List ℕ) (rl sl : ℕ) → ((n l : ℕ) → Reason text rl sl n l → ⊥) → IsReading (parseAbc text rl sl .verdict)
-not-refused text rl sl h = go (parseAbc text rl sl .verdict) refl
+pub not-refused : (ed : Edition) (text : List ℕ) (rl sl : ℕ) → ((n l : ℕ) → Reason ed text rl sl n l → ⊥) → IsReading (parseAbc ed text rl sl .verdict)
+not-refused ed text rl sl h = go (parseAbc ed text rl sl .verdict) refl
   where
-    go : (w : Verdict) → parseAbc text rl sl .verdict ≡ w → IsReading w
-    go (refusal n l) e = h n l (only-under-its-condition text rl sl n l e)
+    go : (w : Verdict) → parseAbc ed text rl sl .verdict ≡ w → IsReading w
+    go (refusal n l) e = h n l (only-under-its-condition ed text rl sl n l e)
     go (reading ps) e = tt
 
 -- and one that is read meets none
-pub read-meets-none : (text : List ℕ) (rl sl : ℕ) → IsReading (parseAbc text rl sl .verdict) → (n l : ℕ) → Reason text rl sl n l → ⊥
+pub read-meets-none : (ed : Edition) (text : List ℕ) (rl sl : ℕ) → IsReading (parseAbc ed text rl sl .verdict) → (n l : ℕ) → Reason ed text rl sl n l → ⊥
 unfolding refusedWith
-read-meets-none text rl sl h n l r = subst (λ (w : Outcome). IsReading (w .verdict)) (under-its-condition text rl sl n l r) h
+read-meets-none ed text rl sl h n l r = subst (λ (w : Outcome). IsReading (w .verdict)) (under-its-condition ed text rl sl n l r) h
 
--- "a line from 1 (0 for 1, 2, 3, 15, 16 ..)": 4 to 14, 17 and 18 have a line, the others none; and there is no other number
-condition-range : (s : ScanState) (l : List ℕ) (n : ℕ) → Why s l n → (4 ≤ n) × To14Or17Or18 n
-condition-range s l n (many-lines h) = (omega arith, inl (omega arith))
-condition-range s l n (long-line h) = (omega arith, inl (omega arith))
-condition-range s l n (high-field f h) = (omega arith, inl (omega arith))
-condition-range s l n (high-music f h) = (omega arith, inl (omega arith))
-condition-range s l n (second-tune b x) = (omega arith, inl (omega arith))
-condition-range s l n (no-identifier v i) = (omega arith, inl (omega arith))
-condition-range s l n (many-voices v e h) = (omega arith, inl (omega arith))
-condition-range s l n (middle-V v m) = (omega arith, inl (omega arith))
-condition-range s l n (middle-K v m) = (omega arith, inl (omega arith))
-condition-range s l n (in-music f q) = let r = music-range (s .notes) n l q in (omega (arith, r .0), r .1)
+-- "a line from 1 (0 for 1, 2, 3, 15, 16 ..)": 4 to 14, 17, 18 and 21 have a line, the others none; and there is no other number
+condition-range : (ed : Edition) (s : ScanState) (l : List ℕ) (n : ℕ) → Why ed s l n → (4 ≤ n) × To14Or17Or18Or21 n
+condition-range ed s l n (many-lines h) = (omega arith, inl (omega arith))
+condition-range ed s l n (long-line h) = (omega arith, inl (omega arith))
+condition-range ed s l n (high-field f h) = (omega arith, inl (omega arith))
+condition-range ed s l n (high-music f h) = (omega arith, inl (omega arith))
+condition-range ed s l n (second-tune b x) = (omega arith, inl (omega arith))
+condition-range ed s l n (no-identifier v i) = (omega arith, inl (omega arith))
+condition-range ed s l n (many-voices v e h) = (omega arith, inl (omega arith))
+condition-range ed s l n (middle-V v m) = (omega arith, inl (omega arith))
+condition-range ed s l n (key-line v m) = let r = key-field-range ed (drop 2 l) n m in (omega (arith, r .0), r .1)
+condition-range ed s l n (in-music f q) = let r = music-range ed (s .notes) n l q in (omega (arith, r .0), r .1)
 
 abbrev pub NumberAndLine : ℕ → ℕ → Type 0
-NumberAndLine n l = ((4 ≤ n) × (To14Or17Or18 n × (1 ≤ l))) ⊎ ((l ≡ 0) × ((n ≡ 1) ⊎ ((n ≡ 2) ⊎ ((n ≡ 3) ⊎ ((n ≡ 15) ⊎ (n ≡ 16))))))
+NumberAndLine n l = ((4 ≤ n) × (To14Or17Or18Or21 n × (1 ≤ l))) ⊎ ((l ≡ 0) × ((n ≡ 1) ⊎ ((n ≡ 2) ⊎ ((n ≡ 3) ⊎ ((n ≡ 15) ⊎ (n ≡ 16))))))
 
-reason-line : (text : List ℕ) (rl sl n l : ℕ) → Reason text rl sl n l → NumberAndLine n l
-reason-line text rl sl n l (long-text h) = inr (refl, inr (inl refl))
-reason-line text rl sl n l (not-utf8 a b) = inr (refl, inr (inr (inl refl)))
-reason-line text rl sl n l (blank-text a b c) = inr (refl, inl refl)
-reason-line text rl sl n l (short-scratch a b c d) = inr (refl, inr (inr (inr (inl refl))))
-reason-line text rl sl n l (at-line b q) = let r = condition-range (q .state) (clean (q .row)) n (q .why .0) in inl (r .0, (r .1, omega (arith, q .line)))
-reason-line text rl sl n l (no-measure t a b e m) = inr (refl, inl refl)
-reason-line text rl sl n l (short-reading t a b e m h) = inr (refl, inr (inr (inr (inr refl))))
+reason-line : (ed : Edition) (text : List ℕ) (rl sl n l : ℕ) → Reason ed text rl sl n l → NumberAndLine n l
+reason-line ed text rl sl n l (long-text h) = inr (refl, inr (inl refl))
+reason-line ed text rl sl n l (not-utf8 a b) = inr (refl, inr (inr (inl refl)))
+reason-line ed text rl sl n l (blank-text a b c) = inr (refl, inl refl)
+reason-line ed text rl sl n l (short-scratch a b c d) = inr (refl, inr (inr (inr (inl refl))))
+reason-line ed text rl sl n l (at-line b q) = let r = condition-range ed (q .state) (clean (q .row)) n (q .why .0) in inl (r .0, (r .1, omega (arith, q .line)))
+reason-line ed text rl sl n l (no-measure t a b e m) = inr (refl, inl refl)
+reason-line ed text rl sl n l (short-reading t a b e m h) = inr (refl, inr (inr (inr (inr refl))))
 
-pub number-and-line : (text : List ℕ) (rl sl n l : ℕ) → parseAbc text rl sl .verdict ≡ refusal n l → NumberAndLine n l
-number-and-line text rl sl n l e = reason-line text rl sl n l (only-under-its-condition text rl sl n l e)
+pub number-and-line : (ed : Edition) (text : List ℕ) (rl sl n l : ℕ) → parseAbc ed text rl sl .verdict ≡ refusal n l → NumberAndLine n l
+number-and-line ed text rl sl n l e = reason-line ed text rl sl n l (only-under-its-condition ed text rl sl n l e)
+
+-- 21 IS GIVEN "in the second edition" ONLY
+here-not-21 : (m n : ℕ) (s : List ℕ) → Here First m s n → n ≡ 21 → ⊥
+here-not-21 m n s (token (key-inline k f i q)) e = absurd (omega (arith, first-key-field (drop 2 (bracketed (drop 1 s))) n q, e))
+here-not-21 m n s (token (octave-note c t k d l o)) e = absurd (omega (arith, e))
+here-not-21 m n s (token (octave-chord k d i o)) e = absurd (omega (arith, e))
+here-not-21 m n s (token (many-more k h)) e = absurd (omega (arith, e))
+here-not-21 m n s (token (many-less k h)) e = absurd (omega (arith, e))
+here-not-21 m n s (token (list-shape k d o)) e = absurd (omega (arith, e))
+here-not-21 m n s (token (list-range ts k d o a)) e = absurd (omega (arith, e))
+here-not-21 m n s (token (list-rise ts k d o a b)) e = absurd (omega (arith, e))
+here-not-21 m n s (note c h) e = absurd (omega (arith, e))
+
+line-not-21 : (s : ScanState) (l : List ℕ) (n : ℕ) → Why First s l n → n ≡ 21 → ⊥
+line-not-21 s l n (many-lines h) e = absurd (omega (arith, e))
+line-not-21 s l n (long-line h) e = absurd (omega (arith, e))
+line-not-21 s l n (high-field f h) e = absurd (omega (arith, e))
+line-not-21 s l n (high-music f h) e = absurd (omega (arith, e))
+line-not-21 s l n (second-tune b x) e = absurd (omega (arith, e))
+line-not-21 s l n (no-identifier v i) e = absurd (omega (arith, e))
+line-not-21 s l n (many-voices v i h) e = absurd (omega (arith, e))
+line-not-21 s l n (middle-V v m) e = absurd (omega (arith, e))
+line-not-21 s l n (key-line v q) e = absurd (omega (arith, first-key-field (drop 2 l) n q, e))
+line-not-21 s l n (in-music f q) e = here-not-21 (s .notes + noteCount (map effectOf (q .before))) n (drop (q .place) l) (q .here) e
+
+reason-not-21 : (text : List ℕ) (rl sl n l : ℕ) → Reason First text rl sl n l → n ≡ 21 → ⊥
+reason-not-21 text rl sl n l (long-text h) e = absurd (omega (arith, e))
+reason-not-21 text rl sl n l (not-utf8 a b) e = absurd (omega (arith, e))
+reason-not-21 text rl sl n l (blank-text a b c) e = absurd (omega (arith, e))
+reason-not-21 text rl sl n l (short-scratch a b c d) e = absurd (omega (arith, e))
+reason-not-21 text rl sl n l (at-line b q) e = line-not-21 (q .state) (clean (q .row)) n (q .why .0) e
+reason-not-21 text rl sl n l (no-measure t a b x m) e = absurd (omega (arith, e))
+reason-not-21 text rl sl n l (short-reading t a b x m h) e = absurd (omega (arith, e))
+
+pub never-21 : (text : List ℕ) (rl sl l : ℕ) → parseAbc First text rl sl .verdict ≡ refusal 21 l → ⊥
+never-21 text rl sl l e = reason-not-21 text rl sl 21 l (only-under-its-condition First text rl sl 21 l e) refl

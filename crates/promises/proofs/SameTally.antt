@@ -1,5 +1,6 @@
--- A V: LINE FOR THE VOICE BEING READ COSTS NOTHING: it ends a pending tie, slur start and grace brace, so it changes notes' flags, and nothing else of a part: not its measures, its notes, their kinds or its syllables.
--- So a voice's blocks may be joined by leaving out the second V: line, and the tally of the part stays.
+-- A V: LINE FOR THE VOICE BEING READ COSTS NOTHING: it ends a pending tie, slur start and grace brace, so it changes notes' flags, and nothing else of a part: not its measures, its notes, their kinds or, in the
+-- first edition, its syllables. So a voice's blocks may be joined by leaving out the second V: line, and the tally of the part stays. In the second edition, where a grace note takes no syllable, the tally
+-- stays but for its syllables (ArrangementExample has the text).
 use Prim.Native.Nat.{ℕ, zero, suc, _+_, _≤_, max}
 use mathlib.Core.Path.{_≡_, refl, sym, ap, subst, _∙_}
 use mathlib.Core.Bool.{Bool, true, false, cond, not, _&&_, _||_, false≢true}
@@ -19,6 +20,8 @@ use Rattle.standard.specs.Pitches.{Written, Pitch}
 use Rattle.standard.specs.Bars.{Barline, normal, repeatStart, repeatEnd, repeatBoth, double, final}
 use Rattle.standard.specs.Notes as notes
 use Rattle.standard.specs.Notes.{NoteKind, isSounded, Behind, Pending, nothingPending}
+use Rattle.editions.specs.declared.Edition.{Edition}
+use Rattle.editions.specs.declared.Edition.the-variants.{First}
 use Rattle.reader.specs.Lengths.{Length, valueOf}
 use Rattle.reader.specs.Pitches.{Scope, soundsOf, scopeAfterAll}
 use Rattle.reader.specs.Token.{Token, space, overlay, quoted, broken, tuplet, slur, graceOpen, graceClose, decoration, barline, volta, unit, meter, key, field, chord, rest, note, nothing, skipped, refused}
@@ -38,12 +41,13 @@ use Rattle.blocks.proofs.Runs.{mine-append, Run, stop, then, run-run, run-of, r
 use Rattle.blocks.proofs.End.{Not, early-not, late-no, ended-reading}
 use Rattle.reader.specs.State.{Group, Note, Measure, Volta, voltaAlone, voltaEnds, Half, Running, Line, Verses, PartState, withBeam, withLeft, withRight, withMeter, withKeyMark, withVolta, setKey, setScopes, setMeasures, setPending, setVerses, setLine, withRun, withOverlay, withHalf, withTuplet, withUnit, withTime, noScopes, newMeasure, newLine, newPart, onOpen, isEmpty, voiceIn, voiceNow, setVoice}
 use Rattle.reader.specs.Part as part
-use Rattle.reader.specs.Part.{Part, noFlags, halvedNote, brokenNote, onBroken, afterHalf, canBeam, beamed, runAfter, beamedAgain, onNothing, grouped, oneFewer, countedIn, append, restNote, soundNote, onSound, leftSet, onBarline, hears, onToken, opened, lineBegins, onLine, onLyric, onKey, firstKey, onItem, dropped, inOrder, markedBy, marked, finished, build, emptyPart}
+use Rattle.reader.specs.Part.{Part, noFlags, halvedNote, brokenNote, onBroken, afterHalf, canBeam, beamed, runAfter, beamedAgain, onNothing, grouped, oneFewer, countedIn, append, restNote, soundNote, onSound, leftSet, onBarline, hears, onToken, opened, lineBegins, onLine, onLyric, onKey, firstKey, onItem, dropped, inOrder, markedBy, marked, finishedMeasures, finished, build, emptyPart}
+use Rattle.reader.specs.Lyrics.{Syllable, sungIn}
 use Rattle.reader.specs.Barlines.{leftOf}
 use Rattle.reader.specs.Voltas.{starts, lastThere, endsAt, close, closed}
 use Rattle.reader.specs.Records.{tagged, byVoice, allNotes, isSung, lyricsOf, notesOf, lyrics}
 use Rattle.reader.specs.Tally.{Counts, countsOf, tally}
-use Rattle.promises.specs.Arrangement.{tallyOf}
+use Rattle.promises.specs.Arrangement.{tallyOf, notesOnly}
 use Rattle.promises.specs.Refusals.{partsAfter}
 
 -- WITHOUT FLAGS: a note, a measure, a part (and nothing pending)
@@ -279,14 +283,14 @@ tokens-bare [] s = refl
 tokens-bare (t ∷ ts) s = tokens-bare ts (onToken s t) ∙ ap (λ (z : PartState). foldl bareToken z ts) (token-bare s t)
 
 -- ITEMS on a bare part: a V: line does nothing
-bareItem : Key → PartState → Item → PartState
-bareItem h u (voiceDeclared b) = onItem h u (voiceDeclared b)
-bareItem h u reset = u
-bareItem h u keyInHeader = onItem h u keyInHeader
-bareItem h u (keyChange k) = onItem h u (keyChange k)
-bareItem h u (meterChange t) = onItem h u (meterChange t)
-bareItem h u (lyricLine b t) = onItem h u (lyricLine b t)
-bareItem h u (musicLine x t l) = foldl bareToken (lineBegins x t u) (tokens 0 l)
+bareItem : Edition → Key → PartState → Item → PartState
+bareItem ed h u (voiceDeclared b) = onItem ed h u (voiceDeclared b)
+bareItem ed h u reset = u
+bareItem ed h u keyInHeader = onItem ed h u keyInHeader
+bareItem ed h u (keyChange k) = onItem ed h u (keyChange k)
+bareItem ed h u (meterChange t) = onItem ed h u (meterChange t)
+bareItem ed h u (lyricLine b t) = onItem ed h u (lyricLine b t)
+bareItem ed h u (musicLine x t l) = foldl bareToken (lineBegins x t u) (tokens ed 0 l)
 
 key-bare : (h k : Key) (ms : List Measure) (s : PartState) → bare (onKey h k ms s) ≡ onKey h k (plainMs ms) (bare s)
 unfolding onKey hears
@@ -304,19 +308,19 @@ begins-bare u t s =
     ap (λ (z : List Measure). setVerses (record { sounded = s .verses .sounded; start = s .verses .sounded; verse = 1; lines = s .verses .lines }) (setLine (newLine u t) (setMeasures z (bare s))))
     (opened-plain t (s .measures))
 
-item-bare : (h : Key) (s : PartState) (i : Item) → bare (onItem h s i) ≡ bareItem h (bare s) i
+item-bare : (ed : Edition) (h : Key) (s : PartState) (i : Item) → bare (onItem ed h s i) ≡ bareItem ed h (bare s) i
 unfolding onItem bareItem onLine onLyric
-item-bare h s (voiceDeclared b) = refl
-item-bare h s reset = refl
-item-bare h s keyInHeader = refl
-item-bare h s (keyChange k) = key-bare h k (s .measures) s
-item-bare h s (meterChange t) = on-open (withMeter t) (λ m. refl) s
-item-bare h s (lyricLine b t) = refl
-item-bare h s (musicLine u t l) = tokens-bare (tokens 0 l) (lineBegins u t s) ∙ ap (λ (z : PartState). foldl bareToken z (tokens 0 l)) (begins-bare u t s)
+item-bare ed h s (voiceDeclared b) = refl
+item-bare ed h s reset = refl
+item-bare ed h s keyInHeader = refl
+item-bare ed h s (keyChange k) = key-bare h k (s .measures) s
+item-bare ed h s (meterChange t) = on-open (withMeter t) (λ m. refl) s
+item-bare ed h s (lyricLine b t) = refl
+item-bare ed h s (musicLine u t l) = tokens-bare (tokens ed 0 l) (lineBegins u t s) ∙ ap (λ (z : PartState). foldl bareToken z (tokens ed 0 l)) (begins-bare u t s)
 
-items-bare : (h : Key) (is : List Item) (s : PartState) → bare (foldl (onItem h) s is) ≡ foldl (bareItem h) (bare s) is
-items-bare h [] s = refl
-items-bare h (i ∷ is) s = items-bare h is (onItem h s i) ∙ ap (λ (z : PartState). foldl (bareItem h) z is) (item-bare h s i)
+items-bare : (ed : Edition) (h : Key) (is : List Item) (s : PartState) → bare (foldl (onItem ed h) s is) ≡ foldl (bareItem ed h) (bare s) is
+items-bare ed h [] s = refl
+items-bare ed h (i ∷ is) s = items-bare ed h is (onItem ed h s i) ∙ ap (λ (z : PartState). foldl (bareItem ed h) z is) (item-bare ed h s i)
 
 -- THE END: measures without flags are as many, with as many notes of each kind
 reverse-map : {A B : Type 0} (f : A → B) (xs ys : List A) → map f (reverseAux xs ys) ≡ reverseAux (map f xs) (map f ys)
@@ -377,18 +381,17 @@ unfolding marked
 marked-plain h [] = refl
 marked-plain h (m ∷ ms) = ap (λ (z : Measure). z ∷ plainMs ms) (mark-plain h m (m .key))
 
+measures-plain : (h : Key) (s : PartState) → plainMs (finishedMeasures h s) ≡ finishedMeasures h (bare s)
+unfolding finishedMeasures closed
+measures-plain h s =
+    marked-plain h (close none (map inOrder (reverse (dropped (s .measures)))))
+    ∙ ap (marked h) (close-plain (map inOrder (reverse (dropped (s .measures)))) none
+    ∙ ap (close none) (in-order-plain (reverse (dropped (s .measures)))
+    ∙ ap (map inOrder) (reverse-map plainM (dropped (s .measures)) [] ∙ ap reverse (dropped-plain (s .measures)))))
+
 -- a part without flags
 abbrev plainPart : Part → Part
 plainPart p = record { measures = plainMs (p .measures); words = p .words }
-
-finished-plain : (h : Key) (s : PartState) → plainPart (finished h s) ≡ finished h (bare s)
-unfolding finished closed
-finished-plain h s =
-    ap {B = Part} (λ (z : List Measure). record { measures = z; words = finished h s .words })
-    (marked-plain h (close none (map inOrder (reverse (dropped (s .measures)))))
-    ∙ ap (marked h) (close-plain (map inOrder (reverse (dropped (s .measures)))) none
-    ∙ ap (close none) (in-order-plain (reverse (dropped (s .measures)))
-    ∙ ap (map inOrder) (reverse-map plainM (dropped (s .measures)) [] ∙ ap reverse (dropped-plain (s .measures))))))
 
 -- THE COUNTS do not see flags
 abbrev plainX : ℕ × Note → ℕ × Note
@@ -432,21 +435,29 @@ counts-plain p =
       syllables = (ap (λ (z : List (ℕ × Note)). length (lyricsOf 0 z (p .words))) e ∙ ap length (lyrics-plain 0 (allNotes (p .measures)) (p .words))) i;
     }
 
--- what a part counts is read off its bare state
-counts-bare : (h : Key) (s : PartState) → countsOf (finished h s) ≡ countsOf (finished h (bare s))
-counts-bare h s = sym (counts-plain (finished h s)) ∙ ap countsOf (finished-plain h s)
+-- WHAT OF A PART'S COUNTS IS READ OFF ITS BARE STATE
+abbrev pub Unflagged : (ed : Edition) {X : Type 0} → (Counts → X) → Type 0
+Unflagged ed f = (h : Key) (s : PartState) → f (countsOf (finished ed h s)) ≡ f (countsOf (finished ed h (bare s)))
 
-counts-items : (h : Key) (is : List Item) → countsOf (build h is) ≡ countsOf (finished h (foldl (bareItem h) (bare newPart) is))
-unfolding build
-counts-items h is = counts-bare h (foldl (onItem h) newPart is) ∙ ap (λ (z : PartState). countsOf (finished h z)) (items-bare h is newPart)
+-- in the first edition all of them
+first-plain-part : (h : Key) (s : PartState) → plainPart (finished First h s) ≡ finished First h (bare s)
+unfolding finished sungIn
+first-plain-part h s = ap {B = Part} (λ (z : List Measure). record { measures = z; words = finished First h s .words }) (measures-plain h s)
 
--- A V: LINE OF THE PART LEFT OUT: the tally of the part is the same
-pub reset-free : (h : Key) (is js : List Item) → countsOf (build h (is ++ (reset ∷ js))) ≡ countsOf (build h (is ++ js))
-unfolding bareItem
-reset-free h is js =
-    counts-items h (is ++ (reset ∷ js))
-    ∙ ap (λ (z : PartState). countsOf (finished h z)) (foldl-append (bareItem h) (bare newPart) is (reset ∷ js) ∙ sym (foldl-append (bareItem h) (bare newPart) is js))
-    ∙ sym (counts-items h (is ++ js))
+pub all-counts : Unflagged First (λ c. c)
+all-counts h s = sym (counts-plain (finished First h s)) ∙ ap countsOf (first-plain-part h s)
+
+-- in every edition all but the syllables
+by-measures : (ms : List Measure) (ws vs : List (List Syllable)) → notesOnly (countsOf (record { measures = ms; words = ws })) ≡ notesOnly (countsOf (record { measures = ms; words = vs }))
+unfolding countsOf notesOf
+by-measures ms ws vs = refl
+
+pub note-counts : (ed : Edition) → Unflagged ed notesOnly
+unfolding finished
+note-counts ed h s =
+    ap notesOnly (sym (counts-plain (finished ed h s)))
+    ∙ ap (λ (z : List Measure). notesOnly (countsOf (record { measures = z; words = finished ed h s .words }))) (measures-plain h s)
+    ∙ by-measures (finishedMeasures h (bare s)) (finished ed h s .words) (finished ed h (bare s) .words)
 
 -- A LINE FEWER BEFORE IT changes nothing of what a row does
 abbrev pub withLines : ScanState → ℕ → ScanState
@@ -497,27 +508,27 @@ pub not-on : (n l : ℕ) (t : ScanState) (a : Items) → _≡_ {A = Out} (refuse
 not-on n l t a h = let z : _≡_ {A = ℕ} 0 1 = cc in omega (arith, z)
 
 -- a row that goes through is within the lines that there may be
-pub went : (s t : ScanState) (r : TextLine) (b : Items) → step s r ≡ on t b → (ltb (s .lines) mostLines ≡ true) × (act s (kindOf r) (s .env .inHeader) ≡ on t b)
+pub went : (ed : Edition) (s t : ScanState) (r : TextLine) (b : Items) → step ed s r ≡ on t b → (ltb (s .lines) mostLines ≡ true) × (act s (kindOf ed r) (s .env .inHeader) ≡ on t b)
 unfolding step
-went s t r b e =
+went ed s t r b e =
     by-test (ltb (s .lines) mostLines)
-    (λ h. (h, subst (λ (x : Bool). cond x (act s (kindOf r) (s .env .inHeader)) (refuse 4 (suc (s .lines))) ≡ on t b) h e))
-    (λ h. absurd (not-on 4 (suc (s .lines)) t b (subst (λ (x : Bool). cond x (act s (kindOf r) (s .env .inHeader)) (refuse 4 (suc (s .lines))) ≡ on t b) h e)))
+    (λ h. (h, subst (λ (x : Bool). cond x (act s (kindOf ed r) (s .env .inHeader)) (refuse 4 (suc (s .lines))) ≡ on t b) h e))
+    (λ h. absurd (not-on 4 (suc (s .lines)) t b (subst (λ (x : Bool). cond x (act s (kindOf ed r) (s .env .inHeader)) (refuse 4 (suc (s .lines))) ≡ on t b) h e)))
 
-step-lines : (s t : ScanState) (r : TextLine) (b : Items) (k : ℕ) → k ≤ s .lines → step s r ≡ on t b → step (withLines s k) r ≡ on (withLines t (suc k)) b
+step-lines : (ed : Edition) (s t : ScanState) (r : TextLine) (b : Items) (k : ℕ) → k ≤ s .lines → step ed s r ≡ on t b → step ed (withLines s k) r ≡ on (withLines t (suc k)) b
 unfolding step
-step-lines s t r b k le e =
-    let q = went s t r b e in
+step-lines ed s t r b k le e =
+    let q = went ed s t r b e in
     let h : ltb k mostLines ≡ true = lt-ltb k mostLines (omega (arith, le, ltb-true (s .lines) mostLines (q .0))) in
-    ap (λ (x : Bool). cond x (act (withLines s k) (kindOf r) (s .env .inHeader)) (refuse 4 (suc k))) h
-    ∙ act-lines s k (kindOf r) (s .env .inHeader) ∙ ap (relined k) (q .1)
+    ap (λ (x : Bool). cond x (act (withLines s k) (kindOf ed r) (s .env .inHeader)) (refuse 4 (suc k))) h
+    ∙ act-lines s k (kindOf ed r) (s .env .inHeader) ∙ ap (relined k) (q .1)
 
-pub fewer : {s u : ScanState} {rs : List TextLine} {c : Items} → Run reader s rs u c → (k : ℕ) → k ≤ s .lines → (j : ℕ) × Run reader (withLines s k) rs (withLines u j) c
-fewer stop k le = (k, stop)
-fewer (then {s = s} {t = t} {r = r} {a = a} e d) k le =
-    let l : t .lines ≡ suc (s .lines) = laws .line s t r a e in
-    let q = fewer d (suc k) (omega (arith, le, l)) in
-    (q .0, then (step-lines s t r a k le e) (q .1))
+pub fewer : (ed : Edition) {s u : ScanState} {rs : List TextLine} {c : Items} → Run (reader ed) s rs u c → (k : ℕ) → k ≤ s .lines → (j : ℕ) × Run (reader ed) (withLines s k) rs (withLines u j) c
+fewer ed stop k le = (k, stop)
+fewer ed (then {s = s} {t = t} {r = r} {a = a} e d) k le =
+    let l : t .lines ≡ suc (s .lines) = laws ed .line s t r a e in
+    let q = fewer ed d (suc k) (omega (arith, le, l)) in
+    (q .0, then (step-lines ed s t r a k le e) (q .1))
 
 -- A V: LINE THAT NAMES THE VOICE BEING READ gives that part a reset, and changes nothing else
 unnamed-not : (o : Bool) (v : List ℕ) (vs : List (List ℕ)) → elem v vs ≡ true → withUnnamed o vs ≡ vs
@@ -555,20 +566,20 @@ kind-resets s t b v k i h lines.tune n e = absurd n
 kind-resets s t b v k i h lines.other n e = absurd n
 kind-resets s t b v k i h (lines.music hi es l) n e = absurd n
 
-row-resets : (s t : ScanState) (r : TextLine) (b : Items) → isV r ≡ true → elem (identifier r) (s .env .voices) ≡ true → indexOf (identifier r) (s .env .voices) ≡ s .part → step s r ≡ on t b → Resets s t b
-row-resets s t r b v k i e = kind-resets s t b (identifier r) k i (s .env .inHeader) (kindOf r) (voice-begins r v) (went s t r b e .1)
+row-resets : (ed : Edition) (s t : ScanState) (r : TextLine) (b : Items) → isV r ≡ true → elem (identifier r) (s .env .voices) ≡ true → indexOf (identifier r) (s .env .voices) ≡ s .part → step ed s r ≡ on t b → Resets s t b
+row-resets ed s t r b v k i e = kind-resets s t b (identifier r) k i (s .env .inHeader) (kindOf ed r) (voice-begins ed r v) (went ed s t r b e .1)
 
 -- WITHOUT THAT LINE the rows behind it do the same
-abbrev Left-out : List TextLine → List TextLine → ScanState → Items → ScanState → Items → Type 0
-Left-out xs bs s a u c = (c₂ : Items) × (j : ℕ) × ((c ≡ a ++ ((s .part, reset) ∷ c₂)) × Run reader begin (xs ++ bs) (withLines u j) (a ++ c₂))
+abbrev Left-out : Edition → List TextLine → List TextLine → ScanState → Items → ScanState → Items → Type 0
+Left-out ed xs bs s a u c = (c₂ : Items) × (j : ℕ) × ((c ≡ a ++ ((s .part, reset) ∷ c₂)) × Run (reader ed) begin (xs ++ bs) (withLines u j) (a ++ c₂))
 
-left-out : (xs bs : List TextLine) (r : TextLine) (s u : ScanState) (a b c : Items) → isV r ≡ true → elem (identifier r) (s .env .voices) ≡ true → indexOf (identifier r) (s .env .voices) ≡ s .part
-    → Run reader begin xs s a → Run reader s (r ∷ bs) u b → c ≡ a ++ b → Left-out xs bs s a u c
-left-out xs bs r s u a b c v k i d (then {t = t} {a = x} {b = y} e f) q =
-    let w : Resets s t x = row-resets s t r x v k i e in
-    let g : Run reader (withLines s (suc (s .lines))) bs u y = subst (λ (z : ScanState). Run reader z bs u y) (w .0) f in
-    let m = fewer g (s .lines) (omega arith) in
-    (y, m .0, (q ∙ ap (λ (z : Items). a ++ (z ++ y)) (w .1), run-join reader d (m .1)))
+left-out : (ed : Edition) (xs bs : List TextLine) (r : TextLine) (s u : ScanState) (a b c : Items) → isV r ≡ true → elem (identifier r) (s .env .voices) ≡ true → indexOf (identifier r) (s .env .voices) ≡ s .part
+    → Run (reader ed) begin xs s a → Run (reader ed) s (r ∷ bs) u b → c ≡ a ++ b → Left-out ed xs bs s a u c
+left-out ed xs bs r s u a b c v k i d (then {t = t} {a = x} {b = y} e f) q =
+    let w : Resets s t x = row-resets ed s t r x v k i e in
+    let g : Run (reader ed) (withLines s (suc (s .lines))) bs u y = subst (λ (z : ScanState). Run (reader ed) z bs u y) (w .0) f in
+    let m = fewer ed g (s .lines) (omega arith) in
+    (y, m .0, (q ∙ ap (λ (z : Items). a ++ (z ++ y)) (w .1), run-join (reader ed) d (m .1)))
 
 -- THE TALLY
 any-reset : (is js : List Item) → any isMusic (is ++ (reset ∷ js)) ≡ any isMusic (is ++ js)
@@ -576,66 +587,102 @@ unfolding isMusic
 any-reset [] js = refl
 any-reset (i ∷ is) js = ap (λ (b : Bool). isMusic i || b) (any-reset is js)
 
-pub built-reset : (e : Env) (is js : List Item) → countsOf (built e (is ++ (reset ∷ js))) ≡ countsOf (built e (is ++ js))
-unfolding built
-built-reset e is js = ap (λ (b : Bool). countsOf (cond b (build (e .headerKey) (is ++ (reset ∷ js))) emptyPart)) (any-reset is js) ∙ go (any isMusic (is ++ js))
-  where
-    go : (b : Bool) → countsOf (cond b (build (e .headerKey) (is ++ (reset ∷ js))) emptyPart) ≡ countsOf (cond b (build (e .headerKey) (is ++ js)) emptyPart)
-    go true = reset-free (e .headerKey) is js
-    go false = refl
+-- f: what of the counts is looked at
+module _ (ed : Edition) {X : Type 0} (f : Counts → X) (free : Unflagged ed f) where
+  seen-items : (h : Key) (is : List Item) → f (countsOf (build ed h is)) ≡ f (countsOf (finished ed h (foldl (bareItem ed h) (bare newPart) is)))
+  unfolding build
+  seen-items h is = free h (foldl (onItem ed h) newPart is) ∙ ap (λ (z : PartState). f (countsOf (finished ed h z))) (items-bare ed h is newPart)
 
-part-reset : (e : Env) (q p : ℕ) (a c : Items) → countsOf (built e (itemsOf p (a ++ ((q, reset) ∷ c)))) ≡ countsOf (built e (itemsOf p (a ++ c)))
-part-reset e q p a c =
-    ap (λ (l : List Item). countsOf (built e l)) (mine-append p a ((q, reset) ∷ c)) ∙ go (eqb q p)
-    ∙ sym (ap (λ (l : List Item). countsOf (built e l)) (mine-append p a c))
-  where
-    go : (b : Bool) → countsOf (built e (itemsOf p a ++ cond b (reset ∷ itemsOf p c) (itemsOf p c))) ≡ countsOf (built e (itemsOf p a ++ itemsOf p c))
-    go true = built-reset e (itemsOf p a) (itemsOf p c)
-    go false = refl
+  -- A V: LINE OF THE PART LEFT OUT: the tally of the part is the same
+  pub reset-free : (h : Key) (is js : List Item) → f (countsOf (build ed h (is ++ (reset ∷ js)))) ≡ f (countsOf (build ed h (is ++ js)))
+  unfolding bareItem
+  reset-free h is js =
+      seen-items h (is ++ (reset ∷ js))
+      ∙ ap (λ (z : PartState). f (countsOf (finished ed h z))) (foldl-append (bareItem ed h) (bare newPart) is (reset ∷ js) ∙ sym (foldl-append (bareItem ed h) (bare newPart) is js))
+      ∙ sym (seen-items h (is ++ js))
 
-pub tallies : (e : Env) (f g : ℕ → List Item) → ((p : ℕ) → countsOf (built e (f p)) ≡ countsOf (built e (g p))) → (n q : ℕ) → tally (parts e f n q) ≡ tally (parts e g n q)
+  pub built-reset : (e : Env) (is js : List Item) → f (countsOf (built ed e (is ++ (reset ∷ js)))) ≡ f (countsOf (built ed e (is ++ js)))
+  unfolding built
+  built-reset e is js = ap (λ (b : Bool). f (countsOf (cond b (build ed (e .headerKey) (is ++ (reset ∷ js))) emptyPart))) (any-reset is js) ∙ go (any isMusic (is ++ js))
+    where
+      go : (b : Bool) → f (countsOf (cond b (build ed (e .headerKey) (is ++ (reset ∷ js))) emptyPart)) ≡ f (countsOf (cond b (build ed (e .headerKey) (is ++ js)) emptyPart))
+      go true = reset-free (e .headerKey) is js
+      go false = refl
+
+  part-reset : (e : Env) (q p : ℕ) (a c : Items) → f (countsOf (built ed e (itemsOf p (a ++ ((q, reset) ∷ c))))) ≡ f (countsOf (built ed e (itemsOf p (a ++ c))))
+  part-reset e q p a c =
+      ap (λ (l : List Item). f (countsOf (built ed e l))) (mine-append p a ((q, reset) ∷ c)) ∙ go (eqb q p)
+      ∙ sym (ap (λ (l : List Item). f (countsOf (built ed e l))) (mine-append p a c))
+    where
+      go : (b : Bool) → f (countsOf (built ed e (itemsOf p a ++ cond b (reset ∷ itemsOf p c) (itemsOf p c)))) ≡ f (countsOf (built ed e (itemsOf p a ++ itemsOf p c)))
+      go true = built-reset e (itemsOf p a) (itemsOf p c)
+      go false = refl
+
+pub tallies : (ed : Edition) {X : Type 0} (f : Counts → X) (e : Env) (a b : ℕ → List Item) → ((p : ℕ) → f (countsOf (built ed e (a p))) ≡ f (countsOf (built ed e (b p)))) → (n q : ℕ)
+    → map f (tally (parts ed e a n q)) ≡ map f (tally (parts ed e b n q))
 unfolding parts tally
-tallies e f g h zero q = refl
-tallies e f g h (suc n) q = λ i. h q i ∷ tallies e f g h n (suc q) i
+tallies ed f e a b h zero q = refl
+tallies ed f e a b h (suc n) q = λ i. h q i ∷ tallies ed f e a b h n (suc q) i
 
 -- what an accepted text was scanned to
-abbrev pub Scanned : List ℕ → Verdict → Type 0
-Scanned text w = (u : ScanState) × (c : Items) × ((scan (textLines text) ≡ on u c) × (w ≡ reading (partsAfter u c)))
+abbrev pub Scanned : Edition → List ℕ → Verdict → Type 0
+Scanned ed text w = (u : ScanState) × (c : Items) × ((scan ed (textLines text) ≡ on u c) × (w ≡ reading (partsAfter ed u c)))
 
-after-scan : (text : List ℕ) (rl sl : ℕ) (y : Out) → scan (textLines text) ≡ y → Accepted (scanned rl sl y) → Scanned text (scanned rl sl y .verdict)
+after-scan : (ed : Edition) (text : List ℕ) (rl sl : ℕ) (y : Out) → scan ed (textLines text) ≡ y → Accepted (scanned ed rl sl y) → Scanned ed text (scanned ed rl sl y .verdict)
 unfolding scanned finish
-after-scan text rl sl (refuse n l) e h = absurd (late-no n l rl sl h)
-after-scan text rl sl (on u c) e h = (u, c, (e, ended-reading (partsAfter u c) rl sl h))
+after-scan ed text rl sl (refuse n l) e h = absurd (late-no n l rl sl h)
+after-scan ed text rl sl (on u c) e h = (u, c, (e, ended-reading (partsAfter ed u c) rl sl h))
 
-unless-scan : (text : List ℕ) (rl sl : ℕ) (x : Option Outcome) → Not x → Accepted (unless text rl sl x) → Scanned text (unless text rl sl x .verdict)
+unless-scan : (ed : Edition) (text : List ℕ) (rl sl : ℕ) (x : Option Outcome) → Not x → Accepted (unless ed text rl sl x) → Scanned ed text (unless ed text rl sl x .verdict)
 unfolding unless
-unless-scan text rl sl (some w) n h = absurd (n h)
-unless-scan text rl sl none n h = after-scan text rl sl (scan (textLines text)) refl h
+unless-scan ed text rl sl (some w) n h = absurd (n h)
+unless-scan ed text rl sl none n h = after-scan ed text rl sl (scan ed (textLines text)) refl h
 
-pub accepted-scan : (text : List ℕ) (rl sl : ℕ) → Accepted (parseAbc text rl sl) → Scanned text (parseAbc text rl sl .verdict)
+pub accepted-scan : (ed : Edition) (text : List ℕ) (rl sl : ℕ) → Accepted (parseAbc ed text rl sl) → Scanned ed text (parseAbc ed text rl sl .verdict)
 unfolding parseAbc
-accepted-scan text rl sl h = unless-scan text rl sl (early text rl sl) (early-not text rl sl) h
+accepted-scan ed text rl sl h = unless-scan ed text rl sl (early text rl sl) (early-not text rl sl) h
 
--- A TEXT AND THE SAME WITHOUT A V: LINE THAT NAMES THE VOICE BEING READ, both accepted, with stores of any lengths: one tally
-pub same-tally : (text text′ : List ℕ) (rl sl rl′ sl′ : ℕ) (xs bs : List TextLine) (r : TextLine) (s : ScanState) (a : Items) → textLines text ≡ xs ++ (r ∷ bs) → textLines text′ ≡ xs ++ bs → scan xs ≡ on s a
+-- A TEXT AND THE SAME WITHOUT A V: LINE THAT NAMES THE VOICE BEING READ, both accepted, with stores of any lengths
+abbrev pub Without-V : Edition → {X : Type 0} → (Counts → X) → Type 0
+Without-V ed f =
+    (text text′ : List ℕ) (rl sl rl′ sl′ : ℕ) (xs bs : List TextLine) (r : TextLine) (s : ScanState) (a : Items) → textLines text ≡ xs ++ (r ∷ bs) → textLines text′ ≡ xs ++ bs → scan ed xs ≡ on s a
     → isV r ≡ true → elem (identifier r) (s .env .voices) ≡ true → indexOf (identifier r) (s .env .voices) ≡ s .part
-    → Accepted (parseAbc text rl sl) → Accepted (parseAbc text′ rl′ sl′) → tallyOf (parseAbc text rl sl .verdict) ≡ tallyOf (parseAbc text′ rl′ sl′ .verdict)
+    → Accepted (parseAbc ed text rl sl) → Accepted (parseAbc ed text′ rl′ sl′) → map f (tallyOf (parseAbc ed text rl sl .verdict)) ≡ map f (tallyOf (parseAbc ed text′ rl′ sl′ .verdict))
+
+without-V : (ed : Edition) {X : Type 0} (f : Counts → X) → Unflagged ed f → Without-V ed f
 unfolding scan
-same-tally text text′ rl sl rl′ sl′ xs bs r s a e e′ es v k i h h′ = go (accepted-scan text rl sl h) (accepted-scan text′ rl′ sl′ h′)
+without-V ed f free text text′ rl sl rl′ sl′ xs bs r s a e e′ es v k i h h′ = go (accepted-scan ed text rl sl h) (accepted-scan ed text′ rl′ sl′ h′)
   where
-    go : Scanned text (parseAbc text rl sl .verdict) → Scanned text′ (parseAbc text′ rl′ sl′ .verdict) → tallyOf (parseAbc text rl sl .verdict) ≡ tallyOf (parseAbc text′ rl′ sl′ .verdict)
-    go (u, c, (f, w)) (u′, c′, (f′, w′)) =
-        let d : Run reader begin (xs ++ (r ∷ bs)) u c = run-of reader (xs ++ (r ∷ bs)) begin u c (subst (λ (z : List TextLine). run step begin z ≡ on u c) e f) in
-        let d′ : Run reader begin (xs ++ bs) u′ c′ = run-of reader (xs ++ bs) begin u′ c′ (subst (λ (z : List TextLine). run step begin z ≡ on u′ c′) e′ f′) in
-        let p : Run reader begin xs s a = run-of reader xs begin s a es in
-        let t = run-cut reader xs d in
-        let o = run-one reader (t .3) p in
-        let m : Left-out xs bs s a u c =
-        left-out xs bs r s u a (t .2) c v k i p (subst (λ (z : ScanState). Run reader z (r ∷ bs) u (t .2)) (o .0) (t .4)) (t .5 ∙ ap (λ (z : Items). z ++ t .2) (o .1))
+    go : Scanned ed text (parseAbc ed text rl sl .verdict) → Scanned ed text′ (parseAbc ed text′ rl′ sl′ .verdict) → map f (tallyOf (parseAbc ed text rl sl .verdict)) ≡ map f (tallyOf (parseAbc ed text′ rl′ sl′ .verdict))
+    go (u, c, (g, w)) (u′, c′, (g′, w′)) =
+        let d : Run (reader ed) begin (xs ++ (r ∷ bs)) u c = run-of (reader ed) (xs ++ (r ∷ bs)) begin u c (subst (λ (z : List TextLine). run (step ed) begin z ≡ on u c) e g) in
+        let d′ : Run (reader ed) begin (xs ++ bs) u′ c′ = run-of (reader ed) (xs ++ bs) begin u′ c′ (subst (λ (z : List TextLine). run (step ed) begin z ≡ on u′ c′) e′ g′) in
+        let p : Run (reader ed) begin xs s a = run-of (reader ed) xs begin s a es in
+        let t = run-cut (reader ed) xs d in
+        let o = run-one (reader ed) (t .3) p in
+        let m : Left-out ed xs bs s a u c =
+        left-out ed xs bs r s u a (t .2) c v k i p (subst (λ (z : ScanState). Run (reader ed) z (r ∷ bs) u (t .2)) (o .0) (t .4)) (t .5 ∙ ap (λ (z : Items). z ++ t .2) (o .1))
         in
-        let n = run-one reader (m .2 .1) d′ in
-        ap tallyOf w
-        ∙ ap (λ (z : Items). tally (partsAfter u z)) (m .2 .0)
-        ∙ tallies (u .env) (λ p. itemsOf p (a ++ ((s .part, reset) ∷ m .0))) (λ p. itemsOf p (a ++ m .0)) (λ p. part-reset (u .env) (s .part) p a (m .0)) (max 1 (length (u .env .voices))) 0
-        ∙ (λ j. tally (partsAfter (n .0 j) (n .1 j)))
-        ∙ sym (ap tallyOf w′)
+        let n = run-one (reader ed) (m .2 .1) d′ in
+        ap (λ (z : Verdict). map f (tallyOf z)) w
+        ∙ ap (λ (z : Items). map f (tally (partsAfter ed u z))) (m .2 .0)
+        ∙ tallies ed f (u .env) (λ p. itemsOf p (a ++ ((s .part, reset) ∷ m .0))) (λ p. itemsOf p (a ++ m .0)) (λ p. part-reset ed f free (u .env) (s .part) p a (m .0)) (max 1 (length (u .env .voices))) 0
+        ∙ (λ j. map f (tally (partsAfter ed (n .0 j) (n .1 j))))
+        ∙ sym (ap (λ (z : Verdict). map f (tallyOf z)) w′)
+
+pub map-same : (cs : List Counts) → map (λ c. c) cs ≡ cs
+map-same [] = refl
+map-same (c ∷ cs) = ap (λ (z : List Counts). c ∷ z) (map-same cs)
+
+-- in the first edition: one tally
+pub same-tally : (text text′ : List ℕ) (rl sl rl′ sl′ : ℕ) (xs bs : List TextLine) (r : TextLine) (s : ScanState) (a : Items) → textLines text ≡ xs ++ (r ∷ bs) → textLines text′ ≡ xs ++ bs → scan First xs ≡ on s a
+    → isV r ≡ true → elem (identifier r) (s .env .voices) ≡ true → indexOf (identifier r) (s .env .voices) ≡ s .part
+    → Accepted (parseAbc First text rl sl) → Accepted (parseAbc First text′ rl′ sl′) → tallyOf (parseAbc First text rl sl .verdict) ≡ tallyOf (parseAbc First text′ rl′ sl′ .verdict)
+same-tally text text′ rl sl rl′ sl′ xs bs r s a e e′ es v k i h h′ =
+    sym (map-same (tallyOf (parseAbc First text rl sl .verdict)))
+    ∙ without-V First (λ c. c) all-counts text text′ rl sl rl′ sl′ xs bs r s a e e′ es v k i h h′
+    ∙ map-same (tallyOf (parseAbc First text′ rl′ sl′ .verdict))
+
+-- in every edition: the same measures, notes that are no rests, and rests
+pub same-notes : (ed : Edition) → Without-V ed notesOnly
+same-notes ed = without-V ed notesOnly (note-counts ed)

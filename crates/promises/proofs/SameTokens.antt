@@ -12,6 +12,7 @@ use Rattle.laws.proofs.Bools.{by-test}
 use Rattle.laws.proofs.Lists.{foldl-append}
 use Rattle.standard.specs.Keys.{Key}
 use Rattle.standard.specs.Fields.{Meter}
+use Rattle.editions.specs.declared.Edition.{Edition}
 use Rattle.reader.specs.Text.{textLines, clean, hasHigh}
 use Rattle.reader.specs.Token.{Token}
 use Rattle.reader.specs.Tokens.{Effect, tokens, effects, effectOf}
@@ -30,37 +31,37 @@ use Rattle.promises.proofs.Free.{quoted-token, bang-token, plus-token}
 use Rattle.promises.specs.Refusals.{partsAfter}
 
 -- A PART from items that differ in a music line with the same tokens
-line-same : (u : ℕ) (m : Meter) (l k : List ℕ) → tokens 0 l ≡ tokens 0 k → (s : PartState) → onLine u m l s ≡ onLine u m k s
+line-same : (ed : Edition) (u : ℕ) (m : Meter) (l k : List ℕ) → tokens ed 0 l ≡ tokens ed 0 k → (s : PartState) → onLine ed u m l s ≡ onLine ed u m k s
 unfolding onLine
-line-same u m l k e s = ap (foldl onToken (lineBegins u m s)) e
+line-same ed u m l k e s = ap (foldl onToken (lineBegins u m s)) e
 
-build-same : (h : Key) (is js : List Item) (u : ℕ) (m : Meter) (l k : List ℕ) → tokens 0 l ≡ tokens 0 k → build h (is ++ (musicLine u m l ∷ js)) ≡ build h (is ++ (musicLine u m k ∷ js))
+build-same : (ed : Edition) (h : Key) (is js : List Item) (u : ℕ) (m : Meter) (l k : List ℕ) → tokens ed 0 l ≡ tokens ed 0 k → build ed h (is ++ (musicLine u m l ∷ js)) ≡ build ed h (is ++ (musicLine u m k ∷ js))
 unfolding build onItem
-build-same h is js u m l k e =
-    ap (finished h)
-    (foldl-append (onItem h) newPart is (musicLine u m l ∷ js) ∙ ap (λ (s : PartState). foldl (onItem h) s js) (line-same u m l k e (foldl (onItem h) newPart is)) ∙ sym (foldl-append (onItem h) newPart is (musicLine u m k ∷ js)))
+build-same ed h is js u m l k e =
+    ap (finished ed h)
+    (foldl-append (onItem ed h) newPart is (musicLine u m l ∷ js) ∙ ap (λ (s : PartState). foldl (onItem ed h) s js) (line-same ed u m l k e (foldl (onItem ed h) newPart is)) ∙ sym (foldl-append (onItem ed h) newPart is (musicLine u m k ∷ js)))
 
 any-same : (is js : List Item) (u : ℕ) (m : Meter) (l k : List ℕ) → any isMusic (is ++ (musicLine u m l ∷ js)) ≡ any isMusic (is ++ (musicLine u m k ∷ js))
 unfolding isMusic
 any-same [] js u m l k = refl
 any-same (i ∷ is) js u m l k = ap (λ (b : Bool). isMusic i || b) (any-same is js u m l k)
 
-built-same : (e : Env) (is js : List Item) (u : ℕ) (m : Meter) (l k : List ℕ) → tokens 0 l ≡ tokens 0 k → built e (is ++ (musicLine u m l ∷ js)) ≡ built e (is ++ (musicLine u m k ∷ js))
+built-same : (ed : Edition) (e : Env) (is js : List Item) (u : ℕ) (m : Meter) (l k : List ℕ) → tokens ed 0 l ≡ tokens ed 0 k → built ed e (is ++ (musicLine u m l ∷ js)) ≡ built ed e (is ++ (musicLine u m k ∷ js))
 unfolding built
-built-same e is js u m l k q = λ i. cond (any-same is js u m l k i) (build-same (e .headerKey) is js u m l k q i) emptyPart
+built-same ed e is js u m l k q = λ i. cond (any-same is js u m l k i) (build-same ed (e .headerKey) is js u m l k q i) emptyPart
 
-part-same : (e : Env) (q p : ℕ) (u : ℕ) (m : Meter) (l k : List ℕ) → tokens 0 l ≡ tokens 0 k → (a c : Items) → built e (itemsOf p (a ++ ((q, musicLine u m l) ∷ c))) ≡ built e (itemsOf p (a ++ ((q, musicLine u m k) ∷ c)))
-part-same e q p u m l k w a c =
-    ap (built e) (mine-append p a ((q, musicLine u m l) ∷ c)) ∙ go (eqb q p) ∙ sym (ap (built e) (mine-append p a ((q, musicLine u m k) ∷ c)))
+part-same : (ed : Edition) (e : Env) (q p : ℕ) (u : ℕ) (m : Meter) (l k : List ℕ) → tokens ed 0 l ≡ tokens ed 0 k → (a c : Items) → built ed e (itemsOf p (a ++ ((q, musicLine u m l) ∷ c))) ≡ built ed e (itemsOf p (a ++ ((q, musicLine u m k) ∷ c)))
+part-same ed e q p u m l k w a c =
+    ap (built ed e) (mine-append p a ((q, musicLine u m l) ∷ c)) ∙ go (eqb q p) ∙ sym (ap (built ed e) (mine-append p a ((q, musicLine u m k) ∷ c)))
   where
-    go : (b : Bool) → built e (itemsOf p a ++ cond b (musicLine u m l ∷ itemsOf p c) (itemsOf p c)) ≡ built e (itemsOf p a ++ cond b (musicLine u m k ∷ itemsOf p c) (itemsOf p c))
-    go true = built-same e (itemsOf p a) (itemsOf p c) u m l k w
+    go : (b : Bool) → built ed e (itemsOf p a ++ cond b (musicLine u m l ∷ itemsOf p c) (itemsOf p c)) ≡ built ed e (itemsOf p a ++ cond b (musicLine u m k ∷ itemsOf p c) (itemsOf p c))
+    go true = built-same ed e (itemsOf p a) (itemsOf p c) u m l k w
     go false = refl
 
-parts-same : (e : Env) (f g : ℕ → List Item) → ((p : ℕ) → built e (f p) ≡ built e (g p)) → (n q : ℕ) → parts e f n q ≡ parts e g n q
+parts-same : (ed : Edition) (e : Env) (f g : ℕ → List Item) → ((p : ℕ) → built ed e (f p) ≡ built ed e (g p)) → (n q : ℕ) → parts ed e f n q ≡ parts ed e g n q
 unfolding parts
-parts-same e f g h zero q = refl
-parts-same e f g h (suc n) q = λ i. h q i ∷ parts-same e f g h n (suc q) i
+parts-same ed e f g h zero q = refl
+parts-same ed e f g h (suc n) q = λ i. h q i ∷ parts-same ed e f g h n (suc q) i
 
 -- THE SCAN of two music lines with the same tokens: the same state, and items alike
 pub data Alike (l k : List ℕ) : Items → Items → Type 0 where
@@ -95,77 +96,77 @@ music-both s t t′ true h′ es l k a a′ false e e′ = absurd (not-on 6 (suc
 music-both s t t′ false true es l k a a′ false e e′ = absurd (not-on 6 (suc (s .lines)) t′ a′ e′)
 music-both s t t′ false false es l k a a′ false e e′ = play-both s t t′ es l k a a′ (firstRefusal (s .notes) es) e e′
 
-row-both : (s t t′ : ScanState) (r r′ : TextLine) (a a′ : Items) → IsMusicRow r → IsMusicRow r′ → tokens 0 (clean r) ≡ tokens 0 (clean r′) → step s r ≡ on t a → step s r′ ≡ on t′ a′ → Both (clean r) (clean r′) t t′ a a′
+row-both : (ed : Edition) (s t t′ : ScanState) (r r′ : TextLine) (a a′ : Items) → IsMusicRow ed r → IsMusicRow ed r′ → tokens ed 0 (clean r) ≡ tokens ed 0 (clean r′) → step ed s r ≡ on t a → step ed s r′ ≡ on t′ a′ → Both (clean r) (clean r′) t t′ a a′
 unfolding effects
-row-both s t t′ r r′ a a′ m m′ q e e′ =
-    music-both s t t′ (hasHigh (clean r)) (hasHigh (clean r′)) (effects (clean r)) (clean r) (clean r′) a a′ (s .env .inHeader)
-    (sym (ap (λ (k : Kind). act s k (s .env .inHeader)) m) ∙ went s t r a e .1)
-    (ap (λ (es : List Effect). act s (music (hasHigh (clean r′)) es (clean r′)) (s .env .inHeader)) (ap (map effectOf) q) ∙ sym (ap (λ (k : Kind). act s k (s .env .inHeader)) m′) ∙ went s t′ r′ a′ e′ .1)
+row-both ed s t t′ r r′ a a′ m m′ q e e′ =
+    music-both s t t′ (hasHigh (clean r)) (hasHigh (clean r′)) (effects ed (clean r)) (clean r) (clean r′) a a′ (s .env .inHeader)
+    (sym (ap (λ (k : Kind). act s k (s .env .inHeader)) m) ∙ went ed s t r a e .1)
+    (ap (λ (es : List Effect). act s (music (hasHigh (clean r′)) es (clean r′)) (s .env .inHeader)) (ap (map effectOf) q) ∙ sym (ap (λ (k : Kind). act s k (s .env .inHeader)) m′) ∙ went ed s t′ r′ a′ e′ .1)
 
 -- the parts of items that are alike in one place
-ends-same : (u : ScanState) (l k : List ℕ) (a x x′ y : Items) → tokens 0 l ≡ tokens 0 k → Alike l k x x′ → partsAfter u (a ++ (x ++ y)) ≡ partsAfter u (a ++ (x′ ++ y))
-ends-same u l k a x x′ y q none-given = refl
-ends-same u l k a x x′ y q (one-given p v m) =
-    parts-same (u .env) (λ n. itemsOf n (a ++ ((p, musicLine v m l) ∷ y))) (λ n. itemsOf n (a ++ ((p, musicLine v m k) ∷ y))) (λ n. part-same (u .env) p n v m l k q a y) (max 1 (length (u .env .voices))) 0
+ends-same : (ed : Edition) (u : ScanState) (l k : List ℕ) (a x x′ y : Items) → tokens ed 0 l ≡ tokens ed 0 k → Alike l k x x′ → partsAfter ed u (a ++ (x ++ y)) ≡ partsAfter ed u (a ++ (x′ ++ y))
+ends-same ed u l k a x x′ y q none-given = refl
+ends-same ed u l k a x x′ y q (one-given p v m) =
+    parts-same ed (u .env) (λ n. itemsOf n (a ++ ((p, musicLine v m l) ∷ y))) (λ n. itemsOf n (a ++ ((p, musicLine v m k) ∷ y))) (λ n. part-same ed (u .env) p n v m l k q a y) (max 1 (length (u .env .voices))) 0
 
 -- a run of the rows behind xs, cut behind the row r
-abbrev Split : List TextLine → TextLine → ScanState → Items → ScanState → Items → Type 0
-Split bs r s a u c = (t : ScanState) × (x : Items) × (y : Items) × ((step s r ≡ on t x) × (Run reader t bs u y × (c ≡ a ++ (x ++ y))))
+abbrev Split : Edition → List TextLine → TextLine → ScanState → Items → ScanState → Items → Type 0
+Split ed bs r s a u c = (t : ScanState) × (x : Items) × (y : Items) × ((step ed s r ≡ on t x) × (Run (reader ed) t bs u y × (c ≡ a ++ (x ++ y))))
 
-split : (bs : List TextLine) (r : TextLine) (s u : ScanState) (a b c : Items) → Run reader s (r ∷ bs) u b → c ≡ a ++ b → Split bs r s a u c
-split bs r s u a b c (then {t = t} {a = x} {b = y} e f) q = (t, x, y, (e, (f, q)))
+split : (ed : Edition) (bs : List TextLine) (r : TextLine) (s u : ScanState) (a b c : Items) → Run (reader ed) s (r ∷ bs) u b → c ≡ a ++ b → Split ed bs r s a u c
+split ed bs r s u a b c (then {t = t} {a = x} {b = y} e f) q = (t, x, y, (e, (f, q)))
 
-halves : (xs bs : List TextLine) (r : TextLine) (u : ScanState) (c : Items) → run step begin (xs ++ (r ∷ bs)) ≡ on u c → (s : ScanState) × (a : Items) × (Run reader begin xs s a × Split bs r s a u c)
-halves xs bs r u c e = go (run-cut reader xs (run-of reader (xs ++ (r ∷ bs)) begin u c e))
+halves : (ed : Edition) (xs bs : List TextLine) (r : TextLine) (u : ScanState) (c : Items) → run (step ed) begin (xs ++ (r ∷ bs)) ≡ on u c → (s : ScanState) × (a : Items) × (Run (reader ed) begin xs s a × Split ed bs r s a u c)
+halves ed xs bs r u c e = go (run-cut (reader ed) xs (run-of (reader ed) (xs ++ (r ∷ bs)) begin u c e))
   where
-    go : (s : ScanState) × (a : Items) × (b : Items) × Run reader begin xs s a × Run reader s (r ∷ bs) u b × (c ≡ a ++ b) → (s : ScanState) × (a : Items) × (Run reader begin xs s a × Split bs r s a u c)
-    go (s, a, b, d, f, q) = (s, a, (d, split bs r s u a b c f q))
+    go : (s : ScanState) × (a : Items) × (b : Items) × Run (reader ed) begin xs s a × Run (reader ed) s (r ∷ bs) u b × (c ≡ a ++ b) → (s : ScanState) × (a : Items) × (Run (reader ed) begin xs s a × Split ed bs r s a u c)
+    go (s, a, b, d, f, q) = (s, a, (d, split ed bs r s u a b c f q))
 
-behind-row : (bs : List TextLine) (r r′ : TextLine) (s u u′ : ScanState) (a c c′ : Items) → IsMusicRow r → IsMusicRow r′ → tokens 0 (clean r) ≡ tokens 0 (clean r′) → Split bs r s a u c → Split bs r′ s a u′ c′
-    → partsAfter u c ≡ partsAfter u′ c′
-behind-row bs r r′ s u u′ a c c′ m m′ q (t, x, y, (e, (f, w))) (t′, x′, y′, (e′, (f′, w′))) = go (row-both s t t′ r r′ x x′ m m′ q e e′)
+behind-row : (ed : Edition) (bs : List TextLine) (r r′ : TextLine) (s u u′ : ScanState) (a c c′ : Items) → IsMusicRow ed r → IsMusicRow ed r′ → tokens ed 0 (clean r) ≡ tokens ed 0 (clean r′) → Split ed bs r s a u c → Split ed bs r′ s a u′ c′
+    → partsAfter ed u c ≡ partsAfter ed u′ c′
+behind-row ed bs r r′ s u u′ a c c′ m m′ q (t, x, y, (e, (f, w))) (t′, x′, y′, (e′, (f′, w′))) = go (row-both ed s t t′ r r′ x x′ m m′ q e e′)
   where
-    last : (u ≡ u′) × (y ≡ y′) → partsAfter u (a ++ (x′ ++ y)) ≡ partsAfter u′ (a ++ (x′ ++ y′))
-    last n i = partsAfter (n .0 i) (a ++ (x′ ++ n .1 i))
+    last : (u ≡ u′) × (y ≡ y′) → partsAfter ed u (a ++ (x′ ++ y)) ≡ partsAfter ed u′ (a ++ (x′ ++ y′))
+    last n i = partsAfter ed (n .0 i) (a ++ (x′ ++ n .1 i))
 
-    go : Both (clean r) (clean r′) t t′ x x′ → partsAfter u c ≡ partsAfter u′ c′
+    go : Both (clean r) (clean r′) t t′ x x′ → partsAfter ed u c ≡ partsAfter ed u′ c′
     go (b, alike) =
-        ap (partsAfter u) w ∙ ends-same u (clean r) (clean r′) a x x′ y q alike
-        ∙ last (run-one reader f (subst (λ (z : ScanState). Run reader z bs u′ y′) (sym b) f′))
-        ∙ ap (partsAfter u′) (sym w′)
+        ap (partsAfter ed u) w ∙ ends-same ed u (clean r) (clean r′) a x x′ y q alike
+        ∙ last (run-one (reader ed) f (subst (λ (z : ScanState). Run (reader ed) z bs u′ y′) (sym b) f′))
+        ∙ ap (partsAfter ed u′) (sym w′)
 
-same-start : (xs bs : List TextLine) (r r′ : TextLine) (u u′ : ScanState) (c c′ : Items) → IsMusicRow r → IsMusicRow r′ → tokens 0 (clean r) ≡ tokens 0 (clean r′)
-    → run step begin (xs ++ (r ∷ bs)) ≡ on u c → run step begin (xs ++ (r′ ∷ bs)) ≡ on u′ c′ → partsAfter u c ≡ partsAfter u′ c′
-same-start xs bs r r′ u u′ c c′ m m′ q e e′ = go (halves xs bs r u c e) (halves xs bs r′ u′ c′ e′)
+same-start : (ed : Edition) (xs bs : List TextLine) (r r′ : TextLine) (u u′ : ScanState) (c c′ : Items) → IsMusicRow ed r → IsMusicRow ed r′ → tokens ed 0 (clean r) ≡ tokens ed 0 (clean r′)
+    → run (step ed) begin (xs ++ (r ∷ bs)) ≡ on u c → run (step ed) begin (xs ++ (r′ ∷ bs)) ≡ on u′ c′ → partsAfter ed u c ≡ partsAfter ed u′ c′
+same-start ed xs bs r r′ u u′ c c′ m m′ q e e′ = go (halves ed xs bs r u c e) (halves ed xs bs r′ u′ c′ e′)
   where
-    go : (s : ScanState) × (a : Items) × (Run reader begin xs s a × Split bs r s a u c) → (s : ScanState) × (a : Items) × (Run reader begin xs s a × Split bs r′ s a u′ c′) → partsAfter u c ≡ partsAfter u′ c′
-    go (s, a, (d, k)) (s′, a′, (d′, k′)) = behind-row bs r r′ s u u′ a c c′ m m′ q k (here (run-one reader d d′) k′)
+    go : (s : ScanState) × (a : Items) × (Run (reader ed) begin xs s a × Split ed bs r s a u c) → (s : ScanState) × (a : Items) × (Run (reader ed) begin xs s a × Split ed bs r′ s a u′ c′) → partsAfter ed u c ≡ partsAfter ed u′ c′
+    go (s, a, (d, k)) (s′, a′, (d′, k′)) = behind-row ed bs r r′ s u u′ a c c′ m m′ q k (here (run-one (reader ed) d d′) k′)
       where
-        here : (s ≡ s′) × (a ≡ a′) → Split bs r′ s′ a′ u′ c′ → Split bs r′ s a u′ c′
-        here o k = subst (λ (z : ScanState). Split bs r′ z a u′ c′) (sym (o .0)) (subst (λ (z : Items). Split bs r′ s′ z u′ c′) (sym (o .1)) k)
+        here : (s ≡ s′) × (a ≡ a′) → Split ed bs r′ s′ a′ u′ c′ → Split ed bs r′ s a u′ c′
+        here o k = subst (λ (z : ScanState). Split ed bs r′ z a u′ c′) (sym (o .0)) (subst (λ (z : Items). Split ed bs r′ s′ z u′ c′) (sym (o .1)) k)
 
 -- TWO TEXTS THAT DIFFER IN ONE MUSIC LINE, with the same tokens, have one reading
-pub same-tokens : (text text′ : List ℕ) (rl sl rl′ sl′ : ℕ) (xs bs : List TextLine) (r r′ : TextLine) → textLines text ≡ xs ++ (r ∷ bs) → textLines text′ ≡ xs ++ (r′ ∷ bs) → IsMusicRow r → IsMusicRow r′
-    → tokens 0 (clean r) ≡ tokens 0 (clean r′) → Accepted (parseAbc text rl sl) → Accepted (parseAbc text′ rl′ sl′) → parseAbc text rl sl .verdict ≡ parseAbc text′ rl′ sl′ .verdict
+pub same-tokens : (ed : Edition) (text text′ : List ℕ) (rl sl rl′ sl′ : ℕ) (xs bs : List TextLine) (r r′ : TextLine) → textLines text ≡ xs ++ (r ∷ bs) → textLines text′ ≡ xs ++ (r′ ∷ bs) → IsMusicRow ed r → IsMusicRow ed r′
+    → tokens ed 0 (clean r) ≡ tokens ed 0 (clean r′) → Accepted (parseAbc ed text rl sl) → Accepted (parseAbc ed text′ rl′ sl′) → parseAbc ed text rl sl .verdict ≡ parseAbc ed text′ rl′ sl′ .verdict
 unfolding scan
-same-tokens text text′ rl sl rl′ sl′ xs bs r r′ e e′ m m′ q h h′ = go (accepted-scan text rl sl h) (accepted-scan text′ rl′ sl′ h′)
+same-tokens ed text text′ rl sl rl′ sl′ xs bs r r′ e e′ m m′ q h h′ = go (accepted-scan ed text rl sl h) (accepted-scan ed text′ rl′ sl′ h′)
   where
-    go : Scanned text (parseAbc text rl sl .verdict) → Scanned text′ (parseAbc text′ rl′ sl′ .verdict) → parseAbc text rl sl .verdict ≡ parseAbc text′ rl′ sl′ .verdict
+    go : Scanned ed text (parseAbc ed text rl sl .verdict) → Scanned ed text′ (parseAbc ed text′ rl′ sl′ .verdict) → parseAbc ed text rl sl .verdict ≡ parseAbc ed text′ rl′ sl′ .verdict
     go (u, c, (f, w)) (u′, c′, (f′, w′)) =
         w
         ∙ ap reading
-        (same-start xs bs r r′ u u′ c c′ m m′ q (subst (λ (z : List TextLine). run step begin z ≡ on u c) e f) (subst (λ (z : List TextLine). run step begin z ≡ on u′ c′) e′ f′))
+        (same-start ed xs bs r r′ u u′ c c′ m m′ q (subst (λ (z : List TextLine). run (step ed) begin z ≡ on u c) e f) (subst (λ (z : List TextLine). run (step ed) begin z ≡ on u′ c′) e′ f′))
         ∙ sym w′
 
 -- ONE QUOTED TEXT OR DECORATION FOR ANOTHER: where it begins as a token of both lines, behind the same tokens
-sign-tokens : (c : ℕ) (t : Token) → Sign c t → (q s : List ℕ) → all (λ x. not (eqb x c)) q ≡ true → tokens 0 (c ∷ (q ++ (c ∷ s))) ≡ t ∷ tokens 0 s
-sign-tokens c t quote q s h = quoted-token q s h
-sign-tokens c t bang q s h = bang-token q s h
-sign-tokens c t plus q s h = plus-token q s h
+sign-tokens : (ed : Edition) (c : ℕ) (t : Token) → Sign c t → (q s : List ℕ) → all (λ x. not (eqb x c)) q ≡ true → tokens ed 0 (c ∷ (q ++ (c ∷ s))) ≡ t ∷ tokens ed 0 s
+sign-tokens ed c t quote q s h = quoted-token ed q s h
+sign-tokens ed c t bang q s h = bang-token ed q s h
+sign-tokens ed c t plus q s h = plus-token ed q s h
 
-pub marked-for-marked : (text text′ : List ℕ) (rl sl rl′ sl′ : ℕ) (xs bs : List TextLine) (r r′ : TextLine) → textLines text ≡ xs ++ (r ∷ bs) → textLines text′ ≡ xs ++ (r′ ∷ bs) → IsMusicRow r → IsMusicRow r′
+pub marked-for-marked : (ed : Edition) (text text′ : List ℕ) (rl sl rl′ sl′ : ℕ) (xs bs : List TextLine) (r r′ : TextLine) → textLines text ≡ xs ++ (r ∷ bs) → textLines text′ ≡ xs ++ (r′ ∷ bs) → IsMusicRow ed r → IsMusicRow ed r′
     → (c : ℕ) (t : Token) → Sign c t → (before : List Token) (q q′ s : List ℕ) → all (λ x. not (eqb x c)) q ≡ true → all (λ x. not (eqb x c)) q′ ≡ true
-    → tokens 0 (clean r) ≡ before ++ tokens 0 (c ∷ (q ++ (c ∷ s))) → tokens 0 (clean r′) ≡ before ++ tokens 0 (c ∷ (q′ ++ (c ∷ s)))
-    → Accepted (parseAbc text rl sl) → Accepted (parseAbc text′ rl′ sl′) → parseAbc text rl sl .verdict ≡ parseAbc text′ rl′ sl′ .verdict
-marked-for-marked text text′ rl sl rl′ sl′ xs bs r r′ e e′ m m′ c t g before q q′ s h h′ k k′ =
-    same-tokens text text′ rl sl rl′ sl′ xs bs r r′ e e′ m m′ (k ∙ ap (λ (ts : List Token). before ++ ts) (sign-tokens c t g q s h ∙ sym (sign-tokens c t g q′ s h′)) ∙ sym k′)
+    → tokens ed 0 (clean r) ≡ before ++ tokens ed 0 (c ∷ (q ++ (c ∷ s))) → tokens ed 0 (clean r′) ≡ before ++ tokens ed 0 (c ∷ (q′ ++ (c ∷ s)))
+    → Accepted (parseAbc ed text rl sl) → Accepted (parseAbc ed text′ rl′ sl′) → parseAbc ed text rl sl .verdict ≡ parseAbc ed text′ rl′ sl′ .verdict
+marked-for-marked ed text text′ rl sl rl′ sl′ xs bs r r′ e e′ m m′ c t g before q q′ s h h′ k k′ =
+    same-tokens ed text text′ rl sl rl′ sl′ xs bs r r′ e e′ m m′ (k ∙ ap (λ (ts : List Token). before ++ ts) (sign-tokens ed c t g q s h ∙ sym (sign-tokens ed c t g q′ s h′)) ∙ sym k′)

@@ -10,6 +10,7 @@ use lib.ListN.{length}
 use borrow.Author.Tests.{leb-true, le-leb}
 use Rattle.laws.specs.Lists.{sum}
 use Rattle.laws.proofs.Bools.{by-test}
+use Rattle.editions.specs.declared.Edition.{Edition}
 use Rattle.reader.specs.Text.{textLines, clean}
 use Rattle.reader.specs.Steps.{refuse, on}
 use Rattle.reader.specs.Scan.{Items, Out, ScanState, scan}
@@ -35,31 +36,31 @@ unfolding ended written
 fits-ended ps rl sl m k = rw (le-leb 1 (sum measureCount ps) m) (rw (le-leb (length (encode ps)) rl k) tt)
 
 -- an accepted text was scanned to such an end
-abbrev Ended : List ℕ → ℕ → ℕ → Type 0
-Ended text rl sl = (u : ScanState) × (c : Items) × ((scan (textLines text) ≡ on u c) × Accepted (ended (partsAfter u c) rl sl))
+abbrev Ended : Edition → List ℕ → ℕ → ℕ → Type 0
+Ended ed text rl sl = (u : ScanState) × (c : Items) × ((scan ed (textLines text) ≡ on u c) × Accepted (ended (partsAfter ed u c) rl sl))
 
-after-scan : (text : List ℕ) (rl sl : ℕ) (y : Out) → scan (textLines text) ≡ y → Accepted (scanned rl sl y) → Ended text rl sl
+after-scan : (ed : Edition) (text : List ℕ) (rl sl : ℕ) (y : Out) → scan ed (textLines text) ≡ y → Accepted (scanned ed rl sl y) → Ended ed text rl sl
 unfolding scanned finish
-after-scan text rl sl (refuse n l) e h = absurd (late-no n l rl sl h)
-after-scan text rl sl (on u c) e h = (u, c, (e, h))
+after-scan ed text rl sl (refuse n l) e h = absurd (late-no n l rl sl h)
+after-scan ed text rl sl (on u c) e h = (u, c, (e, h))
 
-unless-ended : (text : List ℕ) (rl sl : ℕ) (x : Option Outcome) → Not x → Accepted (unless text rl sl x) → Ended text rl sl
+unless-ended : (ed : Edition) (text : List ℕ) (rl sl : ℕ) (x : Option Outcome) → Not x → Accepted (unless ed text rl sl x) → Ended ed text rl sl
 unfolding unless
-unless-ended text rl sl (some w) n h = absurd (n h)
-unless-ended text rl sl none n h = after-scan text rl sl (scan (textLines text)) refl h
+unless-ended ed text rl sl (some w) n h = absurd (n h)
+unless-ended ed text rl sl none n h = after-scan ed text rl sl (scan ed (textLines text)) refl h
 
-accepted-ended : (text : List ℕ) (rl sl : ℕ) → Accepted (parseAbc text rl sl) → Ended text rl sl
+accepted-ended : (ed : Edition) (text : List ℕ) (rl sl : ℕ) → Accepted (parseAbc ed text rl sl) → Ended ed text rl sl
 unfolding parseAbc
-accepted-ended text rl sl h = unless-ended text rl sl (early text rl sl) (early-not text rl sl) h
+accepted-ended ed text rl sl h = unless-ended ed text rl sl (early text rl sl) (early-not text rl sl) h
 
-pub still-read : (text text′ : List ℕ) (rl sl rl′ sl′ : ℕ) → map clean (textLines text) ≡ map clean (textLines text′) → Accepted (parseAbc text rl sl) → Begins text′ sl′ → rl ≤ rl′
-    → Accepted (parseAbc text′ rl′ sl′) × (parseAbc text rl sl .verdict ≡ parseAbc text′ rl′ sl′ .verdict)
+pub still-read : (ed : Edition) (text text′ : List ℕ) (rl sl rl′ sl′ : ℕ) → map clean (textLines text) ≡ map clean (textLines text′) → Accepted (parseAbc ed text rl sl) → Begins text′ sl′ → rl ≤ rl′
+    → Accepted (parseAbc ed text′ rl′ sl′) × (parseAbc ed text rl sl .verdict ≡ parseAbc ed text′ rl′ sl′ .verdict)
 unfolding scanned finish
-still-read text text′ rl sl rl′ sl′ e h b le = go (accepted-ended text rl sl h)
+still-read ed text text′ rl sl rl′ sl′ e h b le = go (accepted-ended ed text rl sl h)
   where
-    go : Ended text rl sl → Accepted (parseAbc text′ rl′ sl′) × (parseAbc text rl sl .verdict ≡ parseAbc text′ rl′ sl′ .verdict)
+    go : Ended ed text rl sl → Accepted (parseAbc ed text′ rl′ sl′) × (parseAbc ed text rl sl .verdict ≡ parseAbc ed text′ rl′ sl′ .verdict)
     go (u, c, (f, k)) =
-        let q = ended-fits (partsAfter u c) rl sl k in
-        let x : parseAbc text′ rl′ sl′ ≡ ended (partsAfter u c) rl′ sl′ = after-tests text′ rl′ sl′ b ∙ ap (scanned rl′ sl′) (sym (same-scan (textLines text) (textLines text′) e) ∙ f) in
-        let a : Accepted (parseAbc text′ rl′ sl′) = subst Accepted (sym x) (fits-ended (partsAfter u c) rl′ sl′ (q .0) (omega (arith, q .1, le))) in
-        (a, same-lines text text′ rl sl rl′ sl′ e h a)
+        let q = ended-fits (partsAfter ed u c) rl sl k in
+        let x : parseAbc ed text′ rl′ sl′ ≡ ended (partsAfter ed u c) rl′ sl′ = after-tests ed text′ rl′ sl′ b ∙ ap (scanned ed rl′ sl′) (sym (same-scan ed (textLines text) (textLines text′) e) ∙ f) in
+        let a : Accepted (parseAbc ed text′ rl′ sl′) = subst Accepted (sym x) (fits-ended (partsAfter ed u c) rl′ sl′ (q .0) (omega (arith, q .1, le))) in
+        (a, same-lines ed text text′ rl sl rl′ sl′ e h a)

@@ -30,6 +30,10 @@ abbrev pub tallyOf : Verdict → List Counts
 tallyOf (refusal n l) = []
 tallyOf (reading ps) = tally ps
 
+-- a line of the tally but for its syllables: measures, notes that are no rests, rests
+abbrev pub notesOnly : Counts → ℕ × ℕ × ℕ
+notesOnly c = (c .measures, c .sounded, c .rests)
+
 -- the counts of part p of an answer; none, if it has no such part
 abbrev pub countsAt : Verdict → ℕ → Counts
 countsAt w p = elim (partIn w p) [ none ↦ record { measures = 0; sounded = 0; rests = 0; syllables = 0 } | some x ↦ countsOf x ]

@@ -1,9 +1,11 @@
--- THE DOMAIN OF EQUALITY (document 01): "accepted texts in which no length has denominator times unit above 2^57".
+-- THE DOMAIN OF EQUALITY (document 01): "accepted texts in which no length has denominator times unit above 2^57". Of the first edition: "The Rust is compared with that one
+-- only" (document 02, T-03).
 use Prim.Native.Nat.{ℕ, _*_, _^_}
 use mathlib.Core.Bool.{Bool, true, false, _&&_}
 use mathlib.Core.List.{List, [], _∷_}
 use lib.Dec.{leb}
 use Rattle.laws.specs.Lists.{all}
+use Rattle.editions.specs.declared.Edition.the-variants.{First}
 use Rattle.reader.specs.Text.{textLines}
 use Rattle.reader.specs.Lengths.{Length}
 use Rattle.reader.specs.Token.{Token, space, overlay, quoted, broken, tuplet, slur, graceOpen, graceClose, decoration, barline, volta, unit, meter, key, field, chord, rest, note, nothing, skipped, refused}
@@ -76,7 +78,7 @@ itemFits keyInHeader = true
 itemFits (keyChange k) = true
 itemFits (meterChange m) = true
 itemFits (lyricLine b t) = true
-itemFits (musicLine u m l) = lineFits u (tokens 0 l)
+itemFits (musicLine u m l) = lineFits u (tokens First 0 l)
 
 abbrev pub itemsFit : Out → Bool
 itemsFit (refuse n l) = false
@@ -88,4 +90,4 @@ isAccepted (reading ps) = true
 
 -- of a text and the lengths of both stores
 abbrev pub inDomain : List ℕ → ℕ → ℕ → Bool
-inDomain text rl sl = isAccepted (parseAbc text rl sl .verdict) && itemsFit (scan (textLines text))
+inDomain text rl sl = isAccepted (parseAbc First text rl sl .verdict) && itemsFit (scan First (textLines text))

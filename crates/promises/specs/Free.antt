@@ -4,6 +4,7 @@ use mathlib.Core.Path.{_≡_}
 use mathlib.Core.Bool.{true, false}
 use mathlib.Core.List.{List}
 use Rattle.laws.specs.Lists.{isNil}
+use Rattle.editions.specs.declared.Edition.{Edition}
 use Rattle.reader.specs.Text.{clean, hasHigh}
 use Rattle.reader.specs.Token.{Token, quoted, decoration}
 use Rattle.reader.specs.Tokens.{effects}
@@ -16,8 +17,8 @@ pub data Silent (r : TextLine) : Type 0 where
   other-field : isField (clean r) ≡ true → isV (clean r) ≡ false → isK (clean r) ≡ false → isL (clean r) ≡ false → isM (clean r) ≡ false → isX (clean r) ≡ false → isLyric (clean r) ≡ false → Silent r
 
 -- a music line
-abbrev pub IsMusicRow : TextLine → Type 0
-IsMusicRow r = kindOf r ≡ music (hasHigh (clean r)) (effects (clean r)) (clean r)
+abbrev pub IsMusicRow : Edition → TextLine → Type 0
+IsMusicRow ed r = kindOf ed r ≡ music (hasHigh (clean r)) (effects ed (clean r)) (clean r)
 
 -- a sign that opens and closes a token: `"` a quoted text, `!` and `+` a decoration
 pub data Sign : ℕ → Token → Type 0 where

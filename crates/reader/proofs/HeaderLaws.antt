@@ -12,10 +12,13 @@ use Rattle.laws.specs.Lists.{elem, startsWith, isNil}
 use Rattle.laws.proofs.Bools.{by-test, both-true, and-left, and-right, and-true, and-no-right, eqb-sym}
 use Rattle.standard.specs.Bytes.{ascii}
 use Rattle.standard.specs.Texts.{stillHeader}
+use Rattle.standard.specs.Keys.{Key}
+use Rattle.editions.specs.declared.Edition.{Edition}
 use Rattle.reader.specs.Text.{clean, hasHigh}
 use Rattle.reader.specs.Tokens.{Effect, effects}
-use Rattle.reader.specs.Fields.{meterOf, unitOf, identifier, middleWord}
-use Rattle.reader.specs.Lines.{begins, isV, isK, isL, isM, isX, isLyric, isField, Kind, blank, refused, lyric, voice, key, meter, unit, tune, other, music, voiceKind, keyKind, fieldKind, lineKind, kindOf}
+use Rattle.reader.specs.Keys.{keyOf}
+use Rattle.reader.specs.Fields.{meterOf, unitOf, identifier, middleWord, keyRefusal}
+use Rattle.reader.specs.Lines.{begins, isV, isK, isL, isM, isX, isLyric, isField, Kind, blank, refused, lyric, voice, key, meter, unit, tune, other, music, voiceKind, kindUnless, keyKind, fieldKind, lineKind, kindOf}
 use Rattle.reader.specs.Steps.{TextLine, refuse, on, first, run}
 use Rattle.reader.specs.Scan.{Items, Out, ScanState, begin, mostLines, mostVoices, voicesBefore, firstRefusal, playOn, voiceOn, unitOn, act, step, scan}
 
@@ -55,24 +58,29 @@ voice-keyed : (b : Bool) (v : List ℕ) → b ≡ false → Keyed b (voiceKind v
 unfolding voiceKind Keyed
 voice-keyed b v e = keyed-by b (isNil (identifier v)) _ _ (λ _. tt) (λ _. e)
 
-key-keyed : (b : Bool) (v : List ℕ) → b ≡ true → Keyed b (keyKind v)
-unfolding keyKind Keyed
-key-keyed b v e = keyed-by b (middleWord v) _ _ (λ _. tt) (λ _. e)
+unless-keyed : (b : Bool) (k : Key) (o : Option ℕ) → b ≡ true → Keyed b (kindUnless k o)
+unfolding kindUnless Keyed
+unless-keyed b k none e = e
+unless-keyed b k (some n) e = tt
 
-field-keyed : (l : List ℕ) → Keyed (isK l) (fieldKind l)
+key-keyed : (ed : Edition) (b : Bool) (v : List ℕ) → b ≡ true → Keyed b (keyKind ed v)
+unfolding keyKind
+key-keyed ed b v e = unless-keyed b (keyOf ed v) (keyRefusal ed v) e
+
+field-keyed : (ed : Edition) (l : List ℕ) → Keyed (isK l) (fieldKind ed l)
 unfolding fieldKind Keyed
-field-keyed l =
+field-keyed ed l =
     keyed-by (isK l) (isV l) _ _ (λ v. keyed-by (isK l) (hasHigh l) _ _ (λ _. tt) (λ _. voice-keyed (isK l) (drop 2 l) (other-letter 86 75 l refl v)))
-    (λ _. keyed-by (isK l) (isK l) _ _ (λ k. keyed-by (isK l) (hasHigh l) _ _ (λ _. tt) (λ _. key-keyed (isK l) (drop 2 l) k))
+    (λ _. keyed-by (isK l) (isK l) _ _ (λ k. keyed-by (isK l) (hasHigh l) _ _ (λ _. tt) (λ _. key-keyed ed (isK l) (drop 2 l) k))
     (λ k. keyed-by (isK l) (isL l) _ _ (λ _. keyed-by (isK l) (hasHigh l) _ _ (λ _. tt) (λ _. k))
     (λ _. keyed-by (isK l) (isM l) _ _ (λ _. keyed-by (isK l) (hasHigh l) _ _ (λ _. tt) (λ _. k)) (λ _. keyed-by (isK l) (isX l) _ _ (λ _. k) (λ _. k)))))
 
-line-keyed : (l : List ℕ) → Keyed (isK l) (lineKind l)
+line-keyed : (ed : Edition) (l : List ℕ) → Keyed (isK l) (lineKind ed l)
 unfolding lineKind Keyed
-line-keyed l =
+line-keyed ed l =
     keyed-by (isK l) (isNil l) _ _ (nil l)
     (λ _. keyed-by (isK l) (ltb 1048576 (length l)) _ _ (λ _. tt)
-    (λ _. keyed-by (isK l) (isLyric l) _ _ (λ y. other-letter 119 75 l refl y) (λ _. keyed-by (isK l) (isField l) _ _ (λ _. field-keyed l) (λ f. no-field l f))))
+    (λ _. keyed-by (isK l) (isLyric l) _ _ (λ y. other-letter 119 75 l refl y) (λ _. keyed-by (isK l) (isField l) _ _ (λ _. field-keyed ed l) (λ f. no-field l f))))
   where
     nil : (l : List ℕ) → isNil l ≡ true → isK l ≡ false
     nil [] e = refl
@@ -124,10 +132,10 @@ act-after s (music hi es l) b e true i = same s b (act s (music hi es l) true) e
 act-after s (music true es l) b e false i = tt
 act-after s (music false es l) b e false i = same s b (act s (music false es l) false) e (play-after s es l (firstRefusal (s .notes) es))
 
-step-after : (s : ScanState) (r : TextLine) → After (s .env .inHeader && not (isK (clean r))) (step s r)
+step-after : (ed : Edition) (s : ScanState) (r : TextLine) → After (s .env .inHeader && not (isK (clean r))) (step ed s r)
 unfolding step kindOf After
-step-after s r =
-    by-test (ltb (s .lines) mostLines) (λ t. rw t (act-after s (kindOf r) (isK (clean r)) (line-keyed (clean r)) (s .env .inHeader) refl)) (λ t. rw t tt)
+step-after ed s r =
+    by-test (ltb (s .lines) mostLines) (λ t. rw t (act-after s (kindOf ed r) (isK (clean r)) (line-keyed ed (clean r)) (s .env .inHeader) refl)) (λ t. rw t tt)
 
 -- `K:` at the front
 k-starts : (l : List ℕ) → isK l ≡ startsWith (ascii "K:") l
@@ -135,10 +143,10 @@ k-starts [] = refl
 k-starts (x ∷ []) = sym (and-no-right (eqb 75 x) false refl)
 k-starts (x ∷ (y ∷ r)) = (λ i. eqb-sym x 75 i && eqb-sym y 58 i) ∙ ap (λ (b : Bool). eqb 75 x && b) (sym (and-true (eqb 58 y)))
 
-rows-after : (rs : List TextLine) (s : ScanState) → After (s .env .inHeader && stillHeader (map clean rs)) (run step s rs)
+rows-after : (ed : Edition) (rs : List TextLine) (s : ScanState) → After (s .env .inHeader && stillHeader (map clean rs)) (run (step ed) s rs)
 unfolding stillHeader After
-rows-after [] s = sym (and-true (s .env .inHeader))
-rows-after (r ∷ rs) s = go (λ t. rows-after rs t) (step s r) (step-after s r)
+rows-after ed [] s = sym (and-true (s .env .inHeader))
+rows-after ed (r ∷ rs) s = go (λ t. rows-after ed rs t) (step ed s r) (step-after ed s r)
   where
     later : (h : Bool) (a : Items) (o : Out) → After h o → After h (first a o)
     later h a (refuse n l) e = tt
@@ -149,14 +157,14 @@ rows-after (r ∷ rs) s = go (λ t. rows-after rs t) (step s r) (step-after s r)
     both true false c = refl
     both false b c = refl
 
-    go : ((t : ScanState) → After (t .env .inHeader && stillHeader (map clean rs)) (run step t rs)) → (x : Out) → After (s .env .inHeader && not (isK (clean r))) x
-        → After (s .env .inHeader && (not (startsWith (ascii "K:") (clean r)) && stillHeader (map clean rs))) (elim x as (λ _. Out) [ refuse n l ↦ refuse n l | on t a ↦ first a (run step t rs) ])
+    go : ((t : ScanState) → After (t .env .inHeader && stillHeader (map clean rs)) (run (step ed) t rs)) → (x : Out) → After (s .env .inHeader && not (isK (clean r))) x
+        → After (s .env .inHeader && (not (startsWith (ascii "K:") (clean r)) && stillHeader (map clean rs))) (elim x as (λ _. Out) [ refuse n l ↦ refuse n l | on t a ↦ first a (run (step ed) t rs) ])
     go rec (refuse n l) e = tt
     go rec (on t a) e =
-        later _ a (run step t rs)
-        (subst (λ (b : Bool). After b (run step t rs))
+        later _ a (run (step ed) t rs)
+        (subst (λ (b : Bool). After b (run (step ed) t rs))
         (ap (λ (b : Bool). b && stillHeader (map clean rs)) e ∙ ap (λ (b : Bool). (s .env .inHeader && not b) && stillHeader (map clean rs)) (k-starts (clean r)) ∙ both (s .env .inHeader) (startsWith (ascii "K:") (clean r)) (stillHeader (map clean rs))) (rec t))
 
-pub header-meets : (rs : List TextLine) (t : ScanState) (a : Items) → scan rs ≡ on t a → t .env .inHeader ≡ stillHeader (map clean rs)
+pub header-meets : (ed : Edition) (rs : List TextLine) (t : ScanState) (a : Items) → scan ed rs ≡ on t a → t .env .inHeader ≡ stillHeader (map clean rs)
 unfolding scan begin After
-header-meets rs t a e = subst (After (stillHeader (map clean rs))) e (rows-after rs begin)
+header-meets ed rs t a e = subst (After (stillHeader (map clean rs))) e (rows-after ed rs begin)

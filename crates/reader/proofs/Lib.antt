@@ -15,6 +15,7 @@ pub mod InLine
 pub mod MoreStandard
 pub mod Texts
 pub mod Marks
+pub mod Tuplets
 pub mod HeaderLaws
 pub mod PassTests
 pub mod PassTexts

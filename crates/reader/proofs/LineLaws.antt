@@ -13,6 +13,7 @@ use Rattle.standard.specs.Keys.{Key}
 use Rattle.standard.specs.Fields.{Meter}
 use Rattle.standard.specs.Bars.{Barline}
 use Rattle.standard.specs.Notes.{nextVoice}
+use Rattle.editions.specs.declared.Edition.{Edition}
 use Rattle.reader.specs.Token.{Token, space, overlay, quoted, broken, tuplet, slur, graceOpen, graceClose, decoration, barline, volta, unit, meter, key, field, chord, rest, note, nothing, skipped, refused}
 use Rattle.reader.specs.Tokens.{tokens}
 use Rattle.reader.specs.Barlines.{leftOf}
@@ -165,19 +166,19 @@ kept-key header k [] s p = refl
 kept-key header k (m ∷ ms) s p = refl
 
 -- each item keeps it
-pub kept-item : (header : Key) (s : PartState) (i : Item) → Kept s → Kept (onItem header s i)
+pub kept-item : (ed : Edition) (header : Key) (s : PartState) (i : Item) → Kept s → Kept (onItem ed header s i)
 unfolding onItem onLyric onOpen onLine
-kept-item header s (voiceDeclared b) k = record { scopes-kept = k .scopes-kept; voices-kept = k .voices-kept }
-kept-item header s reset k = record { scopes-kept = k .scopes-kept; voices-kept = k .voices-kept }
-kept-item header s keyInHeader k = record { scopes-kept = k .scopes-kept; voices-kept = k .voices-kept }
-kept-item header s (keyChange q) k = record { scopes-kept = kept-key header q (s .measures) s (k .scopes-kept); voices-kept = item-four header s (keyChange q) (k .voices-kept) }
-kept-item header s (meterChange t) k = record { scopes-kept = k .scopes-kept; voices-kept = item-four header s (meterChange t) (k .voices-kept) }
-kept-item header s (lyricLine b t) k = record { scopes-kept = k .scopes-kept; voices-kept = k .voices-kept }
-kept-item header s (musicLine u t l) k =
-    let r = ready-after (lineBegins u t s) (tokens 0 l) (ready-begins u t s (k .voices-kept) (k .scopes-kept)) in
+kept-item ed header s (voiceDeclared b) k = record { scopes-kept = k .scopes-kept; voices-kept = k .voices-kept }
+kept-item ed header s reset k = record { scopes-kept = k .scopes-kept; voices-kept = k .voices-kept }
+kept-item ed header s keyInHeader k = record { scopes-kept = k .scopes-kept; voices-kept = k .voices-kept }
+kept-item ed header s (keyChange q) k = record { scopes-kept = kept-key header q (s .measures) s (k .scopes-kept); voices-kept = item-four ed header s (keyChange q) (k .voices-kept) }
+kept-item ed header s (meterChange t) k = record { scopes-kept = k .scopes-kept; voices-kept = item-four ed header s (meterChange t) (k .voices-kept) }
+kept-item ed header s (lyricLine b t) k = record { scopes-kept = k .scopes-kept; voices-kept = k .voices-kept }
+kept-item ed header s (musicLine u t l) k =
+    let r = ready-after (lineBegins u t s) (tokens ed 0 l) (ready-begins u t s (k .voices-kept) (k .scopes-kept)) in
     record { scopes-kept = r .scopes-4; voices-kept = r .voices-4 }
 
 -- so it is after any items of a part
-pub kept-after : (header : Key) (is : List Item) → Kept (foldl (onItem header) newPart is)
+pub kept-after : (ed : Edition) (header : Key) (is : List Item) → Kept (foldl (onItem ed header) newPart is)
 unfolding newPart
-kept-after header is = foldl-holds Kept (onItem header) (kept-item header) newPart is (record { scopes-kept = refl; voices-kept = tt })
+kept-after ed header is = foldl-holds Kept (onItem ed header) (kept-item ed header) newPart is (record { scopes-kept = refl; voices-kept = tt })

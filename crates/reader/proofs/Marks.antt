@@ -14,6 +14,7 @@ use Rattle.standard.specs.Pitches.{Written}
 use Rattle.standard.specs.Bars.{Barline, normal, repeatStart, repeatEnd, repeatBoth, double, final, closesEnding}
 use Rattle.standard.specs.Notes.{NoteKind, Flags, Pending, Behind, flagsOf, pendingAfter, slurOpens, graceOpens, graceCloses, nextVoice}
 use Rattle.standard.specs.Lyrics.{nextVerse}
+use Rattle.editions.specs.declared.Edition.{Edition}
 use Rattle.reader.specs.Lengths.{Length, valueOf}
 use Rattle.reader.specs.Pitches.{soundsOf, scopeAfterAll}
 use Rattle.reader.specs.Token.{Token, space, overlay, slur, graceOpen, graceClose, note, chord, rest, taken}
@@ -41,17 +42,17 @@ unfolding behind
 no-mark-meets c s h k = rw (h, k, behind)
 
 -- `(` before no digit starts a slur (4.11); `{` and `}` open and close grace notes (4.12); `&` is an overlay (7.4)
-pub slur-meets : (s : List ℕ) → countWhile isDigit s ≡ 0 → tokenOf (40 ∷ s) ≡ taken slur 1
+pub slur-meets : (ed : Edition) (s : List ℕ) → countWhile isDigit s ≡ 0 → tokenOf ed (40 ∷ s) ≡ taken slur 1
 unfolding everything
-slur-meets s h = rw h
+slur-meets ed s h = rw h
 
-pub grace-meets : (s : List ℕ) → (tokenOf (123 ∷ s) ≡ taken graceOpen 1) × (tokenOf (125 ∷ s) ≡ taken graceClose 1)
+pub grace-meets : (ed : Edition) (s : List ℕ) → (tokenOf ed (123 ∷ s) ≡ taken graceOpen 1) × (tokenOf ed (125 ∷ s) ≡ taken graceClose 1)
 unfolding everything
-grace-meets s = (refl, refl)
+grace-meets ed s = (refl, refl)
 
-pub overlay-meets : (s : List ℕ) → tokenOf (38 ∷ s) ≡ taken overlay 1
+pub overlay-meets : (ed : Edition) (s : List ℕ) → tokenOf ed (38 ∷ s) ≡ taken overlay 1
 unfolding everything
-overlay-meets s = refl
+overlay-meets ed s = refl
 
 -- what these do to what waits for the next note
 pub waits-meet : (s : PartState) → (onToken s slur .pending ≡ slurOpens (s .pending)) × ((onToken s graceOpen .pending ≡ graceOpens (s .pending)) × (onToken s graceClose .pending ≡ graceCloses (s .pending)))

@@ -18,6 +18,7 @@ use Rattle.standard.specs.Keys.{Key, keyAlter}
 use Rattle.standard.specs.Tuplets.{usualNormal}
 use Rattle.standard.specs.Passes.{pass, passes, passesOf}
 use Rattle.standard.specs.Lyrics.{Word, syllable, single, syllableText, syllables, syllabicOf}
+use Rattle.editions.specs.declared.Edition.{Edition}
 use Rattle.reader.specs.Text.{isSpace}
 use Rattle.reader.specs.Pieces.{pieces, words, separator, fieldWords}
 use Rattle.reader.specs.Fields.{firstWord, identifier}
@@ -25,11 +26,12 @@ use Rattle.reader.specs.Lengths as lengths
 use Rattle.reader.specs.Lengths.{Length, number, denominator, lengthOf}
 use Rattle.reader.specs.Pitches.{Scope, remembered, orKey, soundBy, soundOf, scopeBy, scopeAfter}
 use Rattle.reader.specs.Token.{taken, tuplet, volta}
-use Rattle.reader.specs.Tuplets.{notZero, positive, normalFor, counted, withCount, withNormal, withActual, tupletOf, tupletToken}
+use Rattle.reader.specs.Tuplets.{normalFor, counted, withCount, withNormal, withActual, tupletOf, tupletToken}
 use Rattle.reader.specs.PassesInTurn.{passNumber, itemOf, lastPass, inTurn, passList}
 use Rattle.reader.specs.PassesInTurn as lists
 use Rattle.reader.specs.Lyrics.{wordOf, orSkip}
 use Rattle.reader.proofs.Digits.{digit-not, count-while-front, digits-some, pieces-digits}
+use Rattle.reader.proofs.Standard.{positive-meets, part-meets}
 
 -- LENGTHS (4.3). A length is written as a numerator or none, and a slash with a denominator or none behind it, or no slash: `A` is A1, `A/` is A/2
 abbrev pub numeratorOf : List ℕ → ℕ
@@ -92,28 +94,23 @@ length-over-meets d e s a b h k z =
     ∙ ap {B = Length} (λ (m : ℕ). record { num = numeratorOf d; den = m; used = length d + 1 + length e }) (denominator-meets e s k)
 
 -- TUPLETS (4.13): `(p` has the default q, and r is p; `(p:q` has r = p
-positive-meets : (top : ℕ) (d t : List ℕ) → 0 < length d → all isDigit d ≡ true → 1 ≤ decimal 0 d → decimal 0 d ≤ top → countWhile isDigit t ≡ 0 → positive top (d ++ t) ≡ some (decimal 0 d)
-unfolding positive notZero
-positive-meets top d t n a low high s =
-    rw (count-while-front isDigit d t a s, take-append-seam d t, digits-some top d n a high, ne-eqb (decimal 0 d) 0 (λ e. absurd (omega (arith, e, low))))
-
-pub tuplet-p-meets : (a s : List ℕ) → 0 < length a → all isDigit a ≡ true → 2 ≤ decimal 0 a → decimal 0 a ≤ 255 → countWhile isDigit s ≡ 0 → is ":" (first s) ≡ false
-    → tupletOf (a ++ s) ≡ some (taken (tuplet (record { actual = decimal 0 a; normal = normalFor (decimal 0 a); count = decimal 0 a })) (1 + length a))
+pub tuplet-p-meets : (ed : Edition) (a s : List ℕ) → 0 < length a → all isDigit a ≡ true → 2 ≤ decimal 0 a → decimal 0 a ≤ 255 → countWhile isDigit s ≡ 0 → is ":" (first s) ≡ false
+    → tupletOf ed (a ++ s) ≡ some (taken (tuplet (record { actual = decimal 0 a; normal = normalFor ed (decimal 0 a); count = decimal 0 a })) (1 + length a))
 unfolding tupletOf withActual
-tuplet-p-meets a s na da lp hp z n =
+tuplet-p-meets ed a s na da lp hp z n =
     rw (positive-meets 255 a s na da (omega arith) hp z, count-while-front isDigit a s da z, drop-at a s (length a) refl)
     (rw (le-ltb (decimal 0 a) 2 lp, withActual) (rw (n, withActual)))
 
-pub tuplet-pq-meets : (a b s : List ℕ) → 0 < length a → 0 < length b → all isDigit a ≡ true → all isDigit b ≡ true → 2 ≤ decimal 0 a → decimal 0 a ≤ 255 → 1 ≤ decimal 0 b → decimal 0 b ≤ 255
+pub tuplet-pq-meets : (ed : Edition) (a b s : List ℕ) → 0 < length a → 0 < length b → all isDigit a ≡ true → all isDigit b ≡ true → 2 ≤ decimal 0 a → decimal 0 a ≤ 255 → 1 ≤ decimal 0 b → decimal 0 b ≤ 255
     → countWhile isDigit s ≡ 0 → is ":" (first s) ≡ false
-    → tupletOf (a ++ (58 ∷ (b ++ s))) ≡ some (taken (tuplet (record { actual = decimal 0 a; normal = decimal 0 b; count = decimal 0 a })) (1 + length a + 1 + length b))
+    → tupletOf ed (a ++ (58 ∷ (b ++ s))) ≡ some (taken (tuplet (record { actual = decimal 0 a; normal = decimal 0 b; count = decimal 0 a })) (1 + length a + 1 + length b))
 unfolding tupletOf withActual withNormal withCount
-tuplet-pq-meets a b s na nb da db lp hp lq hq z n =
+tuplet-pq-meets ed a b s na nb da db lp hp lq hq z n =
     let t : List ℕ = 58 ∷ (b ++ s) in
     let k : 1 + length b ≡ suc (length b) = omega arith in
     rw (positive-meets 255 a t na da (omega arith) hp refl, count-while-front isDigit a t da refl, drop-at a t (length a) refl)
     (rw (le-ltb (decimal 0 a) 2 lp, withActual)
-    (rw (positive-meets 255 b s nb db lq hq z, count-while-front isDigit b s db z, k, drop-at b s (length b) refl) (rw (n, withCount))))
+    (rw (part-meets ed (normalFor ed (decimal 0 a)) 255 b s nb db lq hq z, count-while-front isDigit b s db z, k, drop-at b s (length b) refl) (rw (n, withCount))))
 
 -- ACCIDENTALS hold to the bar's end (4.2; for notes of the same octave)
 pub accidental-holds : (k : Key) (sc : Scope) (w v : Written) (a : Accidental) → w .sign ≡ some a → v .sign ≡ none → v .step ≡ w .step → v .octave ≡ w .octave

@@ -9,6 +9,7 @@ use Rattle.laws.proofs.Bools.{by-test}
 use Rattle.standard.specs.Keys.{Key}
 use Rattle.standard.specs.Pitches.{Written}
 use Rattle.standard.specs.Notes.{isSounded}
+use Rattle.editions.specs.declared.Edition.{Edition}
 use Rattle.reader.specs.Pitches.{Scope, scopeAfter, soundsOf}
 use Rattle.reader.specs.Scan.{Env, Item}
 use Rattle.reader.specs.State.{Note, Verses}
@@ -27,7 +28,7 @@ length-sounds k sc [] = refl
 length-sounds k sc (w ∷ ws) = ap suc (length-sounds k (scopeAfter sc w) ws)
 
 -- as many parts as are asked for
-pub parts-count : (e : Env) (f : ℕ → List Item) (n q : ℕ) → length (parts e f n q) ≡ n
+pub parts-count : (ed : Edition) (e : Env) (f : ℕ → List Item) (n q : ℕ) → length (parts ed e f n q) ≡ n
 unfolding parts
-parts-count e f zero q = refl
-parts-count e f (suc n) q = ap suc (parts-count e f n (suc q))
+parts-count ed e f zero q = refl
+parts-count ed e f (suc n) q = ap suc (parts-count ed e f n (suc q))

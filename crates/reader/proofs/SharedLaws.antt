@@ -5,6 +5,7 @@ use mathlib.Core.Bool.{Bool}
 use mathlib.Core.List.{List, [], _∷_, map}
 use Rattle.laws.specs.Lists.{foldl}
 use Rattle.standard.specs.Fields.{Meter}
+use Rattle.editions.specs.declared.Edition.{Edition}
 use Rattle.reader.specs.Token.{Token, space, overlay, quoted, broken, tuplet, slur, graceOpen, graceClose, decoration, barline, volta, unit, meter, key, field, chord, rest, note, nothing, skipped, refused}
 use Rattle.reader.specs.Tokens.{Effect, counts, refuses, setsUnit, setsMeter, noEffect, effectOf, effects, tokens}
 use Rattle.reader.specs.Scan.{lastUnit, lastMeter}
@@ -79,11 +80,11 @@ meter-after [] s = refl
 meter-after (t ∷ ts) s = meter-after ts (onToken s t) ∙ ap (lastMeter (map effectOf ts)) (one-line t s .1) ∙ first-meter (effectOf t) (map effectOf ts) (s .line .meter)
 
 -- after a whole line, from the L and M that it began with: the scan's
-pub unit-after-line : (u : ℕ) (t : Meter) (l : List ℕ) (s : PartState) → onLine u t l s .line .unit ≡ lastUnit (effects l) u
+pub unit-after-line : (ed : Edition) (u : ℕ) (t : Meter) (l : List ℕ) (s : PartState) → onLine ed u t l s .line .unit ≡ lastUnit (effects ed l) u
 unfolding onLine effects lineBegins newLine
-unit-after-line u t l s = unit-after (tokens 0 l) (lineBegins u t s)
+unit-after-line ed u t l s = unit-after (tokens ed 0 l) (lineBegins u t s)
 
 -- the same for the meter
-pub meter-after-line : (u : ℕ) (t : Meter) (l : List ℕ) (s : PartState) → onLine u t l s .line .meter ≡ lastMeter (effects l) t
+pub meter-after-line : (ed : Edition) (u : ℕ) (t : Meter) (l : List ℕ) (s : PartState) → onLine ed u t l s .line .meter ≡ lastMeter (effects ed l) t
 unfolding onLine effects lineBegins newLine
-meter-after-line u t l s = meter-after (tokens 0 l) (lineBegins u t s)
+meter-after-line ed u t l s = meter-after (tokens ed 0 l) (lineBegins u t s)

@@ -15,6 +15,7 @@ use Rattle.standard.specs.Keys.{Key}
 use Rattle.standard.specs.Bars.{Barline, normal, repeatStart, repeatEnd, repeatBoth, double, final}
 use Rattle.standard.specs.Pitches.{Pitch}
 use Rattle.standard.specs.Fields.{Meter}
+use Rattle.editions.specs.declared.Edition.{Edition}
 use Rattle.reader.specs.Token.{Token, space, overlay, quoted, broken, tuplet, slur, graceOpen, graceClose, decoration, barline, volta, unit, meter, key, field, chord, rest, note, nothing, skipped, refused}
 use Rattle.reader.specs.Tokens.{tokens}
 use Rattle.reader.specs.Barlines.{leftOf}
@@ -23,7 +24,7 @@ use Rattle.reader.specs.State.{PartState, Note, Measure, onOpen, setVoic
 use Rattle.reader.specs.Voltas.{starts, endsAt, close, closed}
 use Rattle.reader.specs.Lyrics.{Syllable}
 use Rattle.reader.specs.Answer.{isMusic, built, partBytes, encode}
-use Rattle.reader.specs.Part.{Part, emptyPart, onBroken, onNothing, append, onSound, leftSet, ended, onBarline, hears, onToken, opened, lineBegins, onLine, onLyric, onKey, onItem, dropped, inOrder, markedBy, marked, finished, build}
+use Rattle.reader.specs.Part.{Part, finishedMeasures, emptyPart, onBroken, onNothing, append, onSound, leftSet, ended, onBarline, hears, onToken, opened, lineBegins, onLine, onLyric, onKey, onItem, dropped, inOrder, markedBy, marked, finished, build}
 use Rattle.reader.specs.Records.{measureWidth, noteWidth, pitchWidth, lyricWidth, section, sections, notesOf, pitchesOf, lyrics, lyricText, noteCounts, keyMarkBytes, measureBytes, noteBytes, pitchBytes, lyricBytes, signed16}
 
 -- a measure with four voices
@@ -118,9 +119,9 @@ opened-four t [] p = (refl, tt)
 opened-four t (m ∷ ms) p = p
 
 -- a music line
-line-four : (u : ℕ) (t : Meter) (l : List ℕ) (s : PartState) → Fours (s .measures) → Fours (onLine u t l s .measures)
+line-four : (ed : Edition) (u : ℕ) (t : Meter) (l : List ℕ) (s : PartState) → Fours (s .measures) → Fours (onLine ed u t l s .measures)
 unfolding onLine lineBegins
-line-four u t l s p = foldl-holds (λ (x : PartState). Fours (x .measures)) onToken token-four (lineBegins u t s) (tokens 0 l) (opened-four t (s .measures) p)
+line-four ed u t l s p = foldl-holds (λ (x : PartState). Fours (x .measures)) onToken token-four (lineBegins u t s) (tokens ed 0 l) (opened-four t (s .measures) p)
 
 -- a K line
 key-four : (h k : Key) (ms : List Measure) (s : PartState) → Fours (s .measures) → Fours (onKey h k ms s .measures)
@@ -129,15 +130,15 @@ key-four h k [] s p = p
 key-four h k (m ∷ ms) s p = open-four _ (λ m q. q) _ p
 
 -- any item
-pub item-four : (h : Key) (s : PartState) (i : Item) → Fours (s .measures) → Fours (onItem h s i .measures)
+pub item-four : (ed : Edition) (h : Key) (s : PartState) (i : Item) → Fours (s .measures) → Fours (onItem ed h s i .measures)
 unfolding onItem onLyric
-item-four h s (voiceDeclared b) p = p
-item-four h s reset p = p
-item-four h s keyInHeader p = p
-item-four h s (keyChange k) p = key-four h k (s .measures) s p
-item-four h s (meterChange t) p = open-four _ (λ m q. q) s p
-item-four h s (lyricLine b t) p = p
-item-four h s (musicLine u t l) p = line-four u t l s p
+item-four ed h s (voiceDeclared b) p = p
+item-four ed h s reset p = p
+item-four ed h s keyInHeader p = p
+item-four ed h s (keyChange k) p = key-four h k (s .measures) s p
+item-four ed h s (meterChange t) p = open-four _ (λ m q. q) s p
+item-four ed h s (lyricLine b t) p = p
+item-four ed h s (musicLine u t l) p = line-four ed u t l s p
 
 -- THE END
 -- without the empty measures at the end
@@ -181,11 +182,11 @@ marked-four h [] p = tt
 marked-four h (m ∷ ms) p = (mark-four h m (m .key) (p .0), p .1)
 
 -- EVERY MEASURE OF EVERY PART HAS FOUR VOICES
-pub four-voices : (header : Key) (items : List Item) → Fours (build header items .measures)
-unfolding build finished closed newPart
-four-voices header items =
-    let s : PartState = foldl (onItem header) newPart items in
-    let p : Fours (s .measures) = foldl-holds (λ (x : PartState). Fours (x .measures)) (onItem header) (item-four header) newPart items tt in
+pub four-voices : (ed : Edition) (header : Key) (items : List Item) → Fours (build ed header items .measures)
+unfolding build finished finishedMeasures closed newPart
+four-voices ed header items =
+    let s : PartState = foldl (onItem ed header) newPart items in
+    let p : Fours (s .measures) = foldl-holds (λ (x : PartState). Fours (x .measures)) (onItem ed header) (item-four ed header) newPart items tt in
     let r = reverse (dropped (s .measures)) in
     marked-four header (close none (map inOrder r)) (close-four none (map inOrder r) (order-four r (All-reverse Four (dropped (s .measures)) (dropped-four (s .measures) p))))
 
@@ -267,6 +268,6 @@ unfolding encode
 encode-length ps = omega (arith, length-append (le32 (length ps)) (partBytes ps), length-little 4 (length ps), parts-length ps)
 
 -- every part of a reading has measures of four voices
-pub built-fours : (e : Env) (is : List Item) → Fours (built e is .measures)
+pub built-fours : (ed : Edition) (e : Env) (is : List Item) → Fours (built ed e is .measures)
 unfolding built emptyPart
-built-fours e is = by-test (any isMusic is) (λ m. rw m (four-voices (e .headerKey) is)) (λ m. rw m tt)
+built-fours ed e is = by-test (any isMusic is) (λ m. rw m (four-voices ed (e .headerKey) is)) (λ m. rw m tt)

@@ -1,7 +1,7 @@
 -- WHERE THE READER AND THE STANDARD AGREE: on the inputs that each law states, the reader's definition gives what `standard` says.
 -- That ticks are 1024ths of a whole note is `ticks-fraction` (ValueLaws).
 use Prim.Native.Nat.{ℕ, zero, suc, _+_, _-_, _*_, _^_, _≤_, _<_, min}
-use mathlib.Core.Path.{_≡_, refl, sym, ap, _∙_}
+use mathlib.Core.Path.{_≡_, refl, sym, ap, subst, _∙_}
 use mathlib.Core.Bool.{Bool, true, false, not, _||_}
 use mathlib.Core.Option.{Option, none, some}
 use mathlib.Core.List.{List, [], _∷_, _++_, map, reverse, reverseAux, append-nil, nil≢cons, tail-eq-of-cons-eq}
@@ -12,7 +12,7 @@ use lib.ListN.{length, drop, replicate, length-replicate}
 use lib.Seq.{take-append-seam, drop-at}
 use borrow.Author.Tests.{eqb-true, le-leb, le-ltb, lt-ltb, ne-eqb}
 use Rattle.laws.specs.Lists.{foldl, All, all, allBelow, countWhile, eqText}
-use Rattle.laws.proofs.Bools.{by-test, both-true, and-left, and-right, and-both, eqb-sym}
+use Rattle.laws.proofs.Bools.{by-test, both-true, and-left, and-right, and-both, eqb-sym, some≢none}
 use Rattle.laws.proofs.Finite.{below, below₂}
 use Rattle.laws.proofs.Lists.{eqText-true, foldl-append}
 use Rattle.laws.proofs.Spans.{count-while-no}
@@ -20,18 +20,20 @@ use Rattle.standard.specs.Bytes.{ascii, is, isDigit, first, decimal}
 use Rattle.standard.specs.Pitches.{isLetter, octaveMark, octaveBy, alterOf, stepOf}
 use Rattle.standard.specs.Keys.{keyAlter}
 use Rattle.standard.specs.Bars.{normal, repeatStart, repeatEnd, repeatBoth, double, final, symbolAt}
-use Rattle.standard.specs.Tuplets.{usualNormal}
+use Rattle.standard.specs.Tuplets.{usualNormal, defaultNormal}
 use Rattle.standard.specs.Passes.{pass, passes, passesOf}
 use Rattle.standard.specs.Lengths.{ticks, dotted, halved}
 use Rattle.standard.specs.Notes
 use Rattle.standard.specs.Notes.{Beam, beams}
 use Rattle.standard.specs.Fields.{namedMeter}
+use Rattle.editions.specs.declared.Edition.{Edition}
+use Rattle.editions.specs.declared.Edition.the-variants.{First, Second}
 use Rattle.reader.specs.Text.{isSpace}
 use Rattle.reader.specs.Pieces.{pieces, separator, after}
 use Rattle.reader.specs.Fields.{meterOf, meterText, meterOr, meterNumber, meterBottom, orFour, unitOf, unitInline, unitText, unitNumber, lineUnit, inlineUnit, orEight}
 use Rattle.reader.specs.Pitches.{octaveFrom, Before, accidentalOf, signs}
 use Rattle.reader.specs.Token.{taken, barline, tuplet, volta}
-use Rattle.reader.specs.Tuplets.{notZero, positive, normalFor, orOneLess, counted, withCount, withNormal, withActual, tupletOf}
+use Rattle.reader.specs.Tuplets.{notZero, positive, normalFor, orOneLess, partOr, counted, withCount, withNormal, withActual, tupletOf}
 use Rattle.reader.specs.Barlines.{barlineOf}
 use Rattle.reader.specs.PassLists.{isPassByte, voltaAs, voltaOf}
 use Rattle.reader.specs.PassesInTurn.{passNumber, itemOf, single, range, inTurn, passList}
@@ -181,29 +183,44 @@ bar-meets (c ∷ s) a b d =
 
 -- TUPLETS
 -- the usual normals
-pub normal-meets : (p q : ℕ) → usualNormal p ≡ some q → normalFor p ≡ q
-unfolding normalFor orOneLess
-normal-meets p q h = rw h
+pub normal-meets : (ed : Edition) (p q : ℕ) → usualNormal p ≡ some q → normalFor ed p ≡ q
+unfolding normalFor orOneLess usualNormal defaultNormal
+normal-meets First p q h = rw h
+normal-meets Second p q h =
+    by-test (eqb p 2) (λ e. at 2 (eqb-true p 2 e) (λ k. cc))
+    (λ a. by-test (eqb p 4) (λ e. at 4 (eqb-true p 4 e) (λ k. cc))
+    (λ b. by-test (eqb p 3) (λ e. at 3 (eqb-true p 3 e) (λ k. cc)) (λ c. absurd (some≢none q (sym (rw (a, b, c, usualNormal) at h))))))
+  where
+    at : (n : ℕ) → p ≡ n → (usualNormal n ≡ some q → normalFor Second n ≡ q) → normalFor Second p ≡ q
+    at n e f = subst (λ (x : ℕ). usualNormal x ≡ some q → normalFor Second x ≡ q) (sym e) f h
 
 -- a number of digits before what is no digit
-positive-meets : (top : ℕ) (d t : List ℕ) → 0 < length d → all isDigit d ≡ true → 1 ≤ decimal 0 d → decimal 0 d ≤ top → countWhile isDigit t ≡ 0 → positive top (d ++ t) ≡ some (decimal 0 d)
+pub positive-meets : (top : ℕ) (d t : List ℕ) → 0 < length d → all isDigit d ≡ true → 1 ≤ decimal 0 d → decimal 0 d ≤ top → countWhile isDigit t ≡ 0 → positive top (d ++ t) ≡ some (decimal 0 d)
 unfolding positive notZero
 positive-meets top d t n a low high s =
     rw (count-while-front isDigit d t a s, take-append-seam d t, digits-some top d n a high, ne-eqb (decimal 0 d) 0 (λ e. absurd (omega (arith, e, low))))
 
+-- the same as a part behind its `:`, which is not empty
+pub part-meets : (ed : Edition) (default top : ℕ) (d t : List ℕ) → 0 < length d → all isDigit d ≡ true → 1 ≤ decimal 0 d → decimal 0 d ≤ top → countWhile isDigit t ≡ 0
+    → partOr ed default top (d ++ t) ≡ some (decimal 0 d)
+unfolding partOr
+part-meets First default top d t n a low high s = positive-meets top d t n a low high s
+part-meets Second default top [] t n a low high s = absurd (omega arith)
+part-meets Second default top (c ∷ d) t n a low high s = rw (and-left (isDigit c) (all isDigit d) a, partOr) (positive-meets top (c ∷ d) t n a low high s)
+
 -- `(p:q:r` in digits, with what is no digit behind it: p notes in the time of q for the next r
-pub tuplet-meets : (a b c s : List ℕ) → 0 < length a → 0 < length b → 0 < length c → all isDigit a ≡ true → all isDigit b ≡ true → all isDigit c ≡ true
+pub tuplet-meets : (ed : Edition) (a b c s : List ℕ) → 0 < length a → 0 < length b → 0 < length c → all isDigit a ≡ true → all isDigit b ≡ true → all isDigit c ≡ true
     → 2 ≤ decimal 0 a → decimal 0 a ≤ 255 → 1 ≤ decimal 0 b → decimal 0 b ≤ 255 → 1 ≤ decimal 0 c → decimal 0 c ≤ 2 ^ 64 - 1 → countWhile isDigit s ≡ 0
-    → tupletOf (a ++ (58 ∷ (b ++ (58 ∷ (c ++ s))))) ≡ some (taken (tuplet (record { actual = decimal 0 a; normal = decimal 0 b; count = decimal 0 c })) (1 + length a + 1 + length b + 1 + length c))
+    → tupletOf ed (a ++ (58 ∷ (b ++ (58 ∷ (c ++ s))))) ≡ some (taken (tuplet (record { actual = decimal 0 a; normal = decimal 0 b; count = decimal 0 c })) (1 + length a + 1 + length b + 1 + length c))
 unfolding tupletOf withActual withNormal withCount counted
-tuplet-meets a b c s na nb nc da db dc lp hp lq hq lr hr z =
+tuplet-meets ed a b c s na nb nc da db dc lp hp lq hq lr hr z =
     let t : List ℕ = 58 ∷ (b ++ (58 ∷ (c ++ s))) in
     let u : List ℕ = 58 ∷ (c ++ s) in
     let k : 1 + length b ≡ suc (length b) = omega arith in
     rw (positive-meets 255 a t na da (omega arith) hp refl, count-while-front isDigit a t da refl, drop-at a t (length a) refl)
     (rw (le-ltb (decimal 0 a) 2 lp, withActual)
-    (rw (positive-meets 255 b u nb db lq hq refl, count-while-front isDigit b u db refl, k, drop-at b u (length b) refl)
-    (rw (positive-meets (2 ^ 64 - 1) c s nc dc lr hr z, count-while-front isDigit c s dc z))))
+    (rw (part-meets ed (normalFor ed (decimal 0 a)) 255 b u nb db lq hq refl, count-while-front isDigit b u db refl, k, drop-at b u (length b) refl)
+    (rw (part-meets ed (decimal 0 a) (2 ^ 64 - 1) c s nc dc lr hr z, count-while-front isDigit c s dc z))))
 
 -- PASS LISTS
 -- a number of one or two digits, from 1 to 32, that does not begin with 0

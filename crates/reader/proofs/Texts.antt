@@ -19,6 +19,7 @@ use Rattle.standard.specs.Lyrics as lyric-words
 use Rattle.standard.specs.Lyrics.{Word, skip, hold, syllable, syllableText, syllables, syllabicOf}
 use Rattle.standard.specs.Texts.{Number, isFieldLine, MeterText, common, cut, over, UnitText, one-over, LengthText, times, half, times-half, times-part, restOf, TupletText, actual, actual-normal, actual-normal-count, ChordText, WordText, hyphened, Piece, star, held, plain, divided, VoiceText, alone, then}
 use Rattle.standard.specs.Texts as texts
+use Rattle.editions.specs.declared.Edition.{Edition}
 use Rattle.reader.specs.Pieces.{pieces, words, separator}
 use Rattle.reader.specs.Fields.{meterOf, unitOf, unitInline, identifier}
 use Rattle.reader.specs.Lengths.{Length, lengthOf}
@@ -90,29 +91,29 @@ length-text-meets t s n m (times-half d q x) h k z w = slashed d [] s t n 2 q (x
 length-text-meets t s n m (times-part d e q x y) h k z w = slashed d e s t n m q (x .all-digits) (y .all-digits) (numerator-is d n x) (denominator-is e m y) h k z
 
 -- RESTS (4.5), each with the length behind it
-at-z : (s : List ℕ) → tokenOf (122 ∷ s) ≡ restAs notes.rest s
+at-z : (ed : Edition) (s : List ℕ) → tokenOf ed (122 ∷ s) ≡ restAs notes.rest s
 unfolding everything
-at-z s = refl
+at-z ed s = refl
 
-at-x : (s : List ℕ) → tokenOf (120 ∷ s) ≡ restAs notes.invisibleRest s
+at-x : (ed : Edition) (s : List ℕ) → tokenOf ed (120 ∷ s) ≡ restAs notes.invisibleRest s
 unfolding everything
-at-x s = refl
+at-x ed s = refl
 
-at-Z : (s : List ℕ) → tokenOf (90 ∷ s) ≡ restAs notes.barRest s
+at-Z : (ed : Edition) (s : List ℕ) → tokenOf ed (90 ∷ s) ≡ restAs notes.barRest s
 unfolding everything
-at-Z s = refl
+at-Z ed s = refl
 
-at-X : (s : List ℕ) → tokenOf (88 ∷ s) ≡ restAs notes.invisibleBarRest s
+at-X : (ed : Edition) (s : List ℕ) → tokenOf ed (88 ∷ s) ≡ restAs notes.invisibleBarRest s
 unfolding everything
-at-X s = refl
+at-X ed s = refl
 
-pub rest-meets : (c : ℕ) (s : List ℕ) (k : NoteKind) → restOf c ≡ some k → tokenOf (c ∷ s) ≡ restAs k s
+pub rest-meets : (ed : Edition) (c : ℕ) (s : List ℕ) (k : NoteKind) → restOf c ≡ some k → tokenOf ed (c ∷ s) ≡ restAs k s
 unfolding restOf
-rest-meets c s k h =
-    by-test (is "z" c) (λ e. this 122 (eqb-true c 122 e) notes.rest refl (at-z s))
-    (λ e. by-test (is "x" c) (λ f. this 120 (eqb-true c 120 f) notes.invisibleRest refl (at-x s))
-    (λ f. by-test (is "Z" c) (λ g. this 90 (eqb-true c 90 g) notes.barRest refl (at-Z s))
-    (λ g. by-test (is "X" c) (λ i. this 88 (eqb-true c 88 i) notes.invisibleBarRest refl (at-X s))
+rest-meets ed c s k h =
+    by-test (is "z" c) (λ e. this 122 (eqb-true c 122 e) notes.rest refl (at-z ed s))
+    (λ e. by-test (is "x" c) (λ f. this 120 (eqb-true c 120 f) notes.invisibleRest refl (at-x ed s))
+    (λ f. by-test (is "Z" c) (λ g. this 90 (eqb-true c 90 g) notes.barRest refl (at-Z ed s))
+    (λ g. by-test (is "X" c) (λ i. this 88 (eqb-true c 88 i) notes.invisibleBarRest refl (at-X ed s))
     (λ i. absurd (no-kind (rw (e, f, g, i, restOf) at h))))))
   where
     kind-of : Option NoteKind → NoteKind
@@ -122,34 +123,34 @@ rest-meets c s k h =
     no-kind : none ≡ some k → ⊥
     no-kind e = let z : _≡_ {A = ℕ} 0 1 = cc in omega (arith, z)
 
-    this : (b : ℕ) → c ≡ b → (j : NoteKind) → restOf b ≡ some j → tokenOf (b ∷ s) ≡ restAs j s → tokenOf (c ∷ s) ≡ restAs k s
-    this b e j r q = ap (λ (x : ℕ). tokenOf (x ∷ s)) e ∙ q ∙ ap (λ (x : NoteKind). restAs x s) (ap kind-of (sym r ∙ ap restOf (sym e) ∙ h))
+    this : (b : ℕ) → c ≡ b → (j : NoteKind) → restOf b ≡ some j → tokenOf ed (b ∷ s) ≡ restAs j s → tokenOf ed (c ∷ s) ≡ restAs k s
+    this b e j r q = ap (λ (x : ℕ). tokenOf ed (x ∷ s)) e ∙ q ∙ ap (λ (x : NoteKind). restAs x s) (ap kind-of (sym r ∙ ap restOf (sym e) ∙ h))
 
 -- TUPLETS (4.13): 2 to 255 in the time of 1 to 255, for 1 to 2^64 - 1 notes, before what is no digit and no colon
 abbrev tupletAs : ℕ → ℕ → ℕ → ℕ → Option Taken
 tupletAs a b c k = some (taken (tuplet (record { actual = a; normal = b; count = c })) (1 + k))
 
-pub tuplet-text-meets : (t s : List ℕ) (a b c : ℕ) → TupletText t a b c → 2 ≤ a → a ≤ 255 → 1 ≤ b → b ≤ 255 → 1 ≤ c → c ≤ 2 ^ 64 - 1 → countWhile isDigit s ≡ 0 → is ":" (first s) ≡ false
-    → tupletOf (t ++ s) ≡ tupletAs a b c (length t)
-tuplet-text-meets t s a b c (actual x u) la ha lb hb lc hc z w =
-    tuplet-p-meets t s (x .some-digit) (x .all-digits) (omega (arith, la, x .says)) (omega (arith, ha, x .says)) z w
-    ∙ (λ i. tupletAs (x .says i) (normalFor (x .says i)) (x .says i) (length t))
-    ∙ ap (λ (k : ℕ). tupletAs a k a (length t)) (normal-meets a b u)
-tuplet-text-meets t s a b c (actual-normal d e q x y) la ha lb hb lc hc z w =
+pub tuplet-text-meets : (ed : Edition) (t s : List ℕ) (a b c : ℕ) → TupletText t a b c → 2 ≤ a → a ≤ 255 → 1 ≤ b → b ≤ 255 → 1 ≤ c → c ≤ 2 ^ 64 - 1 → countWhile isDigit s ≡ 0 → is ":" (first s) ≡ false
+    → tupletOf ed (t ++ s) ≡ tupletAs a b c (length t)
+tuplet-text-meets ed t s a b c (actual x u) la ha lb hb lc hc z w =
+    tuplet-p-meets ed t s (x .some-digit) (x .all-digits) (omega (arith, la, x .says)) (omega (arith, ha, x .says)) z w
+    ∙ (λ i. tupletAs (x .says i) (normalFor ed (x .says i)) (x .says i) (length t))
+    ∙ ap (λ (k : ℕ). tupletAs a k a (length t)) (normal-meets ed a b u)
+tuplet-text-meets ed t s a b c (actual-normal d e q x y) la ha lb hb lc hc z w =
     let k : length d + 1 + length e ≡ length t = sym (ap length q ∙ length-append d (58 ∷ e) ∙ (let v : length d + suc (length e) ≡ length d + 1 + length e = omega arith in v)) in
     let j : 1 + length d + 1 + length e ≡ 1 + length t = omega (arith, k) in
-    ap (λ (l : List ℕ). tupletOf (l ++ s)) q
-    ∙ ap tupletOf (append-assoc d (58 ∷ e) s)
-    ∙ tuplet-pq-meets d e s (x .some-digit) (y .some-digit) (x .all-digits) (y .all-digits) (omega (arith, la, x .says)) (omega (arith, ha, x .says)) (omega (arith, lb, y .says)) (omega (arith, hb, y .says)) z w
+    ap (λ (l : List ℕ). tupletOf ed (l ++ s)) q
+    ∙ ap (tupletOf ed) (append-assoc d (58 ∷ e) s)
+    ∙ tuplet-pq-meets ed d e s (x .some-digit) (y .some-digit) (x .all-digits) (y .all-digits) (omega (arith, la, x .says)) (omega (arith, ha, x .says)) (omega (arith, lb, y .says)) (omega (arith, hb, y .says)) z w
     ∙ (λ i. some (taken (tuplet (record { actual = x .says i; normal = y .says i; count = x .says i })) (j i)))
-tuplet-text-meets t s a b c (actual-normal-count d e f q x y v) la ha lb hb lc hc z w =
+tuplet-text-meets ed t s a b c (actual-normal-count d e f q x y v) la ha lb hb lc hc z w =
     let g : (d ++ (58 ∷ (e ++ (58 ∷ f)))) ++ s ≡ d ++ (58 ∷ (e ++ (58 ∷ (f ++ s)))) = append-assoc d (58 ∷ (e ++ (58 ∷ f))) s ∙ ap (λ (l : List ℕ). d ++ (58 ∷ l)) (append-assoc e (58 ∷ f) s) in
     let k : length (d ++ (58 ∷ (e ++ (58 ∷ f)))) ≡ length d + suc (length (e ++ (58 ∷ f))) = length-append d (58 ∷ (e ++ (58 ∷ f))) in
     let m : length (e ++ (58 ∷ f)) ≡ length e + suc (length f) = length-append e (58 ∷ f) in
     let n : 1 + length d + 1 + length e + 1 + length f ≡ 1 + length t = omega (arith, k, m, ap length q) in
-    ap (λ (l : List ℕ). tupletOf (l ++ s)) q
-    ∙ ap tupletOf g
-    ∙ tuplet-meets d e f s (x .some-digit) (y .some-digit) (v .some-digit) (x .all-digits) (y .all-digits) (v .all-digits) (omega (arith, la, x .says)) (omega (arith, ha, x .says)) (omega (arith, lb, y .says)) (omega (arith, hb, y .says)) (omega (arith, lc, v .says)) (omega (arith, hc, v .says)) z
+    ap (λ (l : List ℕ). tupletOf ed (l ++ s)) q
+    ∙ ap (tupletOf ed) g
+    ∙ tuplet-meets ed d e f s (x .some-digit) (y .some-digit) (v .some-digit) (x .all-digits) (y .all-digits) (v .all-digits) (omega (arith, la, x .says)) (omega (arith, ha, x .says)) (omega (arith, lb, y .says)) (omega (arith, hb, y .says)) (omega (arith, lc, v .says)) (omega (arith, hc, v .says)) z
     ∙ (λ i. some (taken (tuplet (record { actual = x .says i; normal = y .says i; count = v .says i })) (n i)))
 
 -- CHORDS (4.17): one note with the length behind the `]`

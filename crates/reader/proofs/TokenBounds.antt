@@ -16,10 +16,11 @@ use Rattle.laws.proofs.Lists.{startsWith-length}
 use Rattle.standard.specs.Bytes.{is, isDigit, first}
 use Rattle.standard.specs.Bars.{Symbol, barSymbols, symbolAt}
 use Rattle.standard.specs.Pitches.{Accidental, Written, isLetter}
+use Rattle.editions.specs.declared.Edition.{Edition}
 use Rattle.reader.specs.Lengths.{lengthOf, denominator}
 use Rattle.reader.specs.Pitches.{octaveFrom, octaveOf, Before, signs, accidentalOf, isQuarter, chordOf}
 use Rattle.reader.specs.Token.{Token, Taken}
-use Rattle.reader.specs.Tuplets.{positive, counted, withCount, withNormal, withActual, tupletOf, orSlur}
+use Rattle.reader.specs.Tuplets.{positive, normalFor, partOr, counted, withCount, withNormal, withActual, tupletOf, orSlur}
 use Rattle.reader.specs.Barlines.{barlineAs, barlineOf}
 use Rattle.reader.specs.PassLists.{Listed, listed, faulty, isPassByte, listOf, voltaAs, voltaOf}
 use Rattle.reader.specs.Inline.{isInline, inlineAt}
@@ -130,31 +131,31 @@ counted-in p q n m none h = tt
 counted-in p q n m (some r) h = h
 
 -- a tuplet up to its count
-count-in : (p q n m : ℕ) (s : List ℕ) → n + length s ≤ m → Within m (withCount p q n s)
+count-in : (ed : Edition) (p q n m : ℕ) (s : List ℕ) → n + length s ≤ m → Within m (withCount ed p q n s)
 unfolding withCount Within
-count-in p q n m s h =
+count-in ed p q n m s h =
     by-test (is ":" (first s))
-    (λ e. rw (e, withCount) (counted-in p q (n + 1 + countWhile isDigit (drop 1 s)) m (positive (2 ^ 64 - 1) (drop 1 s)) (omega (arith, there s 57 e, count-while-le isDigit (drop 1 s), length-drop 1 s))))
+    (λ e. rw (e, withCount) (counted-in p q (n + 1 + countWhile isDigit (drop 1 s)) m (partOr ed p (2 ^ 64 - 1) (drop 1 s)) (omega (arith, there s 57 e, count-while-le isDigit (drop 1 s), length-drop 1 s))))
     (λ e. rw (e, withCount) (omega arith))
 
 -- a tuplet up to its normal
-normal-in : (p n m : ℕ) (s : List ℕ) (o : Option ℕ) → 0 < length s → n + length s ≤ m → Within m (withNormal p n s o)
+normal-in : (ed : Edition) (p n m : ℕ) (s : List ℕ) (o : Option ℕ) → 0 < length s → n + length s ≤ m → Within m (withNormal ed p n s o)
 unfolding withNormal Within
-normal-in p n m s none k h = tt
-normal-in p n m s (some q) k h =
+normal-in ed p n m s none k h = tt
+normal-in ed p n m s (some q) k h =
     let d = countWhile isDigit (drop 1 s) in
-    count-in p q (n + 1 + d) m (drop (1 + d) s) (omega (arith, count-while-le isDigit (drop 1 s), length-drop 1 s, length-drop (1 + d) s))
+    count-in ed p q (n + 1 + d) m (drop (1 + d) s) (omega (arith, count-while-le isDigit (drop 1 s), length-drop 1 s, length-drop (1 + d) s))
 
 -- a tuplet up to its actual
-actual-in : (n m : ℕ) (s : List ℕ) (o : Option ℕ) → n + length s ≤ m → Within m (withActual n s o)
+actual-in : (ed : Edition) (n m : ℕ) (s : List ℕ) (o : Option ℕ) → n + length s ≤ m → Within m (withActual ed n s o)
 unfolding withActual Within
-actual-in n m s none h = tt
-actual-in n m s (some p) h =
+actual-in ed n m s none h = tt
+actual-in ed n m s (some p) h =
     by-test (ltb p 2)
     (λ e. rw (e, withActual) tt)
     (λ e. rw (e, withActual)
     (by-test (is ":" (first s))
-    (λ f. rw (f, withActual) (normal-in p n m s (positive 255 (drop 1 s)) (there s 57 f) h))
+    (λ f. rw (f, withActual) (normal-in ed p n m s (partOr ed (normalFor ed p) 255 (drop 1 s)) (there s 57 f) h))
     (λ f. rw (f, withActual) (omega arith))))
 
 -- a slur start instead
@@ -164,11 +165,11 @@ slur-in m none k h = omega arith
 slur-in m (some t) k h = h
 
 -- a tuplet
-tuplet-in : (s : List ℕ) → orSlur (tupletOf s) .used ≤ suc (length s)
+tuplet-in : (ed : Edition) (s : List ℕ) → orSlur (tupletOf ed s) .used ≤ suc (length s)
 unfolding tupletOf
-tuplet-in s =
+tuplet-in ed s =
     let d = countWhile isDigit s in
-    slur-in (suc (length s)) (tupletOf s) (omega arith) (actual-in (1 + d) (suc (length s)) (drop d s) (positive 255 s) (omega (arith, count-while-le isDigit s, length-drop d s)))
+    slur-in (suc (length s)) (tupletOf ed s) (omega arith) (actual-in ed (1 + d) (suc (length s)) (drop d s) (positive 255 s) (omega (arith, count-while-le isDigit s, length-drop d s)))
 
 -- a symbol of the table lies within the text that begins with it
 unfoldable Fits : List ℕ → Option Symbol → Type 0
@@ -222,9 +223,9 @@ inline-in s e =
     and-left (ltb n (length s)) (not (is "\"" (first s))) (and-left (ltb n (length s) && not (is "\"" (first s))) (any (is ":") (take n s)) e)
 
 -- what a `[` begins
-bracket-in : (s : List ℕ) → bracketOf s .used ≤ suc (length s)
+bracket-in : (ed : Edition) (s : List ℕ) → bracketOf ed s .used ≤ suc (length s)
 unfolding bracketOf voltaOf inlineAt
-bracket-in s =
+bracket-in ed s =
     let n = countWhile (λ c. not (is "]" c)) s in
     by-test (isDigit (first s))
     (λ e. rw (e, bracketOf) (volta-in (countWhile isPassByte s) s (listOf (take (countWhile isPassByte s) s)) (count-while-le isPassByte s)))
@@ -245,31 +246,31 @@ unfolding brokenOf
 broken-in up n c s h = by-test (ltb 255 (suc n)) (λ e. rw (e, brokenOf) (omega arith)) (λ e. rw (e, brokenOf) (omega arith))
 
 -- a token of any class
-pub as-in : (k : Class) (c : ℕ) (s : List ℕ) → tokenAs k (c ∷ s) .used ≤ suc (length s)
+pub as-in : (ed : Edition) (k : Class) (c : ℕ) (s : List ℕ) → tokenAs ed k (c ∷ s) .used ≤ suc (length s)
 unfolding tokenAs restAs
-as-in white c s = omega arith
-as-in ampersand c s = omega arith
-as-in quote c s = closed-in (is "\"") _ s _ (omega arith)
-as-in more c s = broken-in true (countWhile (is ">") s) c s (count-while-le (is ">") s)
-as-in less c s = broken-in false (countWhile (is "<") s) c s (count-while-le (is "<") s)
-as-in paren c s = tuplet-in s
-as-in braceOpen c s = omega arith
-as-in braceClose c s = omega arith
-as-in bang c s = closed-in (is "!") _ s _ (omega arith)
-as-in plus c s = closed-in (is "+") _ s _ (omega arith)
-as-in bars c s = barline-in c s
-as-in bracket c s = bracket-in s
-as-in pitched c s = note-in c s
-as-in none-of-these c s = omega arith
-as-in (resting k) c s = omega (arith, length-in s)
+as-in ed white c s = omega arith
+as-in ed ampersand c s = omega arith
+as-in ed quote c s = closed-in (is "\"") _ s _ (omega arith)
+as-in ed more c s = broken-in true (countWhile (is ">") s) c s (count-while-le (is ">") s)
+as-in ed less c s = broken-in false (countWhile (is "<") s) c s (count-while-le (is "<") s)
+as-in ed paren c s = tuplet-in ed s
+as-in ed braceOpen c s = omega arith
+as-in ed braceClose c s = omega arith
+as-in ed bang c s = closed-in (is "!") _ s _ (omega arith)
+as-in ed plus c s = closed-in (is "+") _ s _ (omega arith)
+as-in ed bars c s = barline-in c s
+as-in ed bracket c s = bracket-in ed s
+as-in ed pitched c s = note-in c s
+as-in ed none-of-these c s = omega arith
+as-in ed (resting k) c s = omega (arith, length-in s)
 
 -- a token takes at most the bytes that are there
-pub takes-what-is-there : (c : ℕ) (s : List ℕ) → tokenOf (c ∷ s) .used ≤ length (c ∷ s)
+pub takes-what-is-there : (ed : Edition) (c : ℕ) (s : List ℕ) → tokenOf ed (c ∷ s) .used ≤ length (c ∷ s)
 unfolding tokenOf
-takes-what-is-there c s = as-in (classOf c) c s
+takes-what-is-there ed c s = as-in ed (classOf c) c s
 
 -- the same at a position of a line
-pub token-within : (s : List ℕ) (i : ℕ) → i < length s → i + tokenOf (drop i s) .used ≤ length s
-token-within s i h =
-    let k : tokenOf (drop i s) .used ≤ length (drop i s) = rw (drop-cons s i 0 h) (takes-what-is-there (getD s i 0) (drop (suc i) s)) in
+pub token-within : (ed : Edition) (s : List ℕ) (i : ℕ) → i < length s → i + tokenOf ed (drop i s) .used ≤ length s
+token-within ed s i h =
+    let k : tokenOf ed (drop i s) .used ≤ length (drop i s) = rw (drop-cons s i 0 h) (takes-what-is-there ed (getD s i 0) (drop (suc i) s)) in
     omega (arith, length-drop i s)

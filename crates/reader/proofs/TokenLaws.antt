@@ -14,9 +14,10 @@ use Rattle.laws.proofs.Bools.{by-test}
 use Rattle.standard.specs.Bytes.{is, isDigit, first}
 use Rattle.standard.specs.Bars.{Symbol, barSymbols, symbolAt}
 use Rattle.standard.specs.Pitches.{Written, isLetter}
+use Rattle.editions.specs.declared.Edition.{Edition}
 use Rattle.reader.specs.Pitches.{octaveOf, Before, accidentalOf, chordOf}
 use Rattle.reader.specs.Token.{Token, Taken}
-use Rattle.reader.specs.Tuplets.{positive, counted, withCount, withNormal, withActual, tupletOf, orSlur}
+use Rattle.reader.specs.Tuplets.{positive, normalFor, partOr, counted, withCount, withNormal, withActual, tupletOf, orSlur}
 use Rattle.reader.specs.Barlines.{barlineAs, barlineOf}
 use Rattle.reader.specs.PassLists.{Listed, listed, faulty, isPassByte, listOf, voltaAs, voltaOf}
 use Rattle.reader.specs.Inline.{isInline, inlineAt}
@@ -46,29 +47,29 @@ counted-takes p q n none h = tt
 counted-takes p q n (some r) h = h
 
 -- a tuplet up to its count
-count-takes : (p q n : ℕ) (s : List ℕ) → 0 < n → Takes (withCount p q n s)
+count-takes : (ed : Edition) (p q n : ℕ) (s : List ℕ) → 0 < n → Takes (withCount ed p q n s)
 unfolding withCount Takes
-count-takes p q n s h =
+count-takes ed p q n s h =
     by-test (is ":" (first s))
-    (λ e. rw (e, withCount) (counted-takes p q (n + 1 + countWhile isDigit (drop 1 s)) (positive (2 ^ 64 - 1) (drop 1 s)) (omega arith)))
+    (λ e. rw (e, withCount) (counted-takes p q (n + 1 + countWhile isDigit (drop 1 s)) (partOr ed p (2 ^ 64 - 1) (drop 1 s)) (omega arith)))
     (λ e. rw (e, withCount) h)
 
 -- a tuplet up to its normal
-normal-takes : (p n : ℕ) (s : List ℕ) (o : Option ℕ) → 0 < n → Takes (withNormal p n s o)
+normal-takes : (ed : Edition) (p n : ℕ) (s : List ℕ) (o : Option ℕ) → 0 < n → Takes (withNormal ed p n s o)
 unfolding withNormal Takes
-normal-takes p n s none h = tt
-normal-takes p n s (some q) h = count-takes p q (n + 1 + countWhile isDigit (drop 1 s)) (drop (1 + countWhile isDigit (drop 1 s)) s) (omega arith)
+normal-takes ed p n s none h = tt
+normal-takes ed p n s (some q) h = count-takes ed p q (n + 1 + countWhile isDigit (drop 1 s)) (drop (1 + countWhile isDigit (drop 1 s)) s) (omega arith)
 
 -- a tuplet up to its actual
-actual-takes : (n : ℕ) (s : List ℕ) (o : Option ℕ) → 0 < n → Takes (withActual n s o)
+actual-takes : (ed : Edition) (n : ℕ) (s : List ℕ) (o : Option ℕ) → 0 < n → Takes (withActual ed n s o)
 unfolding withActual Takes
-actual-takes n s none h = tt
-actual-takes n s (some p) h =
+actual-takes ed n s none h = tt
+actual-takes ed n s (some p) h =
     by-test (ltb p 2)
     (λ e. rw (e, withActual) tt)
     (λ e. rw (e, withActual)
     (by-test (is ":" (first s))
-    (λ f. rw (f, withActual) (normal-takes p n s (positive 255 (drop 1 s)) h))
+    (λ f. rw (f, withActual) (normal-takes ed p n s (partOr ed (normalFor ed p) 255 (drop 1 s)) h))
     (λ f. rw (f, withActual) h)))
 
 -- a slur start instead
@@ -78,9 +79,9 @@ slur-takes none h = omega arith
 slur-takes (some t) h = h
 
 -- a tuplet
-tuplet-takes : (s : List ℕ) → 0 < orSlur (tupletOf s) .used
+tuplet-takes : (ed : Edition) (s : List ℕ) → 0 < orSlur (tupletOf ed s) .used
 unfolding tupletOf
-tuplet-takes s = slur-takes (tupletOf s) (actual-takes (1 + countWhile isDigit s) (drop (countWhile isDigit s) s) (positive 255 s) (omega arith))
+tuplet-takes ed s = slur-takes (tupletOf ed s) (actual-takes ed (1 + countWhile isDigit s) (drop (countWhile isDigit s) s) (positive 255 s) (omega arith))
 
 -- a symbol of the table, if the text begins with one, takes a byte at least
 unfoldable Long : Option Symbol → Type 0
@@ -135,9 +136,9 @@ chordAt-takes s =
     chord-takes (cond (ltb n (length s)) (2 + n) (1 + n)) (drop (suc n) s) (chordOf 0 none s) (one-or-two (ltb n (length s)) n)
 
 -- what a `[` begins
-bracket-takes : (s : List ℕ) → 0 < bracketOf s .used
+bracket-takes : (ed : Edition) (s : List ℕ) → 0 < bracketOf ed s .used
 unfolding bracketOf voltaOf inlineAt
-bracket-takes s =
+bracket-takes ed s =
     by-test (isDigit (first s))
     (λ e. rw (e, bracketOf) (volta-takes (countWhile isPassByte s) s (listOf (take (countWhile isPassByte s) s))))
     (λ e. rw (e, bracketOf) (by-test (isInline s) (λ f. rw (f, bracketOf) (omega arith)) (λ f. rw (f, bracketOf) (chordAt-takes s))))
@@ -164,36 +165,36 @@ unfolding noteOf
 note-takes c s = note-takes-at (accidentalOf (c ∷ s)) (c ∷ s) (drop (accidentalOf (c ∷ s) .used) (c ∷ s)) refl (omega arith)
 
 -- a token of any class
-pub as-takes : (k : Class) (c : ℕ) (s : List ℕ) → 0 < tokenAs k (c ∷ s) .used
+pub as-takes : (ed : Edition) (k : Class) (c : ℕ) (s : List ℕ) → 0 < tokenAs ed k (c ∷ s) .used
 unfolding tokenAs restAs
-as-takes white c s = omega arith
-as-takes ampersand c s = omega arith
-as-takes quote c s = closed-takes (is "\"") _ s _ (omega arith)
-as-takes more c s = broken-takes true (countWhile (is ">") s) c s
-as-takes less c s = broken-takes false (countWhile (is "<") s) c s
-as-takes paren c s = tuplet-takes s
-as-takes braceOpen c s = omega arith
-as-takes braceClose c s = omega arith
-as-takes bang c s = closed-takes (is "!") _ s _ (omega arith)
-as-takes plus c s = closed-takes (is "+") _ s _ (omega arith)
-as-takes bars c s = barline-takes (c ∷ s)
-as-takes bracket c s = bracket-takes s
-as-takes pitched c s = note-takes c s
-as-takes none-of-these c s = omega arith
-as-takes (resting k) c s = omega arith
+as-takes ed white c s = omega arith
+as-takes ed ampersand c s = omega arith
+as-takes ed quote c s = closed-takes (is "\"") _ s _ (omega arith)
+as-takes ed more c s = broken-takes true (countWhile (is ">") s) c s
+as-takes ed less c s = broken-takes false (countWhile (is "<") s) c s
+as-takes ed paren c s = tuplet-takes ed s
+as-takes ed braceOpen c s = omega arith
+as-takes ed braceClose c s = omega arith
+as-takes ed bang c s = closed-takes (is "!") _ s _ (omega arith)
+as-takes ed plus c s = closed-takes (is "+") _ s _ (omega arith)
+as-takes ed bars c s = barline-takes (c ∷ s)
+as-takes ed bracket c s = bracket-takes ed s
+as-takes ed pitched c s = note-takes c s
+as-takes ed none-of-these c s = omega arith
+as-takes ed (resting k) c s = omega arith
 
 -- every token takes at least a byte
-pub takes-a-byte : (c : ℕ) (s : List ℕ) → 0 < tokenOf (c ∷ s) .used
+pub takes-a-byte : (ed : Edition) (c : ℕ) (s : List ℕ) → 0 < tokenOf ed (c ∷ s) .used
 unfolding tokenOf
-takes-a-byte c s = as-takes (classOf c) c s
+takes-a-byte ed c s = as-takes ed (classOf c) c s
 
 -- THE TOKENS FROM A POSITION ON
 -- bytes still to pass are dropped
-pub tokens-drop : (k : ℕ) (s : List ℕ) → tokens k s ≡ tokens 0 (drop k s)
+pub tokens-drop : (ed : Edition) (k : ℕ) (s : List ℕ) → tokens ed k s ≡ tokens ed 0 (drop k s)
 unfolding tokens
-tokens-drop zero s = refl
-tokens-drop (suc k) [] = refl
-tokens-drop (suc k) (c ∷ s) = tokens-drop k s
+tokens-drop ed zero s = refl
+tokens-drop ed (suc k) [] = refl
+tokens-drop ed (suc k) (c ∷ s) = tokens-drop ed k s
 
 -- a byte fewer of a list without its first
 drop-pred : (n : ℕ) (c : ℕ) (s : List ℕ) → 0 < n → drop (pred n) s ≡ drop n (c ∷ s)
@@ -201,24 +202,24 @@ drop-pred zero c s h = absurd (not-suc-le-zero h)
 drop-pred (suc n) c s h = refl
 
 -- the token at the front, and those behind it
-pub tokens-cons : (c : ℕ) (s : List ℕ) → tokens 0 (c ∷ s) ≡ tokenOf (c ∷ s) .token ∷ tokens 0 (drop (tokenOf (c ∷ s) .used) (c ∷ s))
+pub tokens-cons : (ed : Edition) (c : ℕ) (s : List ℕ) → tokens ed 0 (c ∷ s) ≡ tokenOf ed (c ∷ s) .token ∷ tokens ed 0 (drop (tokenOf ed (c ∷ s) .used) (c ∷ s))
 unfolding tokens
-tokens-cons c s =
-    ap (λ r. tokenOf (c ∷ s) .token ∷ r) (tokens-drop (pred (tokenOf (c ∷ s) .used)) s ∙ ap (tokens 0) (drop-pred (tokenOf (c ∷ s) .used) c s (takes-a-byte c s)))
+tokens-cons ed c s =
+    ap (λ r. tokenOf ed (c ∷ s) .token ∷ r) (tokens-drop ed (pred (tokenOf ed (c ∷ s) .used)) s ∙ ap (tokens ed 0) (drop-pred (tokenOf ed (c ∷ s) .used) c s (takes-a-byte ed c s)))
 
 -- one turn of a loop at position i
-pub tokens-at : (s : List ℕ) (i : ℕ) → i < length s → tokens 0 (drop i s) ≡ tokenOf (drop i s) .token ∷ tokens 0 (drop (i + tokenOf (drop i s) .used) s)
-tokens-at s i h = rw (← drop-drop (tokenOf (drop i s) .used) i s) (rw (drop-cons s i 0) (tokens-cons (getD s i 0) (drop (suc i) s)))
+pub tokens-at : (ed : Edition) (s : List ℕ) (i : ℕ) → i < length s → tokens ed 0 (drop i s) ≡ tokenOf ed (drop i s) .token ∷ tokens ed 0 (drop (i + tokenOf ed (drop i s) .used) s)
+tokens-at ed s i h = rw (← drop-drop (tokenOf ed (drop i s) .used) i s) (rw (drop-cons s i 0) (tokens-cons ed (getD s i 0) (drop (suc i) s)))
 
 -- past the end there are none
-pub tokens-end : (s : List ℕ) (i : ℕ) → length s ≤ i → tokens 0 (drop i s) ≡ []
+pub tokens-end : (ed : Edition) (s : List ℕ) (i : ℕ) → length s ≤ i → tokens ed 0 (drop i s) ≡ []
 unfolding tokens
-tokens-end s i h = rw (drop-of-length-le s h)
+tokens-end ed s i h = rw (drop-of-length-le s h)
 
 -- the same of a fold over them, for any state: what is left to do at i is one step and what is left behind the token
-pub fold-at {ℓ} : {S : Type ℓ} (f : S → Token → S) (t : S) (s : List ℕ) (i : ℕ) → i < length s → foldl f t (tokens 0 (drop i s)) ≡ foldl f (f t (tokenOf (drop i s) .token)) (tokens 0 (drop (i + tokenOf (drop i s) .used) s))
-fold-at f t s i h = ap (foldl f t) (tokens-at s i h)
+pub fold-at {ℓ} : (ed : Edition) {S : Type ℓ} (f : S → Token → S) (t : S) (s : List ℕ) (i : ℕ) → i < length s → foldl f t (tokens ed 0 (drop i s)) ≡ foldl f (f t (tokenOf ed (drop i s) .token)) (tokens ed 0 (drop (i + tokenOf ed (drop i s) .used) s))
+fold-at ed f t s i h = ap (foldl f t) (tokens-at ed s i h)
 
 -- and at the end nothing is left
-pub fold-end {ℓ} : {S : Type ℓ} (f : S → Token → S) (t : S) (s : List ℕ) (i : ℕ) → length s ≤ i → foldl f t (tokens 0 (drop i s)) ≡ t
-fold-end f t s i h = ap (foldl f t) (tokens-end s i h)
+pub fold-end {ℓ} : (ed : Edition) {S : Type ℓ} (f : S → Token → S) (t : S) (s : List ℕ) (i : ℕ) → length s ≤ i → foldl f t (tokens ed 0 (drop i s)) ≡ t
+fold-end ed f t s i h = ap (foldl f t) (tokens-end ed s i h)

@@ -8,6 +8,7 @@ use lib.ListN.{length, getD}
 use Rattle.laws.specs.Bytes.{zeros}
 use Rattle.standard.specs.Bytes.{ascii}
 use Rattle.standard.specs.Pitches.{Pitch}
+use Rattle.editions.specs.declared.Edition.the-variants.{First}
 use Rattle.reader.specs.State.{Note}
 use Rattle.reader.specs.Part.{Part}
 use Rattle.reader.specs.Records.{notesOf, pitchesOf}
@@ -17,7 +18,7 @@ use Rattle.reader.specs.All.{all}
 
 -- the call with a reading store of n bytes, and scratch just large enough
 abbrev called : String → ℕ → Outcome
-called s n = parseAbc (ascii s) n (scratchNeeded (length (ascii s)))
+called s n = parseAbc First (ascii s) n (scratchNeeded (length (ascii s)))
 
 -- the parts that were read, none where the call was refused
 abbrev partsIn : Verdict → List Part

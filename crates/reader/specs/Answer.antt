@@ -8,6 +8,7 @@ use lib.ListN.{length}
 use Rattle.laws.specs.Lists.{sum, any}
 use Rattle.laws.specs.Bytes.{le32, zeros}
 use Rattle.standard.specs.Keys.{Key}
+use Rattle.editions.specs.declared.Edition.{Edition}
 use Rattle.reader.specs.Text.{isUtf8, isBlank, textLines}
 use Rattle.reader.specs.Steps.{Step, refuse, on, itemsOf}
 use Rattle.reader.specs.Scan.{Item, voiceDeclared, reset, keyInHeader, keyChange, meterChange, lyricLine, musicLine, Env, ScanState, scan, Out}
@@ -59,13 +60,13 @@ isMusic (lyricLine b t) = false
 isMusic (musicLine u m l) = true
 
 -- a part without a music line is empty: it has no measure, and its lyric lines fall on nothing
-unfoldable pub built : Env → List Item → Part
-built e is = cond (any isMusic is) (build (e .headerKey) is) emptyPart
+unfoldable pub built : Edition → Env → List Item → Part
+built ed e is = cond (any isMusic is) (build ed (e .headerKey) is) emptyPart
 
 -- n parts from number p on, each from its own items
-unfoldable pub parts : Env → (ℕ → List Item) → ℕ → ℕ → List Part
-parts e f zero p = []
-parts e f (suc n) p = built e (f p) ∷ parts e f n (suc p)
+unfoldable pub parts : Edition → Env → (ℕ → List Item) → ℕ → ℕ → List Part
+parts ed e f zero p = []
+parts ed e f (suc n) p = built ed e (f p) ∷ parts ed e f n (suc p)
 
 -- "a count of parts (u32), then for each part five sections"
 unfoldable pub partBytes : List Part → List ℕ
@@ -88,21 +89,21 @@ ended ps rl sl =
     cond (leb 1 (sum measureCount ps)) (cond (leb (length (encode ps)) rl) (written ps rl sl) (refusedWith 16 0 rl sl)) (refusedWith 1 0 rl sl)
 
 -- one part for each voice, one at least
-unfoldable pub finish : Env → (ℕ → List Item) → ℕ → ℕ → Outcome
-finish e f rl sl = ended (parts e f (max 1 (length (e .voices))) 0) rl sl
+unfoldable pub finish : Edition → Env → (ℕ → List Item) → ℕ → ℕ → Outcome
+finish ed e f rl sl = ended (parts ed e f (max 1 (length (e .voices))) 0) rl sl
 
 -- after the scan
-unfoldable pub scanned : ℕ → ℕ → Out → Outcome
-scanned rl sl (refuse n l) = refusedWith n l rl sl
-scanned rl sl (on s a) = finish (s .env) (λ p. itemsOf p a) rl sl
+unfoldable pub scanned : Edition → ℕ → ℕ → Out → Outcome
+scanned ed rl sl (refuse n l) = refusedWith n l rl sl
+scanned ed rl sl (on s a) = finish ed (s .env) (λ p. itemsOf p a) rl sl
 
-unfoldable pub unless : List ℕ → ℕ → ℕ → Option Outcome → Outcome
-unless text rl sl (some w) = w
-unless text rl sl none = scanned rl sl (scan (textLines text))
+unfoldable pub unless : Edition → List ℕ → ℕ → ℕ → Option Outcome → Outcome
+unless ed text rl sl (some w) = w
+unless ed text rl sl none = scanned ed rl sl (scan ed (textLines text))
 
 -- THE CALL: a text, a reading store of rl bytes, a scratch store of sl
-unfoldable pub parseAbc : List ℕ → ℕ → ℕ → Outcome
-parseAbc text rl sl = unless text rl sl (early text rl sl)
+unfoldable pub parseAbc : Edition → List ℕ → ℕ → ℕ → Outcome
+parseAbc ed text rl sl = unless ed text rl sl (early text rl sl)
 
 -- WHAT THE CALLER IS TOLD: the reading's length in bytes, or the refusal's number and line
 pub data Answer : Type 0 where

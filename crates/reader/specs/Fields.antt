@@ -1,12 +1,15 @@
 -- THE VALUES OF M, L, K AND V FIELDS (ABC 2.1, 3.1.6 M, 3.1.7 L, 4.6 clefs, 7.1 voices).
 use Prim.Native.Nat.{ℕ, _^_, _-_}
-use mathlib.Core.Bool.{Bool, true, false, cond}
+use mathlib.Core.Bool.{Bool, true, false, cond, _&&_}
 use mathlib.Core.Option.{Option, none, some}
 use mathlib.Core.List.{List, [], _∷_}
 use Rattle.laws.specs.Lists.{any, eqText, startsWith}
 use Rattle.standard.specs.Bytes.{ascii, is}
 use Rattle.standard.specs.Fields.{Meter, namedMeter}
+use Rattle.editions.specs.declared.Edition.{Edition}
+use Rattle.editions.specs.declared.Edition.the-variants.{First, Second}
 use Rattle.reader.specs.Pieces.{numeral, before, after, fieldWords, trimmed}
+use Rattle.reader.specs.Keys.{isKeyWord, isBeyond, keyOf}
 
 -- a number of 8 bits, else 4
 unfoldable pub orFour : Option ℕ → ℕ
@@ -67,6 +70,17 @@ unitInline value = inlineUnit (unitText (after (is "/") (trimmed value)))
 -- refusal 10: "a `middle=` word in a K or V field"
 unfoldable pub middleWord : List ℕ → Bool
 middleWord value = any (startsWith (ascii "middle=")) (fieldWords value)
+
+-- refusals 10 and 21 "as met in the line": 10 at a `middle=` word, 21 at the first word of the key text, where the key stands, if it is beyond
+unfoldable pub firstMet : Bool → List (List ℕ) → Option ℕ
+firstMet beyond [] = none
+firstMet beyond (w ∷ ws) =
+    elim (startsWith (ascii "middle=") w) [ true ↦ some 10 | false ↦ cond (beyond && isKeyWord w) (some 21) (firstMet beyond ws) ]
+
+-- the refusal of a K field, if it has one; 21 "in the second edition"
+unfoldable pub keyRefusal : Edition → List ℕ → Option ℕ
+keyRefusal First value = cond (middleWord value) (some 10) none
+keyRefusal Second value = firstMet (isBeyond (keyOf Second value)) (fieldWords value)
 
 -- the first of the words, nothing if there is none
 unfoldable pub firstWord : List (List ℕ) → List ℕ

@@ -7,8 +7,10 @@ use lib.Dec.{ltb}
 use lib.ListN.{length, take, drop}
 use Rattle.laws.specs.Lists.{countWhile, any}
 use Rattle.standard.specs.Bytes.{is, first}
+use Rattle.standard.specs.Keys.{Key}
+use Rattle.editions.specs.declared.Edition.{Edition}
 use Rattle.reader.specs.Keys.{keyOf}
-use Rattle.reader.specs.Fields.{meterOf, unitInline, middleWord}
+use Rattle.reader.specs.Fields.{meterOf, unitInline, keyRefusal}
 use Rattle.reader.specs.Token.{Token, unit, meter, key, field, refused, Taken, taken}
 
 -- an L that sets nothing is passed over
@@ -16,20 +18,25 @@ unfoldable pub unitToken : Option ℕ → Token
 unitToken none = field
 unitToken (some u) = unit u
 
--- refusal 10, also here
-unfoldable pub keyToken : List ℕ → Token
-keyToken value = elim (middleWord value) [ true ↦ refused 10 | false ↦ key (keyOf value) ]
+-- a key, unless it is refused
+unfoldable pub tokenUnless : Key → Option ℕ → Token
+tokenUnless k none = key k
+tokenUnless k (some n) = refused n
+
+-- refusals 10 and 21, also here
+unfoldable pub keyToken : Edition → List ℕ → Token
+keyToken ed value = tokenUnless (keyOf ed value) (keyRefusal ed value)
 
 -- L, M, K; any other name is passed over
-unfoldable pub fieldToken : List ℕ → Token
-fieldToken s =
+unfoldable pub fieldToken : Edition → List ℕ → Token
+fieldToken ed s =
     elim (is ":" (first (drop 1 s))) [
       | false ↦ field
       | true ↦ elim (is "L" (first s)) [
         | true ↦ unitToken (unitInline (drop 2 s))
         | false ↦ elim (is "M" (first s)) [
           | true ↦ meter (meterOf (drop 2 s))
-          | false ↦ elim (is "K" (first s)) [ true ↦ keyToken (drop 2 s) | false ↦ field ]
+          | false ↦ elim (is "K" (first s)) [ true ↦ keyToken ed (drop 2 s) | false ↦ field ]
         ]
       ]
     ]
@@ -39,5 +46,5 @@ unfoldable pub isInline : List ℕ → Bool
 isInline s = let n = countWhile (λ c. not (is "]" c)) s in ltb n (length s) && not (is "\"" (first s)) && any (is ":") (take n s)
 
 -- a field takes its brackets too
-unfoldable pub inlineAt : List ℕ → Taken
-inlineAt s = let n = countWhile (λ c. not (is "]" c)) s in taken (fieldToken (take n s)) (2 + n)
+unfoldable pub inlineAt : Edition → List ℕ → Taken
+inlineAt ed s = let n = countWhile (λ c. not (is "]" c)) s in taken (fieldToken ed (take n s)) (2 + n)

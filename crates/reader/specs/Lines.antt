@@ -1,16 +1,17 @@
 -- THE KINDS OF LINES: a line, cut and trimmed, is a lyric line, a field or music ("A letter and `:` at the start is a field").
 use Prim.Native.Nat.{ℕ}
 use mathlib.Core.Bool.{Bool, true, false, cond, _&&_, _||_}
-use mathlib.Core.Option.{Option}
+use mathlib.Core.Option.{Option, none, some}
 use mathlib.Core.List.{List, [], _∷_}
 use lib.Dec.{eqb, ltb}
 use lib.ListN.{length, drop}
 use Rattle.laws.specs.Lists.{isNil}
 use Rattle.standard.specs.Keys.{Key}
 use Rattle.standard.specs.Fields.{Meter}
+use Rattle.editions.specs.declared.Edition.{Edition}
 use Rattle.reader.specs.Text.{within, clean, hasHigh}
 use Rattle.reader.specs.Keys.{keyOf}
-use Rattle.reader.specs.Fields.{meterOf, unitOf, middleWord, identifier}
+use Rattle.reader.specs.Fields.{meterOf, unitOf, middleWord, keyRefusal, identifier}
 use Rattle.reader.specs.Tokens.{Effect, effects}
 
 -- the first two bytes
@@ -64,24 +65,30 @@ pub data Kind : Type 0 where
 unfoldable pub voiceKind : List ℕ → Kind
 voiceKind value = cond (isNil (identifier value)) (refused 8) (voice (identifier value) (middleWord value))
 
-unfoldable pub keyKind : List ℕ → Kind
-keyKind value = cond (middleWord value) (refused 10) (key (keyOf value))
+-- a key, unless it is refused
+unfoldable pub kindUnless : Key → Option ℕ → Kind
+kindUnless k none = key k
+kindUnless k (some n) = refused n
+
+-- refusals 10 and 21
+unfoldable pub keyKind : Edition → List ℕ → Kind
+keyKind ed value = kindUnless (keyOf ed value) (keyRefusal ed value)
 
 -- refusal 6: "a byte above 127 in a K, L, M or V line"
-unfoldable pub fieldKind : List ℕ → Kind
-fieldKind l =
+unfoldable pub fieldKind : Edition → List ℕ → Kind
+fieldKind ed l =
     cond (isV l) (cond (hasHigh l) (refused 6) (voiceKind (drop 2 l)))
-    (cond (isK l) (cond (hasHigh l) (refused 6) (keyKind (drop 2 l)))
+    (cond (isK l) (cond (hasHigh l) (refused 6) (keyKind ed (drop 2 l)))
     (cond (isL l) (cond (hasHigh l) (refused 6) (unit (unitOf (drop 2 l))))
     (cond (isM l) (cond (hasHigh l) (refused 6) (meter (meterOf (drop 2 l)))) (cond (isX l) tune other))))
 
 -- refusal 5: "a line over 1,048,576 bytes after trimming"
-unfoldable pub lineKind : List ℕ → Kind
-lineKind l =
+unfoldable pub lineKind : Edition → List ℕ → Kind
+lineKind ed l =
     cond (isNil l) blank
     (cond (ltb 1048576 (length l)) (refused 5)
-    (cond (isLyric l) (lyric (drop 2 l)) (cond (isField l) (fieldKind l) (music (hasHigh l) (effects l) l))))
+    (cond (isLyric l) (lyric (drop 2 l)) (cond (isField l) (fieldKind ed l) (music (hasHigh l) (effects ed l) l))))
 
 -- the kind of a line of the text
-unfoldable pub kindOf : List ℕ → Kind
-kindOf r = lineKind (clean r)
+unfoldable pub kindOf : Edition → List ℕ → Kind
+kindOf ed r = lineKind ed (clean r)

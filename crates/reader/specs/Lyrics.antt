@@ -1,11 +1,15 @@
--- LYRIC LINES (000, apply_abc_lyrics): "Lyrics go to voice 0 notes that are no rests, grace notes included; `|` is passed over." (ABC 2.1, 5.1)
+-- LYRIC LINES (ABC 2.1, 5.1; 000, apply_abc_lyrics): "Lyrics go to voice 0 notes that are no rests, grace notes included; `|` is passed over." In the second
+-- edition (document 02, T-03) grace notes take no syllable, and `|` goes to the next bar.
 use Prim.Native.Nat.{ℕ, zero, suc, _+_}
 use mathlib.Core.Bool.{Bool, true, false, cond}
+use mathlib.Core.Option.{Option, none, some}
 use mathlib.Core.List.{List, [], _∷_, _++_, map}
-use lib.Dec.{ltb, eqb}
-use Rattle.laws.specs.Lists.{eqText, alterAt}
+use lib.Dec.{leb, ltb, eqb}
+use Rattle.laws.specs.Lists.{eqText, alterAt, filter, concat}
 use Rattle.standard.specs.Bytes.{ascii, is, first, last}
-use Rattle.standard.specs.Lyrics.{Syllabic, Word, skip, hold, syllable, syllables}
+use Rattle.standard.specs.Lyrics.{Syllabic, Word, skip, hold, bar, syllable, syllables}
+use Rattle.editions.specs.declared.Edition.{Edition}
+use Rattle.editions.specs.declared.Edition.the-variants.{First, Second}
 use Rattle.reader.specs.Pieces.{words, separator, whiteAt}
 use Rattle.reader.specs.State.{Sung}
 
@@ -25,7 +29,7 @@ orSkip (w ∷ ws) = w ∷ ws
 unfoldable pub wordOf : List ℕ → List Word
 wordOf w =
     elim (eqText w (ascii "|")) [
-      | true ↦ []
+      | true ↦ bar ∷ []
       | false ↦ elim (eqText w (ascii "*")) [
         | true ↦ skip ∷ []
         | false ↦ elim (eqText w (ascii "_")) [
@@ -54,9 +58,10 @@ put x (y ∷ ys) =
 unfoldable pub held : ℕ → Syllable → Syllable
 held v y = cond (eqb (y .verse) v) (record { verse = y .verse; syllabic = y .syllabic; extend = true; text = y .text }) y
 
--- the words of a line on the notes from its first on, of which i are taken. A note is taken by any word; past the last note nothing is written
+-- THE FIRST EDITION: the words of a line on the notes from its first on, of which i are taken. A note is taken by any word; past the last note nothing is written
 unfoldable pub sing : ℕ → ℕ → ℕ → List Word → List (List Syllable) → List (List Syllable)
 sing start v i [] notes = notes
+sing start v i (bar ∷ ws) notes = sing start v i ws notes
 sing start v i (skip ∷ ws) notes = sing start v (suc i) ws notes
 sing start v zero (hold ∷ ws) notes = sing start v 1 ws notes
 sing start v (suc i) (hold ∷ ws) notes = sing start v (suc (suc i)) ws (alterAt (start + i) (map (held v)) notes)
@@ -67,3 +72,62 @@ sing start v i (syllable c t ∷ ws) notes =
 unfoldable pub sungBy : List Sung → List (List Syllable) → List (List Syllable)
 sungBy [] notes = notes
 sungBy (l ∷ ls) notes = sungBy ls (sing (l .start) (l .verse) 0 (lyricWords (l .text)) notes)
+
+-- THE SECOND EDITION. A measure by those of its notes that take a syllable, one at least: the first and the others, each by its place among the notes of voice 0
+-- that are no rests
+abbrev pub SungBar : Type 0
+SungBar = ℕ × List ℕ
+
+-- the last of these notes, else the one before them
+unfoldable pub lastOr : Option ℕ → List ℕ → Option ℕ
+lastOr before [] = before
+lastOr before (i ∷ is) = lastOr (some i) is
+
+-- the syllable of verse v on the note before, if there is one, is held
+unfoldable pub heldAt : ℕ → Option ℕ → List (List Syllable) → List (List Syllable)
+heldAt v none notes = notes
+heldAt v (some i) notes = alterAt i (map (held v)) notes
+
+-- a syllable of verse v on a note
+unfoldable pub sungAt : ℕ → Syllabic → List ℕ → ℕ → List (List Syllable) → List (List Syllable)
+sungAt v c t i notes = alterAt i (put (record { verse = v; syllabic = c; extend = false; text = t })) notes
+
+-- the words of a line on what is left of the measure last reached, g, and the measures behind it; `before` is the note before the next one, if the line has passed it.
+-- "a lyric `|` moves to the first note in a measure after the one last reached ..; that move, `*` and `_` reach too, and with no such note the line's rest lapses"
+unfoldable pub singOn : ℕ → Option ℕ → List Word → List ℕ → List SungBar → List (List Syllable) → List (List Syllable)
+singOn v before [] g bs notes = notes
+singOn v before (bar ∷ ws) g [] notes = notes
+singOn v before (bar ∷ ws) g ((i, h) ∷ bs) notes = singOn v (lastOr before g) ws (i ∷ h) bs notes
+singOn v before (skip ∷ ws) (i ∷ g) bs notes = singOn v (some i) ws g bs notes
+singOn v before (skip ∷ ws) [] ((i, h) ∷ bs) notes = singOn v (some i) ws h bs notes
+singOn v before (skip ∷ ws) [] [] notes = singOn v none ws [] [] notes
+singOn v before (hold ∷ ws) (i ∷ g) bs notes = singOn v (some i) ws g bs (heldAt v before notes)
+singOn v before (hold ∷ ws) [] ((i, h) ∷ bs) notes = singOn v (some i) ws h bs (heldAt v before notes)
+singOn v before (hold ∷ ws) [] [] notes = singOn v none ws [] [] (heldAt v before notes)
+singOn v before (syllable c t ∷ ws) (i ∷ g) bs notes = singOn v (some i) ws g bs (sungAt v c t i notes)
+singOn v before (syllable c t ∷ ws) [] ((i, h) ∷ bs) notes = singOn v (some i) ws h bs (sungAt v c t i notes)
+singOn v before (syllable c t ∷ ws) [] [] notes = singOn v none ws [] [] notes
+
+-- "(at the start, the one of the line's first note)": the measure of the first note is reached before any word
+unfoldable pub singBars : ℕ → List Word → List SungBar → List (List Syllable) → List (List Syllable)
+singBars v ws [] notes = notes
+singBars v ws ((i, h) ∷ bs) notes = singOn v none ws (i ∷ h) bs notes
+
+-- a measure, if it has a note that takes a syllable
+unfoldable pub barOf : List ℕ → List SungBar
+barOf [] = []
+barOf (i ∷ is) = (i, is) ∷ []
+
+-- the measures of a line, from its first note on; ms: for each measure of the part its notes that take a syllable
+unfoldable pub barsFrom : ℕ → List (List ℕ) → List SungBar
+barsFrom start ms = concat (map (λ is. barOf (filter (leb start) is)) ms)
+
+-- the lyric lines in order
+unfoldable pub sungByBars : List (List ℕ) → List Sung → List (List Syllable) → List (List Syllable)
+sungByBars ms [] notes = notes
+sungByBars ms (l ∷ ls) notes = sungByBars ms ls (singBars (l .verse) (lyricWords (l .text)) (barsFrom (l .start) ms) notes)
+
+-- THE LYRIC LINES OF A PART in an edition
+unfoldable pub sungIn : Edition → List (List ℕ) → List Sung → List (List Syllable) → List (List Syllable)
+sungIn First ms ls notes = sungBy ls notes
+sungIn Second ms ls notes = sungByBars ms ls notes

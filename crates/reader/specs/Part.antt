@@ -1,5 +1,5 @@
 -- ONE PART FROM ITS OWN ITEMS: the fold of tokens and items into measures (document 01, "Rules behind the records"; 000, parse_body_line).
-use Prim.Native.Nat.{ℕ, zero, suc, _+_, _-_}
+use Prim.Native.Nat.{ℕ, zero, suc, _+_, _-_, _%_}
 use mathlib.Core.Bool.{Bool, true, false, cond, not, _&&_, _||_}
 use mathlib.Core.Option.{Option, none, some}
 use mathlib.Core.List.{List, [], _∷_, _++_, map, reverse}
@@ -15,6 +15,8 @@ use Rattle.standard.specs.Notes
 use Rattle.standard.specs.Notes.{NoteKind, isSounded, Beam, beamable, Flags, Behind, Pending, nothingPending, flagsOf, pendingAfter, slurOpens, graceOpens, graceCloses, nextVoice}
 use Rattle.standard.specs.Lyrics.{nextVerse}
 use Rattle.standard.specs.Fields.{Meter}
+use Rattle.editions.specs.declared.Edition.{Edition}
+use Rattle.editions.specs.declared.Edition.the-variants.{First, Second}
 use Rattle.reader.specs.Lengths.{Length, valueOf}
 use Rattle.reader.specs.Pitches.{Scope, soundsOf, scopeAfterAll}
 use Rattle.reader.specs.Token.{Token, space, overlay, quoted, broken, tuplet, slur, graceOpen, graceClose, decoration, barline, volta, unit, meter, key, field, chord, rest, note, nothing, skipped, refused}
@@ -23,7 +25,7 @@ use Rattle.reader.specs.Tokens.{tokens}
 use Rattle.reader.specs.Scan.{Item, voiceDeclared, reset, keyInHeader, keyChange, meterChange, lyricLine, musicLine}
 use Rattle.reader.specs.State.{Group, Note, Volta, voltaBegins, Measure, Half, Running, Line, Sung, Verses, PartState, withBeam, withValue, withGroup, withLeft, withRight, withMeter, withKeyMark, withVolta, setKey, setScopes, setMeasures, setPending, setVerses, setLine, withRun, withOverlay, withHalf, withTuplet, withUnit, withTime, noScopes, newMeasure, newLine, newPart, onOpen, isEmpty, voiceNow, setVoice}
 use Rattle.reader.specs.Voltas.{closed}
-use Rattle.reader.specs.Lyrics.{Syllable, sungBy}
+use Rattle.reader.specs.Lyrics.{Syllable, sungIn}
 
 -- BROKEN RHYTHM (ABC 2.1, 4.4; 000, apply_abc_broken_rhythm): "n `>` add n dots to the last note (at most 3) and halve the next n times,
 -- stopping at the 128th". A note's value and dots after n dots, or after n halvings
@@ -75,7 +77,16 @@ unfoldable pub onNothing : List Note → PartState → PartState
 onNothing [] s = setLine (withRun 0 (s .line)) s
 onNothing (n ∷ ns) s = setLine (withRun (runAfter (s .line .run) n) (s .line)) (setVoice (beamedAgain (s .line .run) n ∷ ns) s)
 
--- TUPLETS (ABC 2.1, 4.13; 000, apply_abc_tuplet): a note in the tuplet that is being read
+-- TUPLETS (ABC 2.1, 4.13; 000, apply_abc_tuplet). "tuplets of 5, 7 and 9 go in the time of 3 where the meter's top is divisible by 3, else 2" (document 02, T-03):
+-- the meter in force decides a default that waits for it
+unfoldable pub normalIn : Meter → ℕ → ℕ
+normalIn m zero = cond (eqb (m .0 % 3) 0) 3 2
+normalIn m (suc q) = suc q
+
+unfoldable pub inMeter : Meter → Tuplet → Tuplet
+inMeter m t = record { actual = t .actual; normal = normalIn m (t .normal); count = t .count }
+
+-- a note in the tuplet that is being read
 unfoldable pub groupIn : Running → Group
 groupIn t =
     record {
@@ -168,7 +179,7 @@ onToken s space = setLine (withRun 0 (s .line)) s
 onToken s overlay = setLine (withOverlay (nextVoice (s .line .overlay)) (s .line)) s
 onToken s quoted = s
 onToken s (broken up n) = onBroken up n (voiceNow s) s
-onToken s (tuplet t) = setLine (withTuplet (some (record { tuplet = t; remaining = t .count })) (s .line)) s
+onToken s (tuplet t) = setLine (withTuplet (some (record { tuplet = inMeter (s .line .meter) t; remaining = t .count })) (s .line)) s
 onToken s slur = setPending (slurOpens (s .pending)) s
 onToken s graceOpen = setPending (graceOpens (s .pending)) s
 onToken s graceClose = setPending (graceCloses (s .pending)) s
@@ -198,8 +209,8 @@ lineBegins u t s =
     (setLine (newLine u t) (setMeasures (opened t (s .measures)) s))
 
 -- a music line: its tokens from left to right
-unfoldable pub onLine : ℕ → Meter → List ℕ → PartState → PartState
-onLine u t l s = foldl onToken (lineBegins u t s) (tokens 0 l)
+unfoldable pub onLine : Edition → ℕ → Meter → List ℕ → PartState → PartState
+onLine ed u t l s = foldl onToken (lineBegins u t s) (tokens ed 0 l)
 
 -- A LYRIC LINE is kept for the end; the next one is the next verse, "verse 1 to 32". Without a place for verses none is counted (000)
 unfoldable pub onLyric : Bool → List ℕ → PartState → PartState
@@ -215,19 +226,20 @@ onKey header k [] s = hears header s
 onKey header k (m ∷ ms) s = onOpen (withKeyMark k) (hears k s)
 
 -- WHICH VOICES HEAR THE HEADER'S KEY ("of those only the current one hears it; voices first named later start with it"): the one place where
--- its reach is decided. A part first named in the header starts with C major
-unfoldable pub firstKey : Key → Bool → Key
-firstKey header inHeader = cond inHeader plainKey header
+-- its reach is decided. A part first named in the header starts with C major. In the second edition "the header key holds for every voice" (ABC 2.1, 7.1)
+unfoldable pub firstKey : Edition → Key → Bool → Key
+firstKey First header inHeader = cond inHeader plainKey header
+firstKey Second header inHeader = header
 
 -- WHAT AN ITEM DOES
-unfoldable pub onItem : Key → PartState → Item → PartState
-onItem header s (voiceDeclared inHeader) = setKey (firstKey header inHeader) s
-onItem header s reset = setPending nothingPending s
-onItem header s keyInHeader = setKey header s
-onItem header s (keyChange k) = onKey header k (s .measures) s
-onItem header s (meterChange t) = onOpen (withMeter t) s
-onItem header s (lyricLine placed t) = onLyric placed t s
-onItem header s (musicLine u t l) = onLine u t l s
+unfoldable pub onItem : Edition → Key → PartState → Item → PartState
+onItem ed header s (voiceDeclared inHeader) = setKey (firstKey ed header inHeader) s
+onItem ed header s reset = setPending nothingPending s
+onItem ed header s keyInHeader = setKey header s
+onItem ed header s (keyChange k) = onKey header k (s .measures) s
+onItem ed header s (meterChange t) = onOpen (withMeter t) s
+onItem ed header s (lyricLine placed t) = onLyric placed t s
+onItem ed header s (musicLine u t l) = onLine ed u t l s
 
 -- THE END OF A PART
 -- its measures and, for each note of voice 0 that is no rest, its syllables
@@ -259,14 +271,35 @@ unfoldable pub marked : Key → List Measure → List Measure
 marked header [] = []
 marked header (m ∷ ms) = markedBy header m (m .key) ∷ ms
 
--- the part when its last item is read: measures in order, voltas closed, first key mark, lyrics
-unfoldable pub finished : Key → PartState → Part
-finished header s =
-    record {
-      measures = marked header (closed (map inOrder (reverse (dropped (s .measures)))));
-      words = sungBy (reverse (s .verses .lines)) (replicate (s .verses .sounded) []);
-    }
+-- THE NOTES THAT TAKE A SYLLABLE in the second edition ("grace notes take no syllable"), of a voice 0 in which n notes that are no rests stand before these
+unfoldable pub takers : ℕ → List Note → List ℕ
+takers n [] = []
+takers n (x ∷ xs) =
+    elim (isSounded (x .kind)) [
+      | true ↦ elim (x .flags .grace) [ true ↦ takers (suc n) xs | false ↦ n ∷ takers (suc n) xs ]
+      | false ↦ takers n xs
+    ]
+
+-- how many notes are no rests
+unfoldable pub soundedIn : List Note → ℕ
+soundedIn [] = 0
+soundedIn (x ∷ xs) = elim (isSounded (x .kind)) [ true ↦ suc (soundedIn xs) | false ↦ soundedIn xs ]
+
+-- measure by measure
+unfoldable pub takersIn : ℕ → List Measure → List (List ℕ)
+takersIn n [] = []
+takersIn n (m ∷ ms) = let v = getD (m .voices) 0 [] in takers n v ∷ takersIn (n + soundedIn v) ms
+
+-- the measures at the end: in order, voltas closed, first key mark
+unfoldable pub finishedMeasures : Key → PartState → List Measure
+finishedMeasures header s = marked header (closed (map inOrder (reverse (dropped (s .measures)))))
+
+-- the part when its last item is read: its measures, and its lyrics
+unfoldable pub finished : Edition → Key → PartState → Part
+finished ed header s =
+    let ms = finishedMeasures header s in
+    record { measures = ms; words = sungIn ed (takersIn 0 ms) (reverse (s .verses .lines)) (replicate (s .verses .sounded) []) }
 
 -- ONE PART from the header's key and its own items
-unfoldable pub build : Key → List Item → Part
-build header items = finished header (foldl (onItem header) newPart items)
+unfoldable pub build : Edition → Key → List Item → Part
+build ed header items = finished ed header (foldl (onItem ed header) newPart items)

@@ -8,6 +8,7 @@ use lib.ListN.{length}
 use Rattle.laws.specs.Lists.{elem, indexOf}
 use Rattle.standard.specs.Keys.{Key, plainKey}
 use Rattle.standard.specs.Fields.{Meter}
+use Rattle.editions.specs.declared.Edition.{Edition}
 use Rattle.reader.specs.Tokens.{Effect, counts, refuses, setsUnit, setsMeter, noEffect}
 use Rattle.reader.specs.Lines.{Kind, blank, refused, lyric, voice, key, meter, unit, tune, other, music, kindOf}
 use Rattle.reader.specs.Steps.{TextLine, Step, refuse, on, run}
@@ -172,9 +173,9 @@ act s (music true es l) false = refuse 6 (suc (s .lines))
 act s (music false es l) false = playOn s es l (firstRefusal (s .notes) es)
 
 -- a line of the text; refusal 4 comes before anything in it
-unfoldable pub step : ScanState → TextLine → Out
-step s r = cond (ltb (s .lines) mostLines) (act s (kindOf r) (s .env .inHeader)) (refuse 4 (suc (s .lines)))
+unfoldable pub step : Edition → ScanState → TextLine → Out
+step ed s r = cond (ltb (s .lines) mostLines) (act s (kindOf ed r) (s .env .inHeader)) (refuse 4 (suc (s .lines)))
 
 -- the lines of a text
-unfoldable pub scan : List TextLine → Out
-scan rs = run step begin rs
+unfoldable pub scan : Edition → List TextLine → Out
+scan ed rs = run (step ed) begin rs

@@ -10,6 +10,7 @@ use Rattle.standard.specs.Fields.{Meter}
 use Rattle.standard.specs.Pitches.{isLetter}
 use Rattle.standard.specs.Notes
 use Rattle.standard.specs.Notes.{NoteKind}
+use Rattle.editions.specs.declared.Edition.{Edition}
 use Rattle.reader.specs.Text.{isSpace}
 use Rattle.reader.specs.Token.{Token, space, overlay, quoted, broken, tuplet, slur, graceOpen, graceClose, decoration, barline, volta, unit, meter, key, field, chord, rest, note, nothing, skipped, refused, Taken, taken}
 use Rattle.reader.specs.Tuplets.{tupletOf, orSlur}
@@ -22,13 +23,17 @@ use Rattle.reader.specs.Sounds.{chordAt, restAs, noteOf}
 unfoldable pub closedBy : (ℕ → Bool) → Token → List ℕ → Taken → Taken
 closedBy p t s other = let n = countWhile (λ c. not (p c)) s in elim (ltb n (length s)) [ true ↦ taken t (2 + n) | false ↦ other ]
 
+-- a quoted text: to its closing quote or, unclosed, to the line's end
+abbrev pub quotedOf : List ℕ → Taken
+quotedOf s = closedBy (is "\"") quoted (drop 1 s) (taken quoted (length s))
+
 -- BROKEN RHYTHM, n signs. Refusal 13: "more than 255 equal `>` or `<` together"
 unfoldable pub brokenOf : Bool → ℕ → List ℕ → Taken
 brokenOf up n s = elim (ltb 255 n) [ true ↦ taken (refused 13) (length s) | false ↦ taken (broken up n) n ]
 
 -- `[`: first a digit, then a field, then a chord (000's order of tests); s stands behind it
-unfoldable pub bracketOf : List ℕ → Taken
-bracketOf s = elim (isDigit (first s)) [ true ↦ voltaOf s | false ↦ elim (isInline s) [ true ↦ inlineAt s | false ↦ chordAt s ] ]
+unfoldable pub bracketOf : Edition → List ℕ → Taken
+bracketOf ed s = elim (isDigit (first s)) [ true ↦ voltaOf s | false ↦ elim (isInline s) [ true ↦ inlineAt ed s | false ↦ chordAt s ] ]
 
 -- THE CLASS OF A BYTE ("A table of 128 letter classes starts with every entry at "skipped"")
 pub data Class : Type 0 where
@@ -71,32 +76,32 @@ unfoldable pub classOf : ℕ → Class
 classOf c = classIn classes c
 
 -- the token at the front of s, which begins with a byte of this class
-unfoldable pub tokenAs : Class → List ℕ → Taken
-tokenAs white s = taken space 1
-tokenAs ampersand s = taken overlay 1
-tokenAs quote s = closedBy (is "\"") quoted (drop 1 s) (taken quoted (length s))
-tokenAs more s = brokenOf true (suc (countWhile (is ">") (drop 1 s))) s
-tokenAs less s = brokenOf false (suc (countWhile (is "<") (drop 1 s))) s
-tokenAs paren s = orSlur (tupletOf (drop 1 s))
-tokenAs braceOpen s = taken graceOpen 1
-tokenAs braceClose s = taken graceClose 1
-tokenAs bang s = closedBy (is "!") decoration (drop 1 s) (taken skipped 1)
-tokenAs plus s = closedBy (is "+") decoration (drop 1 s) (taken skipped 1)
-tokenAs bars s = barlineOf s
-tokenAs bracket s = bracketOf (drop 1 s)
-tokenAs pitched s = noteOf s
-tokenAs none-of-these s = taken skipped 1
-tokenAs (resting k) s = restAs k (drop 1 s)
+unfoldable pub tokenAs : Edition → Class → List ℕ → Taken
+tokenAs ed white s = taken space 1
+tokenAs ed ampersand s = taken overlay 1
+tokenAs ed quote s = quotedOf s
+tokenAs ed more s = brokenOf true (suc (countWhile (is ">") (drop 1 s))) s
+tokenAs ed less s = brokenOf false (suc (countWhile (is "<") (drop 1 s))) s
+tokenAs ed paren s = orSlur (tupletOf ed (drop 1 s))
+tokenAs ed braceOpen s = taken graceOpen 1
+tokenAs ed braceClose s = taken graceClose 1
+tokenAs ed bang s = closedBy (is "!") decoration (drop 1 s) (taken skipped 1)
+tokenAs ed plus s = closedBy (is "+") decoration (drop 1 s) (taken skipped 1)
+tokenAs ed bars s = barlineOf s
+tokenAs ed bracket s = bracketOf ed (drop 1 s)
+tokenAs ed pitched s = noteOf s
+tokenAs ed none-of-these s = taken skipped 1
+tokenAs ed (resting k) s = restAs k (drop 1 s)
 
 -- THE TOKEN at the front
-unfoldable pub tokenOf : List ℕ → Taken
-tokenOf s = tokenAs (classOf (first s)) s
+unfoldable pub tokenOf : Edition → List ℕ → Taken
+tokenOf ed s = tokenAs ed (classOf (first s)) s
 
 -- the tokens from left to right; k: bytes of a token still to pass
-unfoldable pub tokens : ℕ → List ℕ → List Token
-tokens k [] = []
-tokens zero (c ∷ s) = let t = tokenOf (c ∷ s) in t .token ∷ tokens (pred (t .used)) s
-tokens (suc k) (c ∷ s) = tokens k s
+unfoldable pub tokens : Edition → ℕ → List ℕ → List Token
+tokens ed k [] = []
+tokens ed zero (c ∷ s) = let t = tokenOf ed (c ∷ s) in t .token ∷ tokens ed (pred (t .used)) s
+tokens ed (suc k) (c ∷ s) = tokens ed k s
 
 -- WHAT THE SCAN OF THE WHOLE TEXT WANTS OF A TOKEN: a note counted, a refusal by its number, L set, M set; or nothing
 pub data Effect : Type 0 where
@@ -130,5 +135,5 @@ effectOf skipped = noEffect
 effectOf (refused n) = refuses n
 
 -- the line as the scan of the whole text sees it
-unfoldable pub effects : List ℕ → List Effect
-effects line = map effectOf (tokens 0 line)
+unfoldable pub effects : Edition → List ℕ → List Effect
+effects ed line = map effectOf (tokens ed 0 line)

@@ -6,6 +6,7 @@ use mathlib.Core.List.{List, [], _∷_, _++_}
 use lib.ListN.{length}
 use Rattle.laws.specs.Bytes.{le32, zeros, splice, encAll}
 use Rattle.standard.specs.Bytes.{ascii}
+use Rattle.editions.specs.declared.Edition.the-variants.{First}
 use Rattle.reader.specs.Answer.{refusal, reading, Outcome, scratchNeeded, parseAbc}
 use Rattle.reader.specs.Records.{measureWidth}
 use Rattle.reading_records.specs.Widths.{countWidth, firstPart}
@@ -14,7 +15,7 @@ use Rattle.reading_walk.specs.Played.{playedOf}
 
 -- WHAT `parse_abc` MAKES OF A TEXT, with a reading store of 400 bytes and scratch just large enough
 abbrev pub storeOf : String → Outcome
-storeOf text = parseAbc (ascii text) 400 (scratchNeeded (length (ascii text)))
+storeOf text = parseAbc First (ascii text) 400 (scratchNeeded (length (ascii text)))
 
 -- what part q of a text plays, if the text is read
 abbrev pub plays : ℕ → String → Option (List ℕ)

@@ -13,6 +13,7 @@ use Rattle.laws.specs.Bytes.{little, le32, u32At, zeros}
 use Rattle.laws.proofs.Bools.{by-test, and-both, and-no-left}
 use Rattle.laws.proofs.Numbers.{length-little}
 use Rattle.laws.proofs.Splices.{length-zeros, zeros-add}
+use Rattle.editions.specs.declared.Edition.{Edition}
 use Rattle.reader.specs.Part.{Part}
 use Rattle.reader.specs.Records.{sections}
 use Rattle.reader.specs.Answer.{Verdict, refusal, reading, partBytes, encode, parseAbc}
@@ -54,19 +55,19 @@ encode-whole ps few four fits counts k =
     and-both _ _ (le-leb firstPart (length s) (omega (arith, g .fits))) (ap (wholeFrom s firstPart) n ∙ parts-whole ps four fits counts k g)
 
 -- A READING with k zeros behind it
-pub cut-whole : CutWhole
-cut-whole text rl sl ps e k =
-    let c = reading-counts text rl sl ps e in
-    encode-whole ps (omega (arith, c .0)) (holds text rl sl ps e .0) (reading-fits text rl sl ps e) (c .1) k
+pub cut-whole : (ed : Edition) → CutWhole ed
+cut-whole ed text rl sl ps e k =
+    let c = reading-counts ed text rl sl ps e in
+    encode-whole ps (omega (arith, c .0)) (holds ed text rl sl ps e .0) (reading-fits ed text rl sl ps e) (c .1) k
 
 -- cut at its length
-pub encoded-whole : EncodedWhole
+pub encoded-whole : (ed : Edition) → EncodedWhole ed
 unfolding zeros
-encoded-whole text rl sl ps e = ap isWhole (sym (append-nil (encode ps))) ∙ cut-whole text rl sl ps e 0
+encoded-whole ed text rl sl ps e = ap isWhole (sym (append-nil (encode ps))) ∙ cut-whole ed text rl sl ps e 0
 
 -- in its store
-pub reading-whole : ReadingWhole
-reading-whole text rl sl ps e = ap isWhole (holds text rl sl ps e .1) ∙ cut-whole text rl sl ps e (rl - length (encode ps))
+pub reading-whole : (ed : Edition) → ReadingWhole ed
+reading-whole ed text rl sl ps e = ap isWhole (holds ed text rl sl ps e .1) ∙ cut-whole ed text rl sl ps e (rl - length (encode ps))
 
 -- ZEROS are a whole reading of no parts
 no-parts : encode [] ≡ zeros firstPart
@@ -84,13 +85,13 @@ zeros-whole rl =
     (λ e. and-no-left (leb firstPart (length (zeros rl))) _ (ap (leb firstPart) (length-zeros rl) ∙ e) ∙ sym e)
 
 -- so is what a refusal leaves
-pub refused-whole : (text : List ℕ) (rl sl n l : ℕ) → parseAbc text rl sl .verdict ≡ refusal n l → isWhole (parseAbc text rl sl .reading) ≡ leb firstPart rl
-refused-whole text rl sl n l e = ap isWhole (cleared text rl sl n l e) ∙ zeros-whole rl
+pub refused-whole : (ed : Edition) (text : List ℕ) (rl sl n l : ℕ) → parseAbc ed text rl sl .verdict ≡ refusal n l → isWhole (parseAbc ed text rl sl .reading) ≡ leb firstPart rl
+refused-whole ed text rl sl n l e = ap isWhole (cleared ed text rl sl n l e) ∙ zeros-whole rl
 
 -- EVERY STORE that the count of parts fits in
-pub store-whole : StoreWhole
-store-whole text rl sl room = go (parseAbc text rl sl .verdict) refl
+pub store-whole : (ed : Edition) → StoreWhole ed
+store-whole ed text rl sl room = go (parseAbc ed text rl sl .verdict) refl
   where
-    go : (v : Verdict) → parseAbc text rl sl .verdict ≡ v → isWhole (parseAbc text rl sl .reading) ≡ true
-    go (refusal n l) e = refused-whole text rl sl n l e ∙ le-leb firstPart rl room
-    go (reading ps) e = reading-whole text rl sl ps e
+    go : (v : Verdict) → parseAbc ed text rl sl .verdict ≡ v → isWhole (parseAbc ed text rl sl .reading) ≡ true
+    go (refusal n l) e = refused-whole ed text rl sl n l e ∙ le-leb firstPart rl room
+    go (reading ps) e = reading-whole ed text rl sl ps e

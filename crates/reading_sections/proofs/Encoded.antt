@@ -10,6 +10,7 @@ use Rattle.laws.specs.Bytes.{littleAt, le32, u32At, zeros}
 use Rattle.laws.proofs.Lists.{All-every, concat-length}
 use Rattle.laws.proofs.Numbers.{length-little, littleAt-own, littleAt-little}
 use Rattle.laws.proofs.Parts.{part-cut}
+use Rattle.editions.specs.declared.Edition.{Edition}
 use Rattle.reader.specs.State.{Note}
 use Rattle.reader.specs.Lyrics.{Syllable}
 use Rattle.reader.specs.Part.{Part}
@@ -105,10 +106,10 @@ part-sections {s} {at} p f c rest h =
     record { measures = m; notes = n; pitches = q; lyrics-are = y; text = t }
 
 -- THE STORE AFTER A CALL that read a text
-parts-fours : (e : Env) (f : ℕ → List Item) (n q : ℕ) → All (λ (p : Part). Fours (p .measures)) (parts e f n q)
+parts-fours : (ed : Edition) (e : Env) (f : ℕ → List Item) (n q : ℕ) → All (λ (p : Part). Fours (p .measures)) (parts ed e f n q)
 unfolding parts
-parts-fours e f zero q = tt
-parts-fours e f (suc n) q = (built-fours e (f q), parts-fours e f n (suc q))
+parts-fours ed e f zero q = tt
+parts-fours ed e f (suc n) q = (built-fours ed e (f q), parts-fours ed e f n (suc q))
 
 same-reading : (ps qs : List Part) → reading ps ≡ reading qs → ps ≡ qs
 same-reading ps qs e = cc
@@ -120,18 +121,18 @@ refused≢reading n l ps e = let z : _≡_ {A = ℕ} 0 1 = cc in omega arith
 abbrev pub Holds : ℕ → Outcome → Type 0
 Holds rl w = (ps : List Part) → w .verdict ≡ reading ps → All (λ (p : Part). Fours (p .measures)) ps × (w .reading ≡ encode ps ++ zeros (rl - length (encode ps)))
 
-pub holds : (text : List ℕ) (rl sl : ℕ) → Holds rl (parseAbc text rl sl)
+pub holds : (ed : Edition) (text : List ℕ) (rl sl : ℕ) → Holds rl (parseAbc ed text rl sl)
 unfolding refusedWith written
-holds text rl sl =
-    outcome-cases (Holds rl) text rl sl (λ n l h ps e. absurd (refused≢reading n l ps e)) (λ h ps e. absurd (refused≢reading 16 0 ps e))
+holds ed text rl sl =
+    outcome-cases ed (Holds rl) text rl sl (λ n l h ps e. absurd (refused≢reading n l ps e)) (λ h ps e. absurd (refused≢reading 16 0 ps e))
     (λ t a h f len short ps e.
-    let q : partsAfter t a ≡ ps = same-reading (partsAfter t a) ps e in
-    (subst (All (λ (p : Part). Fours (p .measures))) q (parts-fours (t .env) (λ p. itemsOf p a) (voiceCount t) 0), ap (λ (qs : List Part). encode qs ++ zeros (rl - length (encode qs))) q))
+    let q : partsAfter ed t a ≡ ps = same-reading (partsAfter ed t a) ps e in
+    (subst (All (λ (p : Part). Fours (p .measures))) q (parts-fours ed (t .env) (λ p. itemsOf p a) (voiceCount t) 0), ap (λ (qs : List Part). encode qs ++ zeros (rl - length (encode qs))) q))
 
 -- AFTER A REFUSAL the store is zeros
 abbrev pub Cleared : ℕ → Outcome → Type 0
 Cleared rl w = (n l : ℕ) → w .verdict ≡ refusal n l → w .reading ≡ zeros rl
 
-pub cleared : (text : List ℕ) (rl sl : ℕ) → Cleared rl (parseAbc text rl sl)
+pub cleared : (ed : Edition) (text : List ℕ) (rl sl : ℕ) → Cleared rl (parseAbc ed text rl sl)
 unfolding refusedWith written
-cleared text rl sl = outcome-cases (Cleared rl) text rl sl (λ n l h k m e. refl) (λ h k m e. refl) (λ t a h f len short n l e. absurd (refused≢reading n l (partsAfter t a) (sym e)))
+cleared ed text rl sl = outcome-cases ed (Cleared rl) text rl sl (λ n l h k m e. refl) (λ h k m e. refl) (λ t a h f len short n l e. absurd (refused≢reading n l (partsAfter ed t a) (sym e)))

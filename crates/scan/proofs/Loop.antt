@@ -9,6 +9,7 @@ use lib.ListN.{length, drop}
 use borrow.Author.Tests.{lt-ltb, le-ltb}
 use Rattle.laws.specs.Bytes.{between}
 use Rattle.laws.proofs.Parts.{length-between, part-cut}
+use Rattle.editions.specs.declared.Edition.{Edition}
 use Rattle.reader.specs.Text.{textLines}
 use Rattle.reader.specs.Lines.{kindOf, refused}
 use Rattle.reader.specs.Steps.{TextLine, Step, refuse, on, first, run}
@@ -64,13 +65,13 @@ module _ {S I : Type 0} (f : S → TextLine → Step S I) where
   run-end a s = ap (λ (d : List (ℕ × I)). on s d) (append-nil a)
 
 -- ONE LINE
-module _ (text s : List ℕ) (st : State) (row : List ℕ) where
-  step-in : st .lines < 10000 → step (stateIn text s st) row ≡ act (stateIn text s st) (kindOf row) (st .in_header)
+module _ (ed : Edition) (text s : List ℕ) (st : State) (row : List ℕ) where
+  step-in : st .lines < 10000 → step ed (stateIn text s st) row ≡ act (stateIn text s st) (kindOf ed row) (st .in_header)
   unfolding step
   step-in h = rw (lt-ltb (st .lines) 10000 h)
 
   -- refusal 4
-  pub too-many-lines : (s′ : List ℕ) → 10000 ≤ st .lines → Line text s st (step (stateIn text s st) row) s′ (Refused 4 (suc (st .lines)))
+  pub too-many-lines : (s′ : List ℕ) → 10000 ≤ st .lines → Line text s st (step ed (stateIn text s st) row) s′ (Refused 4 (suc (st .lines)))
   unfolding step
   too-many-lines s′ h = record { stepped = record { is = rw (le-ltb (st .lines) 10000 h); follows = tt }; lines-fit = tt }
 
@@ -78,22 +79,22 @@ module _ (text s : List ℕ) (st : State) (row : List ℕ) where
   lines-after (On t) f h = omega (arith, f .0)
   lines-after (Refused n l) f h = tt
 
-  from-act : (s′ : List ℕ) (r : code.Step) → st .lines < 10000 → Stepped text s st (act (stateIn text s st) (kindOf row) (st .in_header)) s′ r → Line text s st (step (stateIn text s st) row) s′ r
+  from-act : (s′ : List ℕ) (r : code.Step) → st .lines < 10000 → Stepped text s st (act (stateIn text s st) (kindOf ed row) (st .in_header)) s′ r → Line text s st (step ed (stateIn text s st) row) s′ r
   from-act s′ r h x =
       record { stepped = subst (λ (o : Out). Stepped text s st o s′ r) (sym (step-in h)) x; lines-fit = lines-after r (x .follows) h }
 
-module _ (text s : List ℕ) (st : State) (from to e : ℕ) (c : CleanEnd text from to e) (high : to ≤ length text) (few : st .lines < 10000) (s′ : List ℕ) where
+module _ (ed : Edition) (text s : List ℕ) (st : State) (from to e : ℕ) (c : CleanEnd text from to e) (high : to ≤ length text) (few : st .lines < 10000) (s′ : List ℕ) where
   long : length (between text from e) ≡ e - from
   long = length-between text from e (omega (arith, c .high))
 
   -- refusal 5
-  pub too-long : 1048576 < e - from → Line text s st (step (stateIn text s st) (between text from to)) s′ (Refused 5 (suc (st .lines)))
-  too-long h = from-act text s st (between text from to) s′ _ few (refused-kind _ 5 _ (row-long text from to e c (rw long h)))
+  pub too-long : 1048576 < e - from → Line text s st (step ed (stateIn text s st) (between text from to)) s′ (Refused 5 (suc (st .lines)))
+  too-long h = from-act ed text s st (between text from to) s′ _ few (refused-kind _ 5 _ (row-long ed text from to e c (rw long h)))
 
   -- by its class
   pub by-class : (k : Class) (r : code.Step) → e - from ≤ 1048576 → k ≡ classOf (between text from e)
-      → Stepped text s st (act (stateIn text s st) (kindAs (between text from e) k) (st .in_header)) s′ r → Line text s st (step (stateIn text s st) (between text from to)) s′ r
-  by-class k r h x y = from-act text s st (between text from to) s′ r few (by-kind _ _ _ (row-kind text from to e c k x (rw long h)) y)
+      → Stepped text s st (act (stateIn text s st) (kindAs ed (between text from e) k) (st .in_header)) s′ r → Line text s st (step ed (stateIn text s st) (between text from to)) s′ r
+  by-class k r h x y = from-act ed text s st (between text from to) s′ r few (by-kind _ _ _ (row-kind ed text from to e c k x (rw long h)) y)
 
 -- a line of these classes has its letter and its colon
 abbrev hasColon : Class → Bool
@@ -119,17 +120,17 @@ letter-and-colon text from end k v h e q c =
 
 -- THE LOOP
 -- before the line at `at`
-pub record Head (text s₀ s : List ℕ) (st : State) (at : ℕ) : Type 0 where
+pub record Head (ed : Edition) (text s₀ s : List ℕ) (st : State) (at : ℕ) : Type 0 where
   pub within : at ≤ length text
   pub kept : length s ≡ length s₀
   pub lines-fit : st .lines ≤ 10000
   pub voices-fit : st .voices ≤ 32
   pub part-fits : st .part < 32
   pub items-fit : st .items ≤ at + st .voices
-  pub ahead : first (itemsIn text s (st .items)) (run step (stateIn text s st) (textLines (drop at text))) ≡ scan (textLines text)
+  pub ahead : first (itemsIn text s (st .items)) (run (step ed) (stateIn text s st) (textLines (drop at text))) ≡ scan ed (textLines text)
 
-module _ (text s₀ : List ℕ) where
-  pub head-start : (st : State) → stateWith [] st ≡ begin → st .voices ≡ 0 → st .items ≡ 0 → Head text s₀ s₀ st 0
+module _ (ed : Edition) (text s₀ : List ℕ) where
+  pub head-start : (st : State) → stateWith [] st ≡ begin → st .voices ≡ 0 → st .items ≡ 0 → Head ed text s₀ s₀ st 0
   unfolding begin scan
   head-start st e v i =
       let l : st .lines ≡ 0 = ap (λ (t : ScanState). t .lines) e in
@@ -143,32 +144,32 @@ module _ (text s₀ : List ℕ) where
         voices-fit = omega arith;
         part-fits = omega arith;
         items-fit = omega arith;
-        ahead = (λ j. first (a j) (run step (h j) (textLines text))) ∙ first-none step (run step begin (textLines text));
+        ahead = (λ j. first (a j) (run (step ed) (h j) (textLines text))) ∙ first-none (step ed) (run (step ed) begin (textLines text));
       }
 
-  module _ (s : List ℕ) (st : State) (at : ℕ) (h : Head text s₀ s st at) where
+  module _ (s : List ℕ) (st : State) (at : ℕ) (h : Head ed text s₀ s st at) where
     pub head-open : scratchNeeded (length text) ≤ length s₀ → Open (length s) st
     unfolding scratchNeeded
     head-open room =
         record { lines-fit = h .lines-fit; voices-fit = h .voices-fit; part-fits = h .part-fits; room = omega (arith, h .items-fit, h .voices-fit, h .within, h .kept) }
 
     -- the run from a line on
-    next : (to : ℕ) (s′ : List ℕ) (r : code.Step) → LineEnd text at to → Line text s st (step (stateIn text s st) (between text at to)) s′ r
-        → onward step (textLines (drop to text)) (outIn text s′ r) ≡ scan (textLines text)
+    next : (to : ℕ) (s′ : List ℕ) (r : code.Step) → LineEnd text at to → Line text s st (step ed (stateIn text s st) (between text at to)) s′ r
+        → onward (step ed) (textLines (drop to text)) (outIn text s′ r) ≡ scan ed (textLines text)
     next to s′ r e x =
-        ap (onward step (textLines (drop to text))) (x .stepped .is)
-        ∙ sym (run-on step (itemsIn text s (st .items)) (stateIn text s st) (between text at to) (textLines (drop to text)))
-        ∙ ap (λ (rs : List TextLine). first (itemsIn text s (st .items)) (run step (stateIn text s st) rs)) (sym (e .rest))
+        ap (onward (step ed) (textLines (drop to text))) (x .stepped .is)
+        ∙ sym (run-on (step ed) (itemsIn text s (st .items)) (stateIn text s st) (between text at to) (textLines (drop to text)))
+        ∙ ap (λ (rs : List TextLine). first (itemsIn text s (st .items)) (run (step ed) (stateIn text s st) rs)) (sym (e .rest))
         ∙ h .ahead
 
-    pub head-refused : (to : ℕ) (s′ : List ℕ) (r : code.Step) (n l : ℕ) → LineEnd text at to → Line text s st (step (stateIn text s st) (between text at to)) s′ r → r ≡ Refused n l
-        → ScanIs text s′ (scannedAs r)
+    pub head-refused : (to : ℕ) (s′ : List ℕ) (r : code.Step) (n l : ℕ) → LineEnd text at to → Line text s st (step ed (stateIn text s st) (between text at to)) s′ r → r ≡ Refused n l
+        → ScanIs ed text s′ (scannedAs r)
     head-refused to s′ r n l e x q =
-        subst (λ (t : code.Step). ScanIs text s′ (scannedAs t)) (sym q)
-        (record { answered = sym (subst (λ (t : code.Step). onward step (textLines (drop to text)) (outIn text s′ t) ≡ scan (textLines text)) q (next to s′ r e x)) })
+        subst (λ (t : code.Step). ScanIs ed text s′ (scannedAs t)) (sym q)
+        (record { answered = sym (subst (λ (t : code.Step). onward (step ed) (textLines (drop to text)) (outIn text s′ t) ≡ scan ed (textLines text)) q (next to s′ r e x)) })
 
-    pub head-turn : (to : ℕ) (s′ : List ℕ) (r : code.Step) (t : State) → LineEnd text at to → Line text s st (step (stateIn text s st) (between text at to)) s′ r → r ≡ On t → length s′ ≡ length s
-        → Head text s₀ s′ t to
+    pub head-turn : (to : ℕ) (s′ : List ℕ) (r : code.Step) (t : State) → LineEnd text at to → Line text s st (step ed (stateIn text s st) (between text at to)) s′ r → r ≡ On t → length s′ ≡ length s
+        → Head ed text s₀ s′ t to
     head-turn to s′ r t e x q k =
         let f = subst (Follows st) q (x .stepped .follows) in
         let m = subst LinesFit q (x .lines-fit) in
@@ -179,21 +180,21 @@ module _ (text s₀ : List ℕ) where
           voices-fit = f .1 .0;
           part-fits = f .1 .1 .0;
           items-fit = omega (arith, f .1 .1 .1, h .items-fit, e .past);
-          ahead = subst (λ (y : code.Step). onward step (textLines (drop to text)) (outIn text s′ y) ≡ scan (textLines text)) q (next to s′ r e x);
+          ahead = subst (λ (y : code.Step). onward (step ed) (textLines (drop to text)) (outIn text s′ y) ≡ scan ed (textLines text)) q (next to s′ r e x);
         }
 
     -- every line was read
-    pub head-done : length text ≤ at → ScanIs text s (scannedAs (On st))
+    pub head-done : length text ≤ at → ScanIs ed text s (scannedAs (On st))
     head-done w =
-        let run-all : scan (textLines text) ≡ on (stateIn text s st) (itemsIn text s (st .items)) =
-        sym (h .ahead) ∙ ap (λ (rs : List TextLine). first (itemsIn text s (st .items)) (run step (stateIn text s st) rs)) (rows-over text at w) ∙ run-end step (itemsIn text s (st .items)) (stateIn text s st) in
+        let run-all : scan ed (textLines text) ≡ on (stateIn text s st) (itemsIn text s (st .items)) =
+        sym (h .ahead) ∙ ap (λ (rs : List TextLine). first (itemsIn text s (st .items)) (run (step ed) (stateIn text s st) rs)) (rows-over text at w) ∙ run-end (step ed) (itemsIn text s (st .items)) (stateIn text s st) in
         record {
           answered = record {
             state = stateIn text s st;
             scanned = run-all;
             voices = refl;
             key = refl;
-            music = music-told (textLines text) (stateIn text s st) (itemsIn text s (st .items)) run-all;
+            music = music-told ed (textLines text) (stateIn text s st) (itemsIn text s (st .items)) run-all;
             few-voices = h .voices-fit;
             room = omega (arith, h .items-fit, h .within);
           };

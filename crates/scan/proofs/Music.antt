@@ -11,6 +11,7 @@ use borrow.Author.Tests.{lt-ltb}
 use Rattle.laws.specs.Lists.{any, elem}
 use Rattle.laws.proofs.Bools.{by-test, or-assoc}
 use Rattle.laws.proofs.Lists.{any-append}
+use Rattle.editions.specs.declared.Edition.{Edition}
 use Rattle.reader.specs.Text.{textLines}
 use Rattle.reader.specs.Tokens.{Effect}
 use Rattle.reader.specs.Lines.{Kind, blank, refused, lyric, voice, key, meter, unit, tune, other, music, kindOf}
@@ -69,9 +70,9 @@ act-tells s (music hi es l) true = nothing-more _
 act-tells s (music true es l) false = tt
 act-tells s (music false es l) false = play-tells s es l (firstRefusal (s .notes) es)
 
-step-tells : (s : ScanState) (r : TextLine) → Tells s (step s r)
+step-tells : (ed : Edition) (s : ScanState) (r : TextLine) → Tells s (step ed s r)
 unfolding step
-step-tells s r = by-test (ltb (s .lines) mostLines) (λ e. rw e (act-tells s (kindOf r) (s .env .inHeader))) (λ e. rw e tt)
+step-tells ed s r = by-test (ltb (s .lines) mostLines) (λ e. rw e (act-tells s (kindOf ed r) (s .env .inHeader))) (λ e. rw e tt)
 
 first-tells : (s t : ScanState) (a : Items) → ltb 0 (t .places) ≡ (ltb 0 (s .places) || hasMusic a) → (o : Out) → Tells t o → Tells s (first a o)
 first-tells s t a e (refuse n l) h = tt
@@ -79,14 +80,14 @@ first-tells s t a e (on u b) h =
     h ∙ ap (λ (x : Bool). x || hasMusic b) e ∙ or-assoc (ltb 0 (s .places)) (hasMusic a) (hasMusic b)
     ∙ ap (λ (x : Bool). ltb 0 (s .places) || x) (sym (any-append (λ (x : ℕ × Item). isMusic (x .1)) a b))
 
-run-tells : (rs : List TextLine) (s : ScanState) → Tells s (run step s rs)
-run-tells [] s = nothing-more _
-run-tells (r ∷ rs) s = go (step s r) refl (step-tells s r) (λ t. run-tells rs t)
+run-tells : (ed : Edition) (rs : List TextLine) (s : ScanState) → Tells s (run (step ed) s rs)
+run-tells ed [] s = nothing-more _
+run-tells ed (r ∷ rs) s = go (step ed s r) refl (step-tells ed s r) (λ t. run-tells ed rs t)
   where
-    go : (o : Out) → step s r ≡ o → Tells s o → ((t : ScanState) → Tells t (run step t rs)) → Tells s (run step s (r ∷ rs))
+    go : (o : Out) → step ed s r ≡ o → Tells s o → ((t : ScanState) → Tells t (run (step ed) t rs)) → Tells s (run (step ed) s (r ∷ rs))
     go (refuse n l) e k f = rw (e, run) tt
-    go (on t a) e k f = rw (e, run) (first-tells s t a k (run step t rs) (f t))
+    go (on t a) e k f = rw (e, run) (first-tells s t a k (run (step ed) t rs) (f t))
 
-pub music-told : (rs : List TextLine) (t : ScanState) (a : Items) → scan rs ≡ on t a → ltb 0 (t .places) ≡ hasMusic a
+pub music-told : (ed : Edition) (rs : List TextLine) (t : ScanState) (a : Items) → scan ed rs ≡ on t a → ltb 0 (t .places) ≡ hasMusic a
 unfolding scan begin
-music-told rs t a e = subst (Tells begin) e (run-tells rs begin)
+music-told ed rs t a e = subst (Tells begin) e (run-tells ed rs begin)

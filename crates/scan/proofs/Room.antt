@@ -11,6 +11,7 @@ use lib.ListN.{length, length-append}
 use borrow.Author.Tests.{leb-false}
 use Rattle.laws.specs.Lists.{elem}
 use Rattle.laws.proofs.Bools.{by-test}
+use Rattle.editions.specs.declared.Edition.{Edition}
 use Rattle.reader.specs.Text.{push, textLines}
 use Rattle.reader.specs.Tokens.{Effect}
 use Rattle.reader.specs.Lines.{Kind, blank, refused, lyric, voice, key, meter, unit, tune, other, music, kindOf}
@@ -83,21 +84,21 @@ act-grows s (music hi es l) true = less s
 act-grows s (music true es l) false = tt
 act-grows s (music false es l) false = play-grows s es l (firstRefusal (s .notes) es)
 
-step-grows : (s : ScanState) (r : TextLine) → Grows 1 s (step s r)
+step-grows : (ed : Edition) (s : ScanState) (r : TextLine) → Grows 1 s (step ed s r)
 unfolding step
-step-grows s r = by-test (ltb (s .lines) mostLines) (λ e. rw e (act-grows s (kindOf r) (s .env .inHeader))) (λ e. rw e tt)
+step-grows ed s r = by-test (ltb (s .lines) mostLines) (λ e. rw e (act-grows s (kindOf ed r) (s .env .inHeader))) (λ e. rw e tt)
 
 first-grows : (n : ℕ) (s t : ScanState) (a : Items) → (count s ≤ 32 → count t ≤ 32) → length a + count s ≤ 1 + count t → (o : Out) → Grows n t o → Grows (suc n) s (first a o)
 first-grows n s t a f e (refuse k l) h = tt
 first-grows n s t a f e (on u b) h = (λ x. h .0 (f x), omega (arith, e, h .1, length-append a b))
 
-run-grows : (rs : List TextLine) (s : ScanState) → Grows (length rs) s (run step s rs)
-run-grows [] s = same s 0
-run-grows (r ∷ rs) s = go (step s r) refl (step-grows s r) (λ t. run-grows rs t)
+run-grows : (ed : Edition) (rs : List TextLine) (s : ScanState) → Grows (length rs) s (run (step ed) s rs)
+run-grows ed [] s = same s 0
+run-grows ed (r ∷ rs) s = go (step ed s r) refl (step-grows ed s r) (λ t. run-grows ed rs t)
   where
-    go : (o : Out) → step s r ≡ o → Grows 1 s o → ((t : ScanState) → Grows (length rs) t (run step t rs)) → Grows (suc (length rs)) s (run step s (r ∷ rs))
+    go : (o : Out) → step ed s r ≡ o → Grows 1 s o → ((t : ScanState) → Grows (length rs) t (run (step ed) t rs)) → Grows (suc (length rs)) s (run (step ed) s (r ∷ rs))
     go (refuse n l) e k f = rw (e, run) tt
-    go (on t a) e k f = rw (e, run) (first-grows (length rs) s t a (k .0) (k .1) (run step t rs) (f t))
+    go (on t a) e k f = rw (e, run) (first-grows (length rs) s t a (k .0) (k .1) (run (step ed) t rs) (f t))
 
 -- each row has a byte
 push-few : (c : ℕ) (rs : List TextLine) → length (push c rs) ≤ suc (length rs)
@@ -111,10 +112,10 @@ few-rows (c ∷ t) =
     let h = few-rows t in
     by-test (eqb c 10) (λ e. rw e (omega arith)) (λ e. rw e (omega (arith, push-few c (textLines t))))
 
-module _ (text : List ℕ) (t : ScanState) (a : Items) (e : scan (textLines text) ≡ on t a) where
+module _ (ed : Edition) (text : List ℕ) (t : ScanState) (a : Items) (e : scan ed (textLines text) ≡ on t a) where
   grown : (0 ≤ 32 → count t ≤ 32) × (length a + 0 ≤ length (textLines text) + count t)
   unfolding scan begin
-  grown = subst (Grows (length (textLines text)) begin) e (run-grows (textLines text) begin)
+  grown = subst (Grows (length (textLines text)) begin) e (run-grows ed (textLines text) begin)
 
   -- 32 voices, and items for each row and each voice
   pub few-voices : length (t .env .voices) ≤ 32

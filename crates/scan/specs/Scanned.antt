@@ -6,6 +6,7 @@ use mathlib.Core.List.{List}
 use lib.Dec.{ltb}
 use lib.ListN.{length}
 use Rattle.laws.specs.Lists.{any}
+use Rattle.editions.specs.declared.Edition.{Edition}
 use Rattle.reader.specs.Text.{textLines}
 use Rattle.reader.specs.Steps.{refuse, on}
 use Rattle.reader.specs.Scan.{Item, Items, ScanState, Out, scan}
@@ -47,18 +48,18 @@ hasMusic a = any (λ (x : ℕ × Item). isMusic (x .1)) a
 
 -- THE ITEMS of the definition stand in the line table, the voices' identifiers in their rows. Room: each row of the text gives one item at most,
 -- and one more where it names a new voice
-pub record Done (text s : List ℕ) (h : Shared) : Type 0 where
+pub record Done (ed : Edition) (text s : List ℕ) (h : Shared) : Type 0 where
   pub state : ScanState
-  pub scanned : scan (textLines text) ≡ on state (itemsIn text s (h .items))
+  pub scanned : scan ed (textLines text) ≡ on state (itemsIn text s (h .items))
   pub voices : state .env .voices ≡ voicesIn text s (h .voices)
   pub key : state .env .headerKey ≡ keyAs (h .key)
   pub music : h .music ≡ hasMusic (itemsIn text s (h .items))
   pub few-voices : h .voices ≤ 32
   pub room : h .items ≤ length text + h .voices
 
-abbrev pub Answered : List ℕ → List ℕ → code.Scanned → Type 0
-Answered text s (C.Done h) = Done text s h
-Answered text s (C.Refused n l) = scan (textLines text) ≡ refuse n l
+abbrev pub Answered : Edition → List ℕ → List ℕ → code.Scanned → Type 0
+Answered ed text s (C.Done h) = Done ed text s h
+Answered ed text s (C.Refused n l) = scan ed (textLines text) ≡ refuse n l
 
-pub record ScanIs (text s : List ℕ) (r : code.Scanned) : Type 0 where
-  pub answered : Answered text s r
+pub record ScanIs (ed : Edition) (text s : List ℕ) (r : code.Scanned) : Type 0 where
+  pub answered : Answered ed text s r

@@ -5,6 +5,7 @@ ghost use mathlib.Core.List.{List};
 ghost use Prim.Native.Nat.{ℕ, _+_, _^_, _≤_, _<_};
 ghost use lib.ListN.{length};
 ghost use Rattle.laws.specs.Bytes.{between};
+ghost use Rattle.editions.specs.declared.Edition.{Edition};
 ghost use Rattle.reader.specs.Text.{hasHigh};
 ghost use Rattle.reader.specs.Lines.{key, meter, unit};
 ghost use Rattle.reader.specs.Scan.{act};
@@ -13,7 +14,9 @@ ghost use Rattle.field_values.specs.Values.{meterAs, unitAs};
 ghost use Rattle.text_lines.specs.declared.Class.{Class};
 ghost use Rattle.text_lines.specs.Lines.{kindAs};
 ghost use Rattle.scan_states.specs.States.{stateIn, Ready, Stepped};
+use editions::Edition;
 use field_keys::Key;
+use field_modal::KeyField;
 use field_values::FieldUnit;
 use field_values::Meter;
 use scan_states::State;
@@ -24,7 +27,7 @@ use scan_table::Row;
 pub fn voice_line(text: &[u8], scratch: &mut [u8], st: State, from: usize, end: usize) -> Step
     requires { ⌜ Ready (length (now scratch)) st ⌝ }
     requires { ⌜ (from + 2 ≤ end) × (end ≤ length (now text)) × (length (now text) < 2 ^ 32) ⌝ }
-    ensures { λ r. ⌜ Stepped (now (text .entry)) (now (scratch .entry)) st (act (stateIn (now (text .entry)) (now (scratch .entry)) st) (kindAs (between (now (text .entry)) from end) Class.Voice) (st .in_header)) (now (scratch .exit)) r ⌝ }
+    ensures { λ r. ⌜ ((ed : Edition) → Stepped (now (text .entry)) (now (scratch .entry)) st (act (stateIn (now (text .entry)) (now (scratch .entry)) st) (kindAs ed (between (now (text .entry)) from end) Class.Voice) (st .in_header)) (now (scratch .exit)) r) ⌝ }
 {
     if text_lines::is_high(text, from, end) {
         return scan_states::refuse(st, 6);
@@ -71,20 +74,26 @@ fn set_key(scratch: &mut [u8], st: State, k: Key) -> State
     scan_states::add_item(scratch, st, row)
 }
 
-// A K line: refusals 6 and 10.
-pub fn key_line(text: &[u8], scratch: &mut [u8], st: State, from: usize, end: usize) -> Step
+// A K line: refusals 6, 10 and 21.
+pub fn key_line(
+    edition: Edition,
+    text: &[u8],
+    scratch: &mut [u8],
+    st: State,
+    from: usize,
+    end: usize,
+) -> Step
     requires { ⌜ Ready (length (now scratch)) st ⌝ }
     requires { ⌜ (from + 2 ≤ end) × (end ≤ length (now text)) × (length (now text) < 2 ^ 32) ⌝ }
-    ensures { λ r. ⌜ Stepped (now (text .entry)) (now (scratch .entry)) st (act (stateIn (now (text .entry)) (now (scratch .entry)) st) (kindAs (between (now (text .entry)) from end) Class.Key) (st .in_header)) (now (scratch .exit)) r ⌝ }
+    ensures { λ r. ⌜ Stepped (now (text .entry)) (now (scratch .entry)) st (act (stateIn (now (text .entry)) (now (scratch .entry)) st) (kindAs edition (between (now (text .entry)) from end) Class.Key) (st .in_header)) (now (scratch .exit)) r ⌝ }
 {
     if text_lines::is_high(text, from, end) {
         return scan_states::refuse(st, 6);
     }
-    if field_values::has_middle(text, from + 2, end) {
-        return scan_states::refuse(st, 10);
+    match field_values::read_key(edition, text, from + 2, end) {
+        KeyField::Reads(k) => Step::On(set_key(scratch, st, k)),
+        KeyField::Refused(n) => scan_states::refuse(st, n),
     }
-    let k = field_keys::parse_key(text, from + 2, end);
-    Step::On(set_key(scratch, st, k))
 }
 
 // A meter, which goes to the part being read once the header has ended.
@@ -114,7 +123,7 @@ fn set_meter(scratch: &mut [u8], st: State, m: Meter) -> State
 pub fn meter_line(text: &[u8], scratch: &mut [u8], st: State, from: usize, end: usize) -> Step
     requires { ⌜ Ready (length (now scratch)) st ⌝ }
     requires { ⌜ (from + 2 ≤ end) × (end ≤ length (now text)) × (length (now text) < 2 ^ 32) ⌝ }
-    ensures { λ r. ⌜ Stepped (now (text .entry)) (now (scratch .entry)) st (act (stateIn (now (text .entry)) (now (scratch .entry)) st) (kindAs (between (now (text .entry)) from end) Class.Meter) (st .in_header)) (now (scratch .exit)) r ⌝ }
+    ensures { λ r. ⌜ ((ed : Edition) → Stepped (now (text .entry)) (now (scratch .entry)) st (act (stateIn (now (text .entry)) (now (scratch .entry)) st) (kindAs ed (between (now (text .entry)) from end) Class.Meter) (st .in_header)) (now (scratch .exit)) r) ⌝ }
 {
     if text_lines::is_high(text, from, end) {
         return scan_states::refuse(st, 6);
@@ -142,7 +151,7 @@ fn set_unit(st: State, u: FieldUnit) -> State
 pub fn unit_line(text: &[u8], st: State, from: usize, end: usize) -> Step
     requires { ⌜ (st .lines < 10000) × (st .voices ≤ 32) × (st .part < 32) ⌝ }
     requires { ⌜ (from + 2 ≤ end) × (end ≤ length (now text)) ⌝ }
-    ensures { λ r. ⌜ ((s : List ℕ) → Stepped (now (text .entry)) s st (act (stateIn (now (text .entry)) s st) (kindAs (between (now (text .entry)) from end) Class.Unit) (st .in_header)) s r) ⌝ }
+    ensures { λ r. ⌜ ((ed : Edition) (s : List ℕ) → Stepped (now (text .entry)) s st (act (stateIn (now (text .entry)) s st) (kindAs ed (between (now (text .entry)) from end) Class.Unit) (st .in_header)) s r) ⌝ }
 {
     if text_lines::is_high(text, from, end) {
         return scan_states::refuse(st, 6);

@@ -11,6 +11,7 @@ use lib.ListN.{length, take, drop}
 use borrow.Author.Tests.{lt-ltb, le-ltb}
 use Rattle.laws.specs.Bytes.{between}
 use Rattle.laws.proofs.Parts.{part-cut}
+use Rattle.editions.specs.declared.Edition.{Edition}
 use Rattle.reader.specs.Text.{hasHigh}
 use Rattle.reader.specs.Tokens.{Effect, counts, refuses, setsUnit, setsMeter, noEffect, tokenOf, effectOf, effects}
 use Rattle.reader.specs.Lines.{music}
@@ -89,31 +90,31 @@ effect-back (setsUnit u) = refl
 effect-back (setsMeter m) = refl
 effect-back noEffect = refl
 
-module _ (line : List ℕ) (at : ℕ) where
-  pub none-left : (p : Count) → length line ≤ at → countedFor p (effects (drop at line)) ≡ On p
+module _ (ed : Edition) (line : List ℕ) (at : ℕ) where
+  pub none-left : (p : Count) → length line ≤ at → countedFor p (effects ed (drop at line)) ≡ On p
   unfolding countedFor countedAs effects firstRefusal noteCount lastUnit lastMeter
-  none-left p h = rw (tokens-end line at h) (ap (λ (n : ℕ). On (withNotes p n)) none)
+  none-left p h = rw (tokens-end ed line at h) (ap (λ (n : ℕ). On (withNotes p n)) none)
     where
       none : p .notes + 0 ≡ p .notes
       none = omega arith
 
   abbrev pub found : Effected
-  found = effectedFor at (tokenOf (drop at line))
+  found = effectedFor at (tokenOf ed (drop at line))
 
   -- the token and those behind it
-  next-effect : at < length line → effects (drop at line) ≡ effectAs (found .effect) ∷ effects (drop (found .next) line)
+  next-effect : at < length line → effects ed (drop at line) ≡ effectAs (found .effect) ∷ effects ed (drop (found .next) line)
   unfolding effects
-  next-effect h = ap (map effectOf) (tokens-at line at h) ∙ ap (λ (x : Effect). x ∷ effects (drop (found .next) line)) (sym (effect-back (effectOf (tokenOf (drop at line) .token))))
+  next-effect h = ap (map effectOf) (tokens-at ed line at h) ∙ ap (λ (x : Effect). x ∷ effects ed (drop (found .next) line)) (sym (effect-back (effectOf (tokenOf ed (drop at line) .token))))
 
   pub past : at < length line → at < found .next
-  past h = token-past line at h
+  past h = token-past ed line at h
 
   pub within : at < length line → found .next ≤ length line
-  within h = token-within line at h
+  within h = token-within ed line at h
 
   -- the rest, after one token
-  pub turned : at < length line → (q s : Counted) (e : code.Effect) → e ≡ found .effect → ((es : List Effect) → countedOn s es ≡ countedOn q (effectAs e ∷ es)) → countedOn s (effects (drop (found .next) line)) ≡ countedOn q (effects (drop at line))
-  turned h q s e x f = f (effects (drop (found .next) line)) ∙ ap (λ (y : code.Effect). countedOn q (effectAs y ∷ effects (drop (found .next) line))) x ∙ ap (countedOn q) (sym (next-effect h))
+  pub turned : at < length line → (q s : Counted) (e : code.Effect) → e ≡ found .effect → ((es : List Effect) → countedOn s es ≡ countedOn q (effectAs e ∷ es)) → countedOn s (effects ed (drop (found .next) line)) ≡ countedOn q (effects ed (drop at line))
+  turned h q s e x f = f (effects ed (drop (found .next) line)) ∙ ap (λ (y : code.Effect). countedOn q (effectAs y ∷ effects ed (drop (found .next) line))) x ∙ ap (countedOn q) (sym (next-effect h))
 
   -- the test of the loop: a token is there, or nothing more is counted
   pub goes : (q : Counted) (b : Bool) → b ≡ goesOn q at (length line) → T b → at < length line
@@ -121,7 +122,7 @@ module _ (line : List ℕ) (at : ℕ) where
   goes (On p) b e t = ltb→lt at (length line) (subst T e t)
   goes (Refused k) b e t = absurd (subst T e t)
 
-  pub ends : (q : Counted) (b : Bool) → b ≡ goesOn q at (length line) → T (not b) → q ≡ countedOn q (effects (drop at line))
+  pub ends : (q : Counted) (b : Bool) → b ≡ goesOn q at (length line) → T (not b) → q ≡ countedOn q (effects ed (drop at line))
   unfolding goesOn countedOn
   ends (On p) b e t = sym (none-left p (nltb→le at (length line) (subst (λ (x : Bool). T (not x)) e t)))
   ends (Refused k) b e t = refl
@@ -131,32 +132,32 @@ abbrev pub countOf : State → Count
 countOf st = record { notes = st .notes; unit = st .unit; top = st .top; bottom = st .bottom }
 
 -- in the header it is passed over; refusal 6
-pub line-high : (text s s′ : List ℕ) (st : State) (from end : ℕ) → st .in_header ≡ false → hasHigh (between text from end) ≡ true
-    → Stepped text s st (act (stateIn text s st) (kindAs (between text from end) C.Music) (st .in_header)) s′ (S.Refused 6 (suc (st .lines)))
+pub line-high : (ed : Edition) (text s s′ : List ℕ) (st : State) (from end : ℕ) → st .in_header ≡ false → hasHigh (between text from end) ≡ true
+    → Stepped text s st (act (stateIn text s st) (kindAs ed (between text from end) C.Music) (st .in_header)) s′ (S.Refused 6 (suc (st .lines)))
 unfolding act
-line-high text s s′ st from end body high =
+line-high ed text s s′ st from end body high =
     let l = between text from end in
     record {
-      is = sym (ap (first (itemsIn text s (st .items))) (ap (λ (b : Bool). act (stateIn text s st) (music (hasHigh l) (effects l) l) b) body ∙ ap (λ (b : Bool). act (stateIn text s st) (music b (effects l) l) false) high));
+      is = sym (ap (first (itemsIn text s (st .items))) (ap (λ (b : Bool). act (stateIn text s st) (music (hasHigh l) (effects ed l) l) b) body ∙ ap (λ (b : Bool). act (stateIn text s st) (music b (effects ed l) l) false) high));
       follows = tt;
     }
 
 -- the line as it was lent
-pub lent-line : (text : List ℕ) (from end : ℕ) (p : Count) (r q : Counted) → r ≡ q → r ≡ countedFor p (effects (take (end - from) (drop from text))) → q ≡ countedFor p (effects (between text from end))
-lent-line text from end p r q e x = sym e ∙ x ∙ ap (λ (l : List ℕ). countedFor p (effects l)) (part-cut text from (end - from))
+pub lent-line : (ed : Edition) (text : List ℕ) (from end : ℕ) (p : Count) (r q : Counted) → r ≡ q → r ≡ countedFor p (effects ed (take (end - from) (drop from text))) → q ≡ countedFor p (effects ed (between text from end))
+lent-line ed text from end p r q e x = sym e ∙ x ∙ ap (λ (l : List ℕ). countedFor p (effects ed l)) (part-cut text from (end - from))
 
-module _ (text s : List ℕ) (st : State) (from end : ℕ) (body : st .in_header ≡ false) (low : hasHigh (between text from end) ≡ false) where
+module _ (ed : Edition) (text s : List ℕ) (st : State) (from end : ℕ) (body : st .in_header ≡ false) (low : hasHigh (between text from end) ≡ false) where
   abbrev line : List ℕ
   line = between text from end
 
   abbrev es : List Effect
-  es = effects line
+  es = effects ed line
 
-  music-line : act (stateIn text s st) (kindAs line C.Music) (st .in_header) ≡ playOn (stateIn text s st) es line (firstRefusal (st .notes) es)
+  music-line : act (stateIn text s st) (kindAs ed line C.Music) (st .in_header) ≡ playOn (stateIn text s st) es line (firstRefusal (st .notes) es)
   unfolding act
   music-line = ap (λ (b : Bool). act (stateIn text s st) (music (hasHigh line) es line) b) body ∙ ap (λ (b : Bool). act (stateIn text s st) (music b es line) false) low
 
-  pub line-refused : (s′ : List ℕ) (k : ℕ) → Refused k ≡ countedFor (countOf st) es → Stepped text s st (act (stateIn text s st) (kindAs line C.Music) (st .in_header)) s′ (S.Refused k (suc (st .lines)))
+  pub line-refused : (s′ : List ℕ) (k : ℕ) → Refused k ≡ countedFor (countOf st) es → Stepped text s st (act (stateIn text s st) (kindAs ed line C.Music) (st .in_header)) s′ (S.Refused k (suc (st .lines)))
   unfolding countedFor countedAs playOn
   line-refused s′ k e = record { is = sym (ap (first (itemsIn text s (st .items))) (music-line ∙ go (firstRefusal (st .notes) es) e)); follows = tt }
     where
@@ -166,7 +167,7 @@ module _ (text s : List ℕ) (st : State) (from end : ℕ) (body : st .in_header
 
   pub line-counted : (s′ : List ℕ) (q : Count) (r : State) → On q ≡ countedFor (countOf st) es → st .voices ≤ 32 → st .part < 32 → r ≡ stateAfter st q
       → outIn text s′ (S.On r) ≡ on (stateIn text s (stateAfter st q)) (itemsIn text s (st .items) ++ ((st .part, musicLine (st .unit) (st .top, st .bottom) line) ∷ []))
-      → Stepped text s st (act (stateIn text s st) (kindAs line C.Music) (st .in_header)) s′ (S.On r)
+      → Stepped text s st (act (stateIn text s st) (kindAs ed line C.Music) (st .in_header)) s′ (S.On r)
   unfolding countedFor countedAs playOn
   line-counted s′ q r e v p f x =
       record {

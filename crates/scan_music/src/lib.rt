@@ -16,6 +16,7 @@ ghost use Rattle.text_lines.specs.Lines.{kindAs};
 ghost use Rattle.scan_table.specs.Rows.{itemsIn};
 ghost use Rattle.scan_states.specs.States.{stateIn, outIn, Ready, Stepped};
 ghost use Rattle.scan_music.specs.MusicLines.{effectAs, countedFor, countedOn, stateAfter, goesOn};
+use editions::Edition;
 use scan_states::State;
 use scan_states::Step;
 use scan_table::Row;
@@ -105,9 +106,9 @@ fn goes_on(q: Counted, at: usize, end: usize) -> bool
 }
 
 // The tokens of a line from left to right, to the first refusal: the cursor is lent for each and moved on. Proved by hand; `count_line` above it has no cursor.
-fn walk_line(line: &[u8], start: Counted, classes: &[u8; 128]) -> Counted
+fn walk_line(edition: Edition, line: &[u8], start: Counted, classes: &[u8; 128]) -> Counted
     requires { ⌜ now classes ≡ classTable ⌝ }
-    ensures { λ r. ⌜ r ≡ countedOn start (effects (now (line .entry))) ⌝ }
+    ensures { λ r. ⌜ r ≡ countedOn start (effects edition (now (line .entry))) ⌝ }
 {
     let mut cursor = Cursor {
         at: 0,
@@ -115,18 +116,18 @@ fn walk_line(line: &[u8], start: Counted, classes: &[u8; 128]) -> Counted
     };
     let mut q = start;
     while goes_on(q, cursor.at, cursor.end) {
-        let e = token_cursors::next_effect(line, &mut cursor, classes);
+        let e = token_cursors::next_effect(edition, line, &mut cursor, classes);
         q = on_effect(q, e);
     }
     q
 }
 
 // A line from left to right, to the first refusal.
-pub fn count_line(line: &[u8], p: Count) -> Counted
-    ensures { λ r. ⌜ r ≡ countedFor p (effects (now (line .entry))) ⌝ }
+pub fn count_line(edition: Edition, line: &[u8], p: Count) -> Counted
+    ensures { λ r. ⌜ r ≡ countedFor p (effects edition (now (line .entry))) ⌝ }
 {
     let classes = token_symbols::letter_classes();
-    walk_line(line, Counted::On(p), &classes)
+    walk_line(edition, line, Counted::On(p), &classes)
 }
 
 // How many parts have a place for verses once `part` has a music line.
@@ -173,10 +174,17 @@ fn add_music_line(scratch: &mut [u8], st: State, from: usize, end: usize, q: Cou
 }
 
 // A music line, which is passed over in the header: refusal 6, then those of its tokens.
-pub fn music_line(text: &[u8], scratch: &mut [u8], st: State, from: usize, end: usize) -> Step
+pub fn music_line(
+    edition: Edition,
+    text: &[u8],
+    scratch: &mut [u8],
+    st: State,
+    from: usize,
+    end: usize,
+) -> Step
     requires { ⌜ Ready (length (now scratch)) st ⌝ }
     requires { ⌜ (from ≤ end) × (end ≤ length (now text)) × (length (now text) < 2 ^ 32) ⌝ }
-    ensures { λ r. ⌜ Stepped (now (text .entry)) (now (scratch .entry)) st (act (stateIn (now (text .entry)) (now (scratch .entry)) st) (kindAs (between (now (text .entry)) from end) Class.Music) (st .in_header)) (now (scratch .exit)) r ⌝ }
+    ensures { λ r. ⌜ Stepped (now (text .entry)) (now (scratch .entry)) st (act (stateIn (now (text .entry)) (now (scratch .entry)) st) (kindAs edition (between (now (text .entry)) from end) Class.Music) (st .in_header)) (now (scratch .exit)) r ⌝ }
 {
     if st.in_header {
         return Step::On(scan_states::next_line(st));
@@ -190,7 +198,7 @@ pub fn music_line(text: &[u8], scratch: &mut [u8], st: State, from: usize, end: 
         top: st.top,
         bottom: st.bottom,
     };
-    let s = count_line(&text[from..end], p);
+    let s = count_line(edition, &text[from..end], p);
     match s {
         Counted::On(q) => Step::On(add_music_line(scratch, st, from, end, q)),
         Counted::Refused(n) => scan_states::refuse(st, n),

@@ -5,7 +5,8 @@ use mathlib.Core.Bool.{Bool, true, false, cond, _&&_}
 use mathlib.Core.Option.{Option, none, some}
 use mathlib.Core.List.{List, [], _∷_}
 use lib.Dec.{leb, ltb}
-use Rattle.standard.specs.Bytes.{is}
+use Rattle.laws.specs.Lists.{startsWith}
+use Rattle.standard.specs.Bytes.{ascii, is}
 use Rattle.standard.specs.Pitches.{stepOf}
 
 pub record Key : Type 0 where
@@ -37,6 +38,43 @@ tonic (c ∷ d ∷ e ∷ s) = none
 -- minor has three sharps fewer than major on the same tonic
 unfoldable pub inMode : Bool → ℕ → ℕ
 inMode minor t = cond minor (t - 3) t
+
+-- THE MODES in the order of the line of fifths: on one tonic lydian has a sharp more than major (ionian), and each next one a sharp fewer
+pub data Mode : Type 0 where
+  lydian ionian mixolydian dorian aeolian phrygian locrian : Mode
+
+-- how many sharps fewer than lydian
+unfoldable pub flatter : Mode → ℕ
+flatter lydian = 0
+flatter ionian = 1
+flatter mixolydian = 2
+flatter dorian = 3
+flatter aeolian = 4
+flatter phrygian = 5
+flatter locrian = 6
+
+-- the fifths of a mode on a tonic; t: those of the tonic in major
+unfoldable pub fifthsIn : Mode → ℕ → ℕ
+fifthsIn m t = t + 1 - flatter m
+
+-- "mode by its first three letters in any case": in small letters, each with its mode; major is ionian, minor aeolian
+unfoldable pub modeNames : List (List ℕ × Mode)
+modeNames =
+    (ascii "maj", ionian)
+    ∷ (ascii "ion", ionian)
+    ∷ (ascii "min", aeolian)
+    ∷ (ascii "aeo", aeolian)
+    ∷ (ascii "dor", dorian)
+    ∷ (ascii "phr", phrygian)
+    ∷ (ascii "lyd", lydian)
+    ∷ (ascii "mix", mixolydian)
+    ∷ (ascii "loc", locrian)
+    ∷ []
+
+-- the mode by whose name the text begins
+unfoldable pub modeIn : List (List ℕ × Mode) → List ℕ → Option Mode
+modeIn [] s = none
+modeIn (n ∷ ns) s = elim (startsWith (n .0) s) [ true ↦ some (n .1) | false ↦ modeIn ns s ]
 
 -- what a key does to a step: sharps come in the line's order from F on, flats from B back
 unfoldable pub keyAlter : Key → ℕ → ℕ

@@ -1,4 +1,4 @@
--- LYRICS (ABC 2.1, 5.1): `-` splits a word into syllables, `_` holds the last one, `*` skips a note, `~` is a space; several lines are verses.
+-- LYRICS (ABC 2.1, 5.1): `-` splits a word into syllables, `_` holds the last one, `*` skips a note, `|` goes to the next bar, `~` is a space; several lines are verses.
 use Prim.Native.Nat.{ℕ, suc, min}
 use mathlib.Core.Bool.{Bool, true, false, cond}
 use mathlib.Core.List.{List, [], _∷_, map}
@@ -7,9 +7,9 @@ use Rattle.standard.specs.Bytes.{is}
 pub data Syllabic : Type 0 where
   single begins ends middle : Syllabic
 
--- what takes a note: one that is skipped, one that holds the syllable before it, a syllable
+-- what takes a note: one that is skipped, one that holds the syllable before it, a syllable; and what goes to the next bar
 pub data Word : Type 0 where
-  skip hold : Word
+  skip hold bar : Word
   syllable : Syllabic → List ℕ → Word
 
 -- a hyphen before it, one behind it

@@ -14,6 +14,18 @@ pub record Tuplet : Type 0 where
 unfoldable pub usualNormal : ℕ → Option ℕ
 usualNormal p = elim (eqb p 2 || eqb p 4) [ true ↦ some 3 | false ↦ cond (eqb p 3) (some 2) none ]
 
+-- a default that the meter decides, where the tuplet stands
+abbrev pub byMeter : ℕ
+byMeter = 0
+
+-- the defaults of q for p from 2 to 9: `(6` goes in 2 and `(8` in 3; of `(5`, `(7` and `(9` the meter decides
+unfoldable pub defaultNormal : ℕ → Option ℕ
+defaultNormal p =
+    elim (eqb p 5 || eqb p 7 || eqb p 9) [
+      | true ↦ some byMeter
+      | false ↦ elim (eqb p 6) [ true ↦ some 2 | false ↦ cond (eqb p 8) (some 3) (usualNormal p) ]
+    ]
+
 -- where a note stands in its tuplet: 0 inside, 1 at the start, 2 at the stop, 3 both
 unfoldable pub boundary : Bool → Bool → ℕ
 boundary starts stops = cond starts 1 0 + cond stops 2 0

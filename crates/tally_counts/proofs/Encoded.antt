@@ -13,6 +13,7 @@ use Rattle.laws.specs.Bytes.{le32, u32At}
 use Rattle.laws.proofs.Bools.{by-test}
 use Rattle.laws.proofs.Numbers.{length-little}
 use Rattle.standard.specs.Notes.{isSounded}
+use Rattle.editions.specs.declared.Edition.the-variants.{First}
 use Rattle.reader.specs.Codes.{kindCode}
 use Rattle.reader.specs.State.{Note}
 use Rattle.reader.specs.Part.{Part}
@@ -98,8 +99,8 @@ reading-here s ps f c few rest e =
     record { room = omega (arith, g .fits); count = number-here (length ps) (partBytes ps ++ rest) (omega (arith, few)) h; counts = y .0; within = y .1 }
 
 -- THE STORE AFTER A CALL that read a text
-pub told-tally : (text : List ℕ) (rl sl : ℕ) (ps : List Part) → parseAbc text rl sl .verdict ≡ reading ps → Read (parseAbc text rl sl .reading) ps × (length ps ≤ 32)
+pub told-tally : (text : List ℕ) (rl sl : ℕ) (ps : List Part) → parseAbc First text rl sl .verdict ≡ reading ps → Read (parseAbc First text rl sl .reading) ps × (length ps ≤ 32)
 told-tally text rl sl ps e =
-    let x = holds text rl sl ps e in
-    let y = reading-counts text rl sl ps e in
-    (reading-here (parseAbc text rl sl .reading) ps (x .0) (y .1) (y .0) _ (x .1), y .0)
+    let x = holds First text rl sl ps e in
+    let y = reading-counts First text rl sl ps e in
+    (reading-here (parseAbc First text rl sl .reading) ps (x .0) (y .1) (y .0) _ (x .1), y .0)

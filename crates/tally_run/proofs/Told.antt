@@ -10,6 +10,7 @@ use Rattle.laws.specs.Bytes.{splice, u32At}
 use Rattle.laws.proofs.Parts.{part-cut}
 use Rattle.laws.proofs.Splices.{length-spliced, drop-splice-past, part-same}
 use Rattle.standard.specs.Bytes.{ascii}
+use Rattle.editions.specs.declared.Edition.the-variants.{First}
 use Rattle.reader.specs.Part.{Part}
 use Rattle.reader.specs.Answer.{Verdict, refusal, reading, Answer, read, refused, answerOf, parseAbc}
 use Rattle.reader.specs.Tally.{Counts, tally}
@@ -42,9 +43,9 @@ whole {d} {bs} {e} {r} p h q =
     }
 
 -- what is printed
-pub short : (input : List ℕ) (rl sl : ℕ) → length input ≤ mostInput → rl ≡ readingBytes → sl ≡ scratchBytes → verdictText (parseAbc input rl sl .verdict) ≡ printed input
+pub short : (input : List ℕ) (rl sl : ℕ) → length input ≤ mostInput → rl ≡ readingBytes → sl ≡ scratchBytes → verdictText (parseAbc First input rl sl .verdict) ≡ printed input
 unfolding printed
-short input rl sl h er es = (λ i. verdictText (parseAbc input (er i) (es i) .verdict)) ∙ sym (rw (le-leb (length input) mostInput h))
+short input rl sl h er es = (λ i. verdictText (parseAbc First input (er i) (es i) .verdict)) ∙ sym (rw (le-leb (length input) mostInput h))
 
 pub long : (input : List ℕ) → mostInput < length input → ascii "too long\n" ≡ printed input
 unfolding printed
@@ -52,13 +53,13 @@ long input h = rw (lt-leb (length input) mostInput h)
 
 -- the other stores: as the answer leaves them
 module _ (input d : List ℕ) (rl sl : ℕ) (h : length input ≤ mostInput) (er : rl ≡ readingBytes) (es : sl ≡ scratchBytes) where
-  pub reading-short : parseAbc input rl sl .reading ≡ readingLeft input d
+  pub reading-short : parseAbc First input rl sl .reading ≡ readingLeft input d
   unfolding readingLeft
-  reading-short = (λ i. parseAbc input (er i) (es i) .reading) ∙ sym (rw (le-leb (length input) mostInput h))
+  reading-short = (λ i. parseAbc First input (er i) (es i) .reading) ∙ sym (rw (le-leb (length input) mostInput h))
 
-  pub scratch-short : parseAbc input rl sl .scratch ≡ scratchLeft input d
+  pub scratch-short : parseAbc First input rl sl .scratch ≡ scratchLeft input d
   unfolding scratchLeft
-  scratch-short = (λ i. parseAbc input (er i) (es i) .scratch) ∙ sym (rw (le-leb (length input) mostInput h))
+  scratch-short = (λ i. parseAbc First input (er i) (es i) .scratch) ∙ sym (rw (le-leb (length input) mostInput h))
 
 -- or as they were
 module _ (input d : List ℕ) (h : mostInput < length input) where
@@ -93,11 +94,11 @@ pub record Countable (s : List ℕ) (text : List ℕ) : Type 0 where
   pub room : (firstPart ≤ length s) × (u32At s 0 ≤ 32) × PartsWithin s firstPart (u32At s 0)
   pub is : partsText (u32At s 0) (countsFrom s firstPart (u32At s 0)) ≡ text
 
-pub read-text : (input : List ℕ) (rl sl : ℕ) (s : List ℕ) (r : code.Answer) (n : ℕ) → answerAs r ≡ answerOf (parseAbc input rl sl .verdict) → r ≡ A.Read n → s ≡ parseAbc input rl sl .reading
-    → Countable s (verdictText (parseAbc input rl sl .verdict))
+pub read-text : (input : List ℕ) (rl sl : ℕ) (s : List ℕ) (r : code.Answer) (n : ℕ) → answerAs r ≡ answerOf (parseAbc First input rl sl .verdict) → r ≡ A.Read n → s ≡ parseAbc First input rl sl .reading
+    → Countable s (verdictText (parseAbc First input rl sl .verdict))
 unfolding verdictText
 read-text input rl sl s r n e q es =
-    let p = read-of (parseAbc input rl sl .verdict) n (sym (ap answerAs q) ∙ e) in
+    let p = read-of (parseAbc First input rl sl .verdict) n (sym (ap answerAs q) ∙ e) in
     let t = told-tally input rl sl (p .0) (p .1) in
     let x : Read s (p .0) = subst (λ (l : List ℕ). Read l (p .0)) (sym es) (t .0) in
     record {

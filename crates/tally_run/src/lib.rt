@@ -4,6 +4,7 @@ ghost use Prim.Native.Nat.{_≤_};
 ghost use lib.ListN.{length, take, drop};
 ghost use Rattle.io.specs.Counts as io_counts;
 ghost use Rattle.tally_text.specs.Printed.{readingBytes, scratchBytes, outBytes, printed, readingLeft, scratchLeft};
+use editions::Edition;
 use libc::STDOUT_FILENO;
 use reading_answers::Answer;
 
@@ -27,7 +28,7 @@ pub fn tally(input: &[u8], reading: &mut [u8], scratch: &mut [u8], out: &mut [u8
     if MOST_INPUT < input.len() {
         return tally_text::append_bytes(out, 0, b"too long\n");
     }
-    match abc_text::parse_abc(input, reading, scratch) {
+    match abc_text::parse_abc(input, reading, scratch, Edition::First) {
         Answer::Read(_) => tally_text::append_reading(reading, out),
         Answer::Refused(n, l) => tally_text::append_refusal(out, n, l),
     }

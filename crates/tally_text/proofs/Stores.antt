@@ -8,6 +8,7 @@ use lib.Dec.{leb}
 use lib.ListN.{length}
 use Rattle.laws.specs.Lists.{sum}
 use Rattle.laws.proofs.Bools.{by-test}
+use Rattle.editions.specs.declared.Edition.the-variants.{First}
 use Rattle.reader.specs.Text.{isUtf8, isBlank, textLines}
 use Rattle.reader.specs.Steps.{refuse, on}
 use Rattle.reader.specs.Scan.{Out, scan}
@@ -21,16 +22,16 @@ abbrev Not15 : Verdict → Type 0
 Not15 (refusal n l) = n ≡ 15 → ⊥
 Not15 (reading ps) = Unit {0}
 
-scanned-15 : (rl sl : ℕ) (o : Out) → OutFits o → Not15 (scanned rl sl o .verdict)
+scanned-15 : (rl sl : ℕ) (o : Out) → OutFits o → Not15 (scanned First rl sl o .verdict)
 unfolding scanned finish ended written refusedWith OutFits
 scanned-15 rl sl (refuse n l) f = not-15 n f
 scanned-15 rl sl (on t a) f =
-    let ps = partsAfter t a in
+    let ps = partsAfter First t a in
     by-test (leb 1 (sum measureCount ps))
     (λ m. rw m (by-test (leb (length (encode ps)) rl) (λ k. rw k tt) (λ k. rw k (λ e. absurd (omega (arith, e))))))
     (λ m. rw m (λ e. absurd (omega (arith, e))))
 
-early-15 : (text : List ℕ) (rl sl : ℕ) → scratchNeeded (length text) ≤ sl → Not15 (parseAbc text rl sl .verdict)
+early-15 : (text : List ℕ) (rl sl : ℕ) → scratchNeeded (length text) ≤ sl → Not15 (parseAbc First text rl sl .verdict)
 unfolding parseAbc early unless refusedWith
 early-15 text rl sl h =
     by-test (leb (length text) mostBytes)
@@ -38,14 +39,14 @@ early-15 text rl sl h =
     (by-test (isUtf8 text)
     (λ b. rw b
     (by-test (isBlank text) (λ c. rw c (λ e. absurd (omega (arith, e))))
-    (λ c. rw (c, le-leb (scratchNeeded (length text)) sl h) (scanned-15 rl sl (scan (textLines text)) (scan-out text (utf8-bytes text b))))))
+    (λ c. rw (c, le-leb (scratchNeeded (length text)) sl h) (scanned-15 rl sl (scan First (textLines text)) (scan-out First text (utf8-bytes text b))))))
     (λ b. rw b (λ e. absurd (omega (arith, e))))))
     (λ a. rw a (λ e. absurd (omega (arith, e))))
 
 module _ (input : List ℕ) (h : length input ≤ mostInput) where
-  pub never-15 : (l : ℕ) → parseAbc input readingBytes scratchBytes .verdict ≡ refusal 15 l → ⊥
+  pub never-15 : (l : ℕ) → parseAbc First input readingBytes scratchBytes .verdict ≡ refusal 15 l → ⊥
   unfolding scratchNeeded
   never-15 l e = subst Not15 e (early-15 input readingBytes scratchBytes (omega (arith, h))) refl
 
-  pub never-short : (l : ℕ) → parseAbc input readingBytes scratchBytes .verdict ≡ refusal 16 l → ⊥
-  never-short l e = never-16 input readingBytes scratchBytes l (omega (arith, h)) e
+  pub never-short : (l : ℕ) → parseAbc First input readingBytes scratchBytes .verdict ≡ refusal 16 l → ⊥
+  never-short l e = never-16 First input readingBytes scratchBytes l (omega (arith, h)) e

@@ -7,6 +7,7 @@ use lib.Dec.{ltb, leb}
 use lib.ListN.{length}
 use Rattle.laws.specs.Bytes.{splice}
 use Rattle.standard.specs.Bytes.{ascii}
+use Rattle.editions.specs.declared.Edition.the-variants.{First}
 use Rattle.reader.specs.Answer.{Verdict, refusal, reading, parseAbc}
 use Rattle.reader.specs.Tally.{Counts, tally}
 
@@ -64,14 +65,14 @@ outBytes = 8192
 
 -- "reads up to 1,792 bytes of ABC from standard input; a longer input prints `too long`"
 unfoldable pub printed : List ℕ → List ℕ
-printed input = cond (leb (length input) mostInput) (verdictText (parseAbc input readingBytes scratchBytes .verdict)) (ascii "too long\n")
+printed input = cond (leb (length input) mostInput) (verdictText (parseAbc First input readingBytes scratchBytes .verdict)) (ascii "too long\n")
 
 -- the stores of reading and scratch behind it: a longer input leaves them as they were
 unfoldable pub readingLeft : List ℕ → List ℕ → List ℕ
-readingLeft input d = cond (leb (length input) mostInput) (parseAbc input readingBytes scratchBytes .reading) d
+readingLeft input d = cond (leb (length input) mostInput) (parseAbc First input readingBytes scratchBytes .reading) d
 
 unfoldable pub scratchLeft : List ℕ → List ℕ → List ℕ
-scratchLeft input d = cond (leb (length input) mostInput) (parseAbc input readingBytes scratchBytes .scratch) d
+scratchLeft input d = cond (leb (length input) mostInput) (parseAbc First input readingBytes scratchBytes .scratch) d
 
 -- WRITING A TEXT: bs was put into the store d from `at` on, which is left as e, changed nowhere else; r is where bs ends
 pub record Adds (d : List ℕ) (at : ℕ) (bs e : List ℕ) (r : ℕ) : Type 0 where

@@ -9,6 +9,7 @@ use lib.Dec.{eqb}
 use lib.ListN.{length, getD}
 use Rattle.laws.specs.Lists.{isNil}
 use Rattle.laws.specs.Bytes.{between}
+use Rattle.editions.specs.declared.Edition.{Edition}
 use Rattle.reader.specs.Lines.{isV, isK, isL, isM, isX, isLyric, isField, Kind, refused, fieldKind, lineKind, kindOf}
 use Rattle.text_lines.specs.Lines.{CleanEnd, isLetter, colonClass, classOf, kindAs}
 use Rattle.text_lines.specs.declared.Class.{Class}
@@ -53,34 +54,34 @@ class-other (a ∷ []) h e = absurd (omega arith)
 class-other (a ∷ b ∷ l) h e = rw e (none (isLetter a) _ C.Music ∙ none (eqb a 119) C.Lyric _)
 
 -- THE KIND OF A LINE, by its class
-pass : (l : List ℕ) (b : Bool) (x y : Kind) (s t : Class) → x ≡ kindAs l s → y ≡ kindAs l t → cond b x y ≡ kindAs l (cond b s t)
-pass l true x y s t p q = p
-pass l false x y s t p q = q
+pass : (ed : Edition) (l : List ℕ) (b : Bool) (x y : Kind) (s t : Class) → x ≡ kindAs ed l s → y ≡ kindAs ed l t → cond b x y ≡ kindAs ed l (cond b s t)
+pass ed l true x y s t p q = p
+pass ed l false x y s t p q = q
 
-pub kind-by-class : (l : List ℕ) → length l ≤ 1048576 → lineKind l ≡ kindAs l (classOf l)
+pub kind-by-class : (ed : Edition) (l : List ℕ) → length l ≤ 1048576 → lineKind ed l ≡ kindAs ed l (classOf l)
 unfolding lineKind fieldKind
-kind-by-class l h =
+kind-by-class ed l h =
     rw (le-ltb 1048576 (length l) h)
-    (pass l (isNil l) _ _ C.Blank _ refl
-    (pass l (isLyric l) _ _ C.Lyric _ refl
-    (pass l (isField l) _ _ _ C.Music
-    (pass l (isV l) _ _ C.Voice _ refl
-    (pass l (isK l) _ _ C.Key _ refl
-    (pass l (isL l) _ _ C.Unit _ refl (pass l (isM l) _ _ C.Meter _ refl (pass l (isX l) _ _ C.Tune C.Other refl refl)))))
+    (pass ed l (isNil l) _ _ C.Blank _ refl
+    (pass ed l (isLyric l) _ _ C.Lyric _ refl
+    (pass ed l (isField l) _ _ _ C.Music
+    (pass ed l (isV l) _ _ C.Voice _ refl
+    (pass ed l (isK l) _ _ C.Key _ refl
+    (pass ed l (isL l) _ _ C.Unit _ refl (pass ed l (isM l) _ _ C.Meter _ refl (pass ed l (isX l) _ _ C.Tune C.Other refl refl)))))
     refl)))
 
 -- refusal 5
-pub kind-long : (l : List ℕ) → 1048576 < length l → lineKind l ≡ refused 5
+pub kind-long : (ed : Edition) (l : List ℕ) → 1048576 < length l → lineKind ed l ≡ refused 5
 unfolding lineKind
-kind-long [] h = absurd (omega arith)
-kind-long (a ∷ l) h = rw (lt-ltb 1048576 (length (a ∷ l)) h)
+kind-long ed [] h = absurd (omega arith)
+kind-long ed (a ∷ l) h = rw (lt-ltb 1048576 (length (a ∷ l)) h)
 
 -- of the line that `clean_end` found
-module _ (t : List ℕ) (from to e : ℕ) (c : CleanEnd t from to e) where
-  pub row-long : 1048576 < length (between t from e) → kindOf (between t from to) ≡ refused 5
+module _ (ed : Edition) (t : List ℕ) (from to e : ℕ) (c : CleanEnd t from to e) where
+  pub row-long : 1048576 < length (between t from e) → kindOf ed (between t from to) ≡ refused 5
   unfolding kindOf
-  row-long h = ap lineKind (sym (c .line)) ∙ kind-long (between t from e) h
+  row-long h = ap (lineKind ed) (sym (c .line)) ∙ kind-long ed (between t from e) h
 
-  pub row-kind : (k : Class) → k ≡ classOf (between t from e) → length (between t from e) ≤ 1048576 → kindOf (between t from to) ≡ kindAs (between t from e) k
+  pub row-kind : (k : Class) → k ≡ classOf (between t from e) → length (between t from e) ≤ 1048576 → kindOf ed (between t from to) ≡ kindAs ed (between t from e) k
   unfolding kindOf
-  row-kind k x h = ap lineKind (sym (c .line)) ∙ kind-by-class (between t from e) h ∙ ap (kindAs (between t from e)) (sym x)
+  row-kind k x h = ap (lineKind ed) (sym (c .line)) ∙ kind-by-class ed (between t from e) h ∙ ap (kindAs ed (between t from e)) (sym x)

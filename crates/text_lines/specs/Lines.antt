@@ -7,6 +7,7 @@ use lib.Dec.{eqb}
 use lib.ListN.{length, drop}
 use Rattle.laws.specs.Lists.{foldl, isNil}
 use Rattle.laws.specs.Bytes.{between}
+use Rattle.editions.specs.declared.Edition.{Edition}
 use Rattle.reader.specs.Text.{within, White, whiteStep, isAllWhite, textLines, trim, clean, hasHigh}
 use Rattle.reader.specs.Fields.{meterOf, unitOf}
 use Rattle.reader.specs.Tokens.{effects}
@@ -54,16 +55,16 @@ abbrev pub classOf : List ℕ → Class
 classOf l = cond (isNil l) C.Blank (cond (isLyric l) C.Lyric (cond (isField l) (fieldClass l) C.Music))
 
 -- the reader's kind of a line of this class, which is not too long
-abbrev pub kindAs : List ℕ → Class → Kind
-kindAs l C.Blank = blank
-kindAs l C.Lyric = lyric (drop 2 l)
-kindAs l C.Voice = cond (hasHigh l) (refused 6) (voiceKind (drop 2 l))
-kindAs l C.Key = cond (hasHigh l) (refused 6) (keyKind (drop 2 l))
-kindAs l C.Unit = cond (hasHigh l) (refused 6) (unit (unitOf (drop 2 l)))
-kindAs l C.Meter = cond (hasHigh l) (refused 6) (meter (meterOf (drop 2 l)))
-kindAs l C.Tune = tune
-kindAs l C.Other = other
-kindAs l C.Music = music (hasHigh l) (effects l) l
+abbrev pub kindAs : Edition → List ℕ → Class → Kind
+kindAs ed l C.Blank = blank
+kindAs ed l C.Lyric = lyric (drop 2 l)
+kindAs ed l C.Voice = cond (hasHigh l) (refused 6) (voiceKind (drop 2 l))
+kindAs ed l C.Key = cond (hasHigh l) (refused 6) (keyKind ed (drop 2 l))
+kindAs ed l C.Unit = cond (hasHigh l) (refused 6) (unit (unitOf (drop 2 l)))
+kindAs ed l C.Meter = cond (hasHigh l) (refused 6) (meter (meterOf (drop 2 l)))
+kindAs ed l C.Tune = tune
+kindAs ed l C.Other = other
+kindAs ed l C.Music = music (hasHigh l) (effects ed l) l
 
 -- A to Z, a to z
 abbrev pub isLetter : ℕ → Bool

@@ -11,6 +11,7 @@ ghost use Rattle.reader.specs.Tokens.{bracket, tokenAs};
 ghost use Rattle.laws.specs.Bytes.{between};
 ghost use Rattle.reader.specs.Token.{taken};
 ghost use Rattle.token_lexemes.specs.Lexemes.{cutFor};
+use editions::Edition;
 use field_values::Field;
 use token_lexemes::Cut;
 use token_lexemes::Lexeme;
@@ -67,11 +68,11 @@ fn chord(line: &[u8], at: usize, close: usize) -> Cut
 }
 
 // The inline field whose `[` stands at `at` and whose `]` at `close`.
-fn inline_field(line: &[u8], at: usize, close: usize) -> Cut
+fn inline_field(edition: Edition, line: &[u8], at: usize, close: usize) -> Cut
     requires { ⌜ (at < close) × (close < length (now line)) ⌝ }
-    ensures { λ r. ⌜ r ≡ cutFor at (taken (fieldToken (between (now (line .entry)) (at + 1) close)) (close + 1 - at)) ⌝ }
+    ensures { λ r. ⌜ r ≡ cutFor at (taken (fieldToken edition (between (now (line .entry)) (at + 1) close)) (close + 1 - at)) ⌝ }
 {
-    match field_values::parse_inline_field(line, at + 1, close) {
+    match field_values::parse_inline_field(edition, line, at + 1, close) {
         Field::Unit(unit) => Cut {
             lexeme: Lexeme::Unit(unit),
             next: close + 1,
@@ -90,8 +91,8 @@ fn inline_field(line: &[u8], at: usize, close: usize) -> Cut
             },
             next: close + 1,
         },
-        Field::Middle => Cut {
-            lexeme: Lexeme::Refused(10),
+        Field::Refused(n) => Cut {
+            lexeme: Lexeme::Refused(n),
             next: close + 1,
         },
         Field::Other => Cut {
@@ -102,9 +103,9 @@ fn inline_field(line: &[u8], at: usize, close: usize) -> Cut
 }
 
 // The token whose `[` stands at `at`.
-pub fn bracket(line: &[u8], at: usize) -> Cut
+pub fn bracket(edition: Edition, line: &[u8], at: usize) -> Cut
     requires { ⌜ at < length (now line) ⌝ }
-    ensures { λ r. ⌜ r ≡ cutFor at (tokenAs bracket (drop at (now (line .entry)))) ⌝ }
+    ensures { λ r. ⌜ r ≡ cutFor at (tokenAs edition bracket (drop at (now (line .entry)))) ⌝ }
 {
     let from = at + 1;
     if text_bytes::is_digit(text_bytes::byte_at(line, from)) {
@@ -112,7 +113,7 @@ pub fn bracket(line: &[u8], at: usize) -> Cut
     }
     let close = text_runs::find(line, from, line.len(), b']');
     if is_inline(line, from, close) {
-        return inline_field(line, at, close);
+        return inline_field(edition, line, at, close);
     }
     chord(line, at, close)
 }

@@ -7,6 +7,7 @@ ghost use Rattle.reader.specs.Tokens.{tokenOf};
 ghost use Rattle.token_symbols.specs.Classes.{classTable};
 ghost use Rattle.tokens.specs.Tokens.{effectedFor};
 ghost use Rattle.token_cursors.specs.Cursors.{movedTo};
+use editions::Edition;
 use tokens::Effect;
 
 // The next byte to read, and the line's end.
@@ -16,11 +17,16 @@ pub struct Cursor {
 }
 
 // What the scan wants of the token at the cursor, which moves behind it.
-pub fn next_effect(line: &[u8], cursor: &mut Cursor, classes: &[u8; 128]) -> Effect
+pub fn next_effect(
+    edition: Edition,
+    line: &[u8],
+    cursor: &mut Cursor,
+    classes: &[u8; 128],
+) -> Effect
     requires { ⌜ (now cursor .at < length (now line)) × (now classes ≡ classTable) ⌝ }
-    ensures { λ r. ⌜ (r ≡ effectedFor (now (cursor .entry) .at) (tokenOf (drop (now (cursor .entry) .at) (now (line .entry)))) .effect) × (now (cursor .exit) ≡ movedTo (now (cursor .entry)) (effectedFor (now (cursor .entry) .at) (tokenOf (drop (now (cursor .entry) .at) (now (line .entry)))) .next)) ⌝ }
+    ensures { λ r. ⌜ (r ≡ effectedFor (now (cursor .entry) .at) (tokenOf edition (drop (now (cursor .entry) .at) (now (line .entry)))) .effect) × (now (cursor .exit) ≡ movedTo (now (cursor .entry)) (effectedFor (now (cursor .entry) .at) (tokenOf edition (drop (now (cursor .entry) .at) (now (line .entry)))) .next)) ⌝ }
 {
-    let e = tokens::effect_at(line, cursor.at, classes);
+    let e = tokens::effect_at(edition, line, cursor.at, classes);
     cursor.at = e.next;
     e.effect
 }

@@ -10,7 +10,6 @@ use lib.ListN.{length, getD, drop}
 use Rattle.laws.proofs.Lists.{first-on}
 use Rattle.standard.specs.Bars.{Symbol, barSymbols, symbolAt}
 use Rattle.reader.specs.Barlines.{leftOf, barlineAs, barlineOf}
-use Rattle.reader.specs.Tokens.{bars, tokenAs}
 use Rattle.token_symbols.specs.Bars.{barlineFor, barFor}
 use Rattle.token_symbols.specs.declared.Barline.{Barline}
 use Rattle.token_symbols.specs.declared.Bar.the-variants.{Read, Nothing}
@@ -34,11 +33,11 @@ module _ (line : List ℕ) (at : ℕ) where
       let f : getD line n 0 ≡ getD (drop (length (x .text)) (drop at line)) 0 0 = ap (λ k. getD line k 0) m ∙ sym (first-on line at (length (x .text))) in
       λ j. record { lexeme = lexeme.Barline (a j) (d j) (not (eqb (f j) 93)); next = m j }
 
-  pub no-bar : barFor at (symbolAt barSymbols (drop at line)) ≡ Nothing → record { lexeme = lexeme.Skipped; next = at + 1 } ≡ cutFor at (tokenAs bars (drop at line))
-  unfolding tokenAs barlineOf
+  pub no-bar : barFor at (symbolAt barSymbols (drop at line)) ≡ Nothing → record { lexeme = lexeme.Skipped; next = at + 1 } ≡ cutFor at (barlineOf (drop at line))
+  unfolding barlineOf
   no-bar e = none-by (symbolAt barSymbols (drop at line)) e
 
   pub bar-read : (r l : Barline) (n : ℕ) → barFor at (symbolAt barSymbols (drop at line)) ≡ Read r l n
-      → record { lexeme = lexeme.Barline r l (not (eqb (getD line n 0) 93)); next = n } ≡ cutFor at (tokenAs bars (drop at line))
-  unfolding tokenAs barlineOf
+      → record { lexeme = lexeme.Barline r l (not (eqb (getD line n 0) 93)); next = n } ≡ cutFor at (barlineOf (drop at line))
+  unfolding barlineOf
   bar-read r l n e = one-by (symbolAt barSymbols (drop at line)) r l n e

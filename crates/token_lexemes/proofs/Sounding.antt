@@ -19,7 +19,6 @@ use Rattle.standard.specs.Notes as standard
 use Rattle.reader.specs.Lengths.{Length, lengthOf}
 use Rattle.reader.specs.Pitches.{octaveFrom, octaveOf, Before, accidentalOf}
 use Rattle.reader.specs.Sounds.{behind, noteAs, noteAfter, noteOf}
-use Rattle.reader.specs.Tokens.{pitched, tokenAs}
 use Rattle.token_lengths.specs.declared.Suffix.{Suffix}
 use Rattle.token_lengths.specs.Values.{suffixAt}
 use Rattle.text_runs.specs.declared.Behind as runs
@@ -163,22 +162,22 @@ module _ (line : List ℕ) (at : ℕ) (b : code.Before) (e : b ≡ beforeFor at 
   place : b .next ≡ at + accidentalOf (drop at line) .used
   place = ap (λ (x : code.Before). x .next) e
 
-  pub note-ends : length line ≤ b .next → record { lexeme = Nothing; next = b .next } ≡ cutFor at (tokenAs pitched (drop at line))
-  unfolding tokenAs noteOf
+  pub note-ends : length line ≤ b .next → record { lexeme = Nothing; next = b .next } ≡ cutFor at (noteOf (drop at line))
+  unfolding noteOf
   note-ends h =
       ap (λ x. record { lexeme = Nothing; next = x }) place
       ∙ after-end (accidentalOf (drop at line)) (drop (accidentalOf (drop at line) .used) (drop at line)) at (there ∙ drop-of-length-le line h)
 
   module _ (h : b .next < length line) where
-    pub note-other : isLetter (getD line (b .next) 0) ≡ false → record { lexeme = Nothing; next = b .next + 1 } ≡ cutFor at (tokenAs pitched (drop at line))
-    unfolding tokenAs noteOf
+    pub note-other : isLetter (getD line (b .next) 0) ≡ false → record { lexeme = Nothing; next = b .next + 1 } ≡ cutFor at (noteOf (drop at line))
+    unfolding noteOf
     note-other f =
         ap (λ x. record { lexeme = Nothing; next = x + 1 }) place
         ∙ after-other (accidentalOf (drop at line)) (drop (accidentalOf (drop at line) .used) (drop at line)) at (getD line (b .next) 0) (drop (b .next + 1) line) (there ∙ drop-next line (b .next) 0 h) f
 
     pub note-letter : isLetter (getD line (b .next) 0) ≡ true
-        → cutFor (b .next) (noteAs (record { sign = signOf (b .sign); used = 0 }) (getD line (b .next) 0) (drop (b .next + 1) line)) ≡ cutFor at (tokenAs pitched (drop at line))
-    unfolding tokenAs noteOf
+        → cutFor (b .next) (noteAs (record { sign = signOf (b .sign); used = 0 }) (getD line (b .next) 0) (drop (b .next + 1) line)) ≡ cutFor at (noteOf (drop at line))
+    unfolding noteOf
     note-letter f =
         let m : signOf (b .sign) ≡ accidentalOf (drop at line) .sign = ap (λ (x : code.Before). signOf (x .sign)) e ∙ mark-back (accidentalOf (drop at line) .sign) in
         (λ j. cutFor (place j) (noteAs (record { sign = m j; used = 0 }) (getD line (b .next) 0) (drop (b .next + 1) line)))

@@ -7,10 +7,12 @@ ghost use Rattle.laws.specs.Lists.{countWhile};
 ghost use Rattle.reader.specs.Lengths.{lengthOf};
 ghost use Rattle.reader.specs.Token.{decoration, skipped, taken};
 ghost use Rattle.reader.specs.PassLists.{voltaOf};
-ghost use Rattle.reader.specs.Sounds.{noteAs};
-ghost use Rattle.reader.specs.Tokens.{closedBy, brokenOf, quote, paren, bars, pitched, tokenAs};
+ghost use Rattle.reader.specs.Sounds.{noteAs, noteOf};
+ghost use Rattle.reader.specs.Barlines.{barlineOf};
+ghost use Rattle.reader.specs.Tokens.{closedBy, quotedOf, brokenOf, paren, tokenAs};
 ghost use Rattle.token_pitches.specs.Pitches.{signOf};
 ghost use Rattle.token_lexemes.specs.Lexemes.{isPlain, isShort, cutFor, restFor};
+use editions::Edition;
 use token_pitches::Pitch;
 use token_pitches::Sign;
 use token_symbols::Barline;
@@ -86,7 +88,7 @@ pub struct Cut {
 // A quoted text, or, unclosed, the rest of the line.
 pub fn quoted_text(line: &[u8], at: usize) -> Cut
     requires { ⌜ at < length (now line) ⌝ }
-    ensures { λ r. ⌜ r ≡ cutFor at (tokenAs quote (drop at (now (line .entry)))) ⌝ }
+    ensures { λ r. ⌜ r ≡ cutFor at (quotedOf (drop at (now (line .entry)))) ⌝ }
 {
     let close = text_runs::find(line, at + 1, line.len(), b'"');
     if close < line.len() {
@@ -142,16 +144,16 @@ pub fn broken(line: &[u8], at: usize, b: u8, up: bool) -> Cut
 }
 
 // A tuplet, or a slur start instead.
-pub fn tuplet_or_slur(line: &[u8], at: usize) -> Cut
+pub fn tuplet_or_slur(edition: Edition, line: &[u8], at: usize) -> Cut
     requires { ⌜ at < length (now line) ⌝ }
-    ensures { λ r. ⌜ r ≡ cutFor at (tokenAs paren (drop at (now (line .entry)))) ⌝ }
+    ensures { λ r. ⌜ r ≡ cutFor at (tokenAs edition paren (drop at (now (line .entry)))) ⌝ }
 {
     let token_symbols::Tuplet::Read {
         actual,
         normal,
         count,
         next,
-    } = token_symbols::parse_abc_tuplet(line, at)
+    } = token_symbols::parse_abc_tuplet(edition, line, at)
     else {
         return Cut {
             lexeme: Lexeme::Slur,
@@ -171,7 +173,7 @@ pub fn tuplet_or_slur(line: &[u8], at: usize) -> Cut
 // A barline, and whether a measure opens behind it; a lone `:` means nothing.
 pub fn bar_line(line: &[u8], at: usize) -> Cut
     requires { ⌜ at < length (now line) ⌝ }
-    ensures { λ r. ⌜ r ≡ cutFor at (tokenAs bars (drop at (now (line .entry)))) ⌝ }
+    ensures { λ r. ⌜ r ≡ cutFor at (barlineOf (drop at (now (line .entry)))) ⌝ }
 {
     let token_symbols::Bar::Read { right, left, next } = token_symbols::parse_barline(line, at)
     else {
@@ -295,7 +297,7 @@ fn note_from_letter(line: &[u8], at: usize, sign: Sign) -> Cut
 // A note with its accidentals, which take the byte behind them even if that is no letter.
 pub fn note(line: &[u8], at: usize) -> Cut
     requires { ⌜ at < length (now line) ⌝ }
-    ensures { λ r. ⌜ r ≡ cutFor at (tokenAs pitched (drop at (now (line .entry)))) ⌝ }
+    ensures { λ r. ⌜ r ≡ cutFor at (noteOf (drop at (now (line .entry)))) ⌝ }
 {
     let before = token_pitches::accidental_before(line, at);
     let sign = before.sign;

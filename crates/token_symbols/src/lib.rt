@@ -8,10 +8,12 @@ ghost use Rattle.standard.specs.Bytes.{isDigit};
 ghost use Rattle.standard.specs.Bars.{barSymbols, symbolAt};
 ghost use Rattle.reader.specs.Codes.{barlineCode};
 ghost use Rattle.reader.specs.Tokens.{classOf};
-ghost use Rattle.reader.specs.Tuplets.{tupletOf, positive, normalFor};
+ghost use Rattle.editions.specs.declared.Edition.the-variants.{First, Second};
+ghost use Rattle.reader.specs.Tuplets.{tupletOf, positive, normalFor, partOr};
 ghost use Rattle.token_symbols.specs.Classes.{classCode, classTable};
 ghost use Rattle.token_symbols.specs.Bars.{asBarline, leftFor, barFor};
 ghost use Rattle.token_symbols.specs.Tuplets.{numberFor, tupletFor};
+use editions::Edition;
 
 // THE CLASS OF A BYTE, which says how its token is read.
 pub const SKIP: u8 = 0;
@@ -80,7 +82,10 @@ pub enum Tuplet {
     Nothing,
 }
 
-// A number that is not 0, and the position after its digits; or none.
+// A normal number that the meter decides, where the tuplet stands.
+pub const BY_METER: u8 = 0;
+
+// A number, and the position after its digits; or none.
 enum Number {
     Value { value: u64, next: usize },
     Nothing,
@@ -238,10 +243,10 @@ fn positive(line: &[u8], at: usize, top: u64) -> Number
     }
 }
 
-// The normal number of notes where none is written.
+// The first edition's normal number of notes where none is written.
 fn usual_normal(actual: u8) -> u8
     requires { ⌜ 1 ≤ actual ⌝ }
-    ensures { λ r. ⌜ r ≡ normalFor actual ⌝ }
+    ensures { λ r. ⌜ r ≡ normalFor First actual ⌝ }
 {
     match actual {
         2 => 3,
@@ -251,10 +256,56 @@ fn usual_normal(actual: u8) -> u8
     }
 }
 
+// The second edition's; of 5, 7 and 9 the meter decides.
+fn standard_normal(actual: u8) -> u8
+    requires { ⌜ 1 ≤ actual ⌝ }
+    ensures { λ r. ⌜ r ≡ normalFor Second actual ⌝ }
+{
+    match actual {
+        2 => 3,
+        3 => 2,
+        4 => 3,
+        5 => BY_METER,
+        6 => 2,
+        7 => BY_METER,
+        8 => 3,
+        9 => BY_METER,
+        _ => actual - 1,
+    }
+}
+
+fn default_normal(edition: Edition, actual: u8) -> u8
+    requires { ⌜ 1 ≤ actual ⌝ }
+    ensures { λ r. ⌜ r ≡ normalFor edition actual ⌝ }
+{
+    match edition {
+        Edition::First => usual_normal(actual),
+        Edition::Second => standard_normal(actual),
+    }
+}
+
+// The part of a tuplet marker behind its `:`, which stands before `at`: a number from 1 to `top`. In the second edition an empty one is its default.
+fn part_or(edition: Edition, line: &[u8], at: usize, default: u64, top: u64) -> Number
+    ensures { λ r. ⌜ r ≡ numberFor (endOf isDigit (now (line .entry)) at) (partOr edition default top (drop at (now (line .entry)))) ⌝ }
+{
+    match edition {
+        Edition::First => positive(line, at, top),
+        Edition::Second => {
+            if text_bytes::is_digit(text_bytes::byte_at(line, at)) {
+                return positive(line, at, top);
+            }
+            Number::Value {
+                value: default,
+                next: at,
+            }
+        }
+    }
+}
+
 // The tuplet marker `(p`, `(p:q` or `(p:q:r` whose `(` stands at `at`.
-pub fn parse_abc_tuplet(line: &[u8], at: usize) -> Tuplet
+pub fn parse_abc_tuplet(edition: Edition, line: &[u8], at: usize) -> Tuplet
     requires { ⌜ at < length (now line) ⌝ }
-    ensures { λ r. ⌜ r ≡ tupletFor at (tupletOf (drop (at + 1) (now (line .entry)))) ⌝ }
+    ensures { λ r. ⌜ r ≡ tupletFor at (tupletOf edition (drop (at + 1) (now (line .entry)))) ⌝ }
 {
     let Number::Value {
         value: p,
@@ -267,10 +318,11 @@ pub fn parse_abc_tuplet(line: &[u8], at: usize) -> Tuplet
         return Tuplet::Nothing;
     }
     let actual = p as u8;
+    let default = default_normal(edition, actual);
     if text_bytes::byte_at(line, after_actual) != b':' {
         return Tuplet::Read {
             actual,
-            normal: usual_normal(actual),
+            normal: default,
             count: p,
             next: after_actual,
         };
@@ -278,7 +330,7 @@ pub fn parse_abc_tuplet(line: &[u8], at: usize) -> Tuplet
     let Number::Value {
         value: q,
         next: after_normal,
-    } = positive(line, after_actual + 1, 255)
+    } = part_or(edition, line, after_actual + 1, default as u64, 255)
     else {
         return Tuplet::Nothing;
     };
@@ -291,9 +343,11 @@ pub fn parse_abc_tuplet(line: &[u8], at: usize) -> Tuplet
             next: after_normal,
         };
     }
-    let Number::Value { value: count, next } = positive(
+    let Number::Value { value: count, next } = part_or(
+        edition,
         line,
         after_normal + 1,
+        p,
         18446744073709551615,
     ) else {
         return Tuplet::Nothing;

@@ -13,18 +13,21 @@ use Rattle.laws.proofs.Bools.{by-test}
 use Rattle.standard.specs.Bytes.{is, isDigit, first}
 use Rattle.standard.specs.Bars.{Symbol, barSymbols, symbolAt}
 use Rattle.standard.specs.Pitches.{Written, isLetter}
+use Rattle.editions.specs.declared.Edition.{Edition}
 use Rattle.reader.specs.Lengths.{Length}
-use Rattle.reader.specs.Fields.{unitInline, middleWord}
+use Rattle.reader.specs.Fields.{unitInline, keyRefusal}
 use Rattle.reader.specs.Pitches.{Before, octaveOf, accidentalOf, chordOf}
 use Rattle.reader.specs.Token.{Token, space, overlay, quoted, broken, tuplet, slur, graceOpen, graceClose, decoration, barline, volta, unit, meter, key, field, chord, rest, note, nothing, skipped, refused, Taken, taken}
 use Rattle.reader.specs.Tuplets.{tupletOf, orSlur}
 use Rattle.reader.specs.Barlines.{barlineAs, barlineOf}
 use Rattle.reader.specs.PassLists.{Listed, listed, faulty, isPassByte, listOf, voltaAs, voltaOf}
-use Rattle.reader.specs.Inline.{unitToken, keyToken, fieldToken, isInline, inlineAt}
+use Rattle.reader.specs.Inline.{unitToken, keyToken, fieldToken, isInline, inlineAt, tokenUnless}
 use Rattle.reader.specs.Sounds.{chordTaken, chordAt, restAs, noteAs, noteAfter, noteOf}
 use Rattle.reader.specs.Tokens.{closedBy, brokenOf, bracketOf, Class, white, ampersand, quote, more, less, paren, braceOpen, braceClose, bang, plus, bars, bracket, pitched, none-of-these, resting, classOf, tokenAs, tokenOf}
+use Rattle.reader.specs.Keys.{keyOf}
 use Rattle.token_lexemes.proofs.Ratio.{Form, form}
 use Rattle.standard.specs.Notes.{Behind}
+use Rattle.standard.specs.Keys.{Key}
 
 -- a chord's pitches
 unfoldable pitchesIn : Token → Option (List Written)
@@ -79,18 +82,19 @@ unfolding unitToken pitchesIn
 unit-none none = refl
 unit-none (some u) = refl
 
-key-none : (s : List ℕ) → pitchesIn (keyToken s) ≡ none
-unfolding keyToken pitchesIn
-key-none s = by-test (middleWord s) (λ e. rw (e, keyToken)) (λ e. rw (e, keyToken))
+unless-none : (k : Key) (o : Option ℕ) → pitchesIn (tokenUnless k o) ≡ none
+unfolding tokenUnless pitchesIn
+unless-none k none = refl
+unless-none k (some n) = refl
 
-field-none : (s : List ℕ) → pitchesIn (fieldToken s) ≡ none
-unfolding fieldToken pitchesIn
-field-none s =
+field-none : (ed : Edition) (s : List ℕ) → pitchesIn (fieldToken ed s) ≡ none
+unfolding fieldToken keyToken pitchesIn
+field-none ed s =
     by-test (is ":" (first (drop 1 s)))
     (λ e. rw (e, fieldToken)
     (by-test (is "L" (first s))
     (λ f. rw f (unit-none (unitInline (drop 2 s))))
-    (λ f. rw f (by-test (is "M" (first s)) (λ g. rw g) (λ g. rw g (by-test (is "K" (first s)) (λ h. rw h (key-none (drop 2 s))) (λ h. rw h)))))))
+    (λ f. rw f (by-test (is "M" (first s)) (λ g. rw g) (λ g. rw g (by-test (is "K" (first s)) (λ h. rw h (unless-none (keyOf ed (drop 2 s)) (keyRefusal ed (drop 2 s)))) (λ h. rw h)))))))
     (λ e. rw (e, fieldToken))
 
 note-none : (a : Before) (s : List ℕ) → pitchesIn (noteAfter a s .token) ≡ none
@@ -111,34 +115,34 @@ chord-some n s (some (p ∷ qs)) ps e = e
 never : {P : Type 0} (t : Token) (ps : List Written) → pitchesIn t ≡ none → pitchesIn t ≡ some ps → P
 never t ps a b = let z : _≡_ {A = ℕ} 0 1 = cc in absurd (omega arith)
 
-of-bracket : (s : List ℕ) (ps : List Written) → pitchesIn (bracketOf s .token) ≡ some ps → chordOf 0 none s ≡ some ps
+of-bracket : (ed : Edition) (s : List ℕ) (ps : List Written) → pitchesIn (bracketOf ed s .token) ≡ some ps → chordOf 0 none s ≡ some ps
 unfolding bracketOf voltaOf inlineAt chordAt
-of-bracket s ps e =
+of-bracket ed s ps e =
     by-test (isDigit (first s))
     (λ d. never (voltaOf s .token) ps (volta-none (countWhile isPassByte s) s (listOf (take (countWhile isPassByte s) s))) (rw (d, bracketOf) at e))
     (λ d. by-test (isInline s)
-    (λ i. never (inlineAt s .token) ps (field-none (take (countWhile (λ c. not (is "]" c)) s) s)) (rw i at (rw (d, bracketOf) at e)))
+    (λ i. never (inlineAt ed s .token) ps (field-none ed (take (countWhile (λ c. not (is "]" c)) s) s)) (rw i at (rw (d, bracketOf) at e)))
     (λ i. chord-some _ _ (chordOf 0 none s) ps (rw i at (rw (d, bracketOf) at e))))
 
-of-class : (x : Class) (s : List ℕ) (ps : List Written) → pitchesIn (tokenAs x s .token) ≡ some ps → chordOf 0 none (drop 1 s) ≡ some ps
+of-class : (ed : Edition) (x : Class) (s : List ℕ) (ps : List Written) → pitchesIn (tokenAs ed x s .token) ≡ some ps → chordOf 0 none (drop 1 s) ≡ some ps
 unfolding tokenAs barlineOf noteOf restAs pitchesIn
-of-class white s ps e = never space ps refl e
-of-class ampersand s ps e = never overlay ps refl e
-of-class quote s ps e = never (closedBy (is "\"") quoted (drop 1 s) (taken quoted (length s)) .token) ps (closed-none (is "\"") quoted (drop 1 s) (taken quoted (length s)) refl refl) e
-of-class more s ps e = never (brokenOf true (suc (countWhile (is ">") (drop 1 s))) s .token) ps (broken-none true (suc (countWhile (is ">") (drop 1 s))) s) e
-of-class less s ps e = never (brokenOf false (suc (countWhile (is "<") (drop 1 s))) s .token) ps (broken-none false (suc (countWhile (is "<") (drop 1 s))) s) e
-of-class paren s ps e = never (orSlur (tupletOf (drop 1 s)) .token) ps (slur-none (tupletOf (drop 1 s)) (form (drop 1 s))) e
-of-class braceOpen s ps e = never graceOpen ps refl e
-of-class braceClose s ps e = never graceClose ps refl e
-of-class bang s ps e = never (closedBy (is "!") decoration (drop 1 s) (taken skipped 1) .token) ps (closed-none (is "!") decoration (drop 1 s) (taken skipped 1) refl refl) e
-of-class plus s ps e = never (closedBy (is "+") decoration (drop 1 s) (taken skipped 1) .token) ps (closed-none (is "+") decoration (drop 1 s) (taken skipped 1) refl refl) e
-of-class bars s ps e = never (barlineAs s (symbolAt barSymbols s) .token) ps (bar-none s (symbolAt barSymbols s)) e
-of-class bracket s ps e = of-bracket (drop 1 s) ps e
-of-class pitched s ps e = never (noteAfter (accidentalOf s) (drop (accidentalOf s .used) s) .token) ps (note-none (accidentalOf s) (drop (accidentalOf s .used) s)) e
-of-class none-of-these s ps e = never skipped ps refl e
-of-class (resting k) s ps e = never (restAs k (drop 1 s) .token) ps refl e
+of-class ed white s ps e = never space ps refl e
+of-class ed ampersand s ps e = never overlay ps refl e
+of-class ed quote s ps e = never (closedBy (is "\"") quoted (drop 1 s) (taken quoted (length s)) .token) ps (closed-none (is "\"") quoted (drop 1 s) (taken quoted (length s)) refl refl) e
+of-class ed more s ps e = never (brokenOf true (suc (countWhile (is ">") (drop 1 s))) s .token) ps (broken-none true (suc (countWhile (is ">") (drop 1 s))) s) e
+of-class ed less s ps e = never (brokenOf false (suc (countWhile (is "<") (drop 1 s))) s .token) ps (broken-none false (suc (countWhile (is "<") (drop 1 s))) s) e
+of-class ed paren s ps e = never (orSlur (tupletOf ed (drop 1 s)) .token) ps (slur-none (tupletOf ed (drop 1 s)) (form ed (drop 1 s))) e
+of-class ed braceOpen s ps e = never graceOpen ps refl e
+of-class ed braceClose s ps e = never graceClose ps refl e
+of-class ed bang s ps e = never (closedBy (is "!") decoration (drop 1 s) (taken skipped 1) .token) ps (closed-none (is "!") decoration (drop 1 s) (taken skipped 1) refl refl) e
+of-class ed plus s ps e = never (closedBy (is "+") decoration (drop 1 s) (taken skipped 1) .token) ps (closed-none (is "+") decoration (drop 1 s) (taken skipped 1) refl refl) e
+of-class ed bars s ps e = never (barlineAs s (symbolAt barSymbols s) .token) ps (bar-none s (symbolAt barSymbols s)) e
+of-class ed bracket s ps e = of-bracket ed (drop 1 s) ps e
+of-class ed pitched s ps e = never (noteAfter (accidentalOf s) (drop (accidentalOf s .used) s) .token) ps (note-none (accidentalOf s) (drop (accidentalOf s .used) s)) e
+of-class ed none-of-these s ps e = never skipped ps refl e
+of-class ed (resting k) s ps e = never (restAs k (drop 1 s) .token) ps refl e
 
 -- THE LAW
-pub chord-pitches : (line : List ℕ) (at : ℕ) (ps : List Written) (l : Length) (b : Behind) → tokenOf (drop at line) .token ≡ chord ps l b → chordOf 0 none (drop (at + 1) line) ≡ some ps
+pub chord-pitches : (ed : Edition) (line : List ℕ) (at : ℕ) (ps : List Written) (l : Length) (b : Behind) → tokenOf ed (drop at line) .token ≡ chord ps l b → chordOf 0 none (drop (at + 1) line) ≡ some ps
 unfolding tokenOf pitchesIn
-chord-pitches line at ps l b e = ap (chordOf 0 none) (sym (drop-drop 1 at line)) ∙ of-class (classOf (first (drop at line))) (drop at line) ps (ap pitchesIn e)
+chord-pitches ed line at ps l b e = ap (chordOf 0 none) (sym (drop-drop 1 at line)) ∙ of-class ed (classOf (first (drop at line))) (drop at line) ps (ap pitchesIn e)

@@ -14,6 +14,7 @@ use Rattle.laws.proofs.Lists.{first-at}
 use Rattle.standard.specs.Notes as Notes
 use Rattle.standard.specs.Bytes.{first}
 use Rattle.standard.specs.Pitches.{Accidental}
+use Rattle.editions.specs.declared.Edition.{Edition}
 use Rattle.reader.specs.Lengths.{lengthOf, valueOf}
 use Rattle.reader.specs.Codes.{kindCode}
 use Rattle.reader.specs.Pitches.{octaveOf}
@@ -25,36 +26,36 @@ use Rattle.token_lexemes.specs.Lexemes.{lexemeFor, cutFor, restFor}
 use Rattle.tokens.specs.Tokens.{restLength, tokenFor, tokenisedFor, valuedFor, tokenisedIn, effectFor, effectedFor, effectIn, effectedIn}
 
 -- BY CLASS
-unfoldable pub byCode : ℕ → List ℕ → Taken
-byCode n s =
-    elim (eqb n 1) [ true ↦ tokenAs white s | false ↦ elim (eqb n 2) [ true ↦ tokenAs ampersand s | false ↦ elim (eqb n 3) [ true ↦ tokenAs quote s | false ↦ elim (eqb n 4) [ true ↦ tokenAs more s | false ↦ elim (eqb n 5) [ true ↦ tokenAs less s | false ↦ elim (eqb n 6) [ true ↦ tokenAs paren s | false ↦ elim (eqb n 7) [ true ↦ tokenAs braceOpen s | false ↦ elim (eqb n 8) [ true ↦ tokenAs braceClose s | false ↦ elim (eqb n 9) [ true ↦ tokenAs bang s | false ↦ elim (eqb n 10) [ true ↦ tokenAs plus s | false ↦ elim (eqb n 11) [ true ↦ tokenAs bars s | false ↦ elim (eqb n 12) [ true ↦ tokenAs bracket s | false ↦ elim (eqb n 13) [ true ↦ tokenAs (resting Notes.rest) s | false ↦ elim (eqb n 14) [ true ↦ tokenAs (resting Notes.invisibleRest) s | false ↦ elim (eqb n 15) [ true ↦ tokenAs (resting Notes.barRest) s | false ↦ elim (eqb n 16) [ true ↦ tokenAs (resting Notes.invisibleBarRest) s | false ↦ elim (eqb n 17) [ true ↦ tokenAs pitched s | false ↦ elim (eqb n 18) [ true ↦ tokenAs (resting Notes.sounded) s | false ↦ tokenAs none-of-these s ] ] ] ] ] ] ] ] ] ] ] ] ] ] ] ] ] ]
+unfoldable pub byCode : Edition → ℕ → List ℕ → Taken
+byCode ed n s =
+    elim (eqb n 1) [ true ↦ tokenAs ed white s | false ↦ elim (eqb n 2) [ true ↦ tokenAs ed ampersand s | false ↦ elim (eqb n 3) [ true ↦ tokenAs ed quote s | false ↦ elim (eqb n 4) [ true ↦ tokenAs ed more s | false ↦ elim (eqb n 5) [ true ↦ tokenAs ed less s | false ↦ elim (eqb n 6) [ true ↦ tokenAs ed paren s | false ↦ elim (eqb n 7) [ true ↦ tokenAs ed braceOpen s | false ↦ elim (eqb n 8) [ true ↦ tokenAs ed braceClose s | false ↦ elim (eqb n 9) [ true ↦ tokenAs ed bang s | false ↦ elim (eqb n 10) [ true ↦ tokenAs ed plus s | false ↦ elim (eqb n 11) [ true ↦ tokenAs ed bars s | false ↦ elim (eqb n 12) [ true ↦ tokenAs ed bracket s | false ↦ elim (eqb n 13) [ true ↦ tokenAs ed (resting Notes.rest) s | false ↦ elim (eqb n 14) [ true ↦ tokenAs ed (resting Notes.invisibleRest) s | false ↦ elim (eqb n 15) [ true ↦ tokenAs ed (resting Notes.barRest) s | false ↦ elim (eqb n 16) [ true ↦ tokenAs ed (resting Notes.invisibleBarRest) s | false ↦ elim (eqb n 17) [ true ↦ tokenAs ed pitched s | false ↦ elim (eqb n 18) [ true ↦ tokenAs ed (resting Notes.sounded) s | false ↦ tokenAs ed none-of-these s ] ] ] ] ] ] ] ] ] ] ] ] ] ] ] ] ] ]
 
-coded : (x : Class) (s : List ℕ) → tokenAs x s ≡ byCode (classCode x) s
+coded : (ed : Edition) (x : Class) (s : List ℕ) → tokenAs ed x s ≡ byCode ed (classCode x) s
 unfolding byCode classCode
-coded white s = refl
-coded ampersand s = refl
-coded quote s = refl
-coded more s = refl
-coded less s = refl
-coded paren s = refl
-coded braceOpen s = refl
-coded braceClose s = refl
-coded bang s = refl
-coded plus s = refl
-coded bars s = refl
-coded bracket s = refl
-coded pitched s = refl
-coded none-of-these s = refl
-coded (resting Notes.sounded) s = refl
-coded (resting Notes.rest) s = refl
-coded (resting Notes.invisibleRest) s = refl
-coded (resting Notes.barRest) s = refl
-coded (resting Notes.invisibleBarRest) s = refl
+coded ed white s = refl
+coded ed ampersand s = refl
+coded ed quote s = refl
+coded ed more s = refl
+coded ed less s = refl
+coded ed paren s = refl
+coded ed braceOpen s = refl
+coded ed braceClose s = refl
+coded ed bang s = refl
+coded ed plus s = refl
+coded ed bars s = refl
+coded ed bracket s = refl
+coded ed pitched s = refl
+coded ed none-of-these s = refl
+coded ed (resting Notes.sounded) s = refl
+coded ed (resting Notes.rest) s = refl
+coded ed (resting Notes.invisibleRest) s = refl
+coded ed (resting Notes.barRest) s = refl
+coded ed (resting Notes.invisibleBarRest) s = refl
 
 -- the token at a position, by the number of its class
-pub classed : (line : List ℕ) (at k n : ℕ) → k ≡ classCode (classOf (getD line at 0)) → k ≡ n → tokenOf (drop at line) ≡ byCode n (drop at line)
+pub classed : (ed : Edition) (line : List ℕ) (at k n : ℕ) → k ≡ classCode (classOf (getD line at 0)) → k ≡ n → tokenOf ed (drop at line) ≡ byCode ed n (drop at line)
 unfolding tokenOf
-classed line at k n e f = coded (classOf (first (drop at line))) (drop at line) ∙ ap (λ c. byCode (classCode (classOf c)) (drop at line)) (first-at line at) ∙ ap (λ m. byCode m (drop at line)) (sym e ∙ f)
+classed ed line at k n e f = coded ed (classOf (first (drop at line))) (drop at line) ∙ ap (λ c. byCode ed (classCode (classOf c)) (drop at line)) (first-at line at) ∙ ap (λ m. byCode ed m (drop at line)) (sym e ∙ f)
 
 -- no byte is of the class that has no reader
 unread : ℕ → Bool
@@ -69,34 +70,34 @@ unfolding unread
 never-18 b h = eqb-false (classCode (classOf b)) 18 (not-true (eqb (classCode (classOf b)) 18) (seen b h))
 
 -- a class of no number but 0
-no-class : (x : Class) (s : List ℕ) → (classCode x ≡ 1 → ⊥) → (classCode x ≡ 2 → ⊥) → (classCode x ≡ 3 → ⊥) → (classCode x ≡ 4 → ⊥) → (classCode x ≡ 5 → ⊥) → (classCode x ≡ 6 → ⊥) → (classCode x ≡ 7 → ⊥) → (classCode x ≡ 8 → ⊥) → (classCode x ≡ 9 → ⊥) → (classCode x ≡ 10 → ⊥) → (classCode x ≡ 11 → ⊥) → (classCode x ≡ 12 → ⊥) → (classCode x ≡ 13 → ⊥) → (classCode x ≡ 14 → ⊥) → (classCode x ≡ 15 → ⊥) → (classCode x ≡ 16 → ⊥) → (classCode x ≡ 17 → ⊥) → (classCode x ≡ 18 → ⊥) → taken skipped 1 ≡ tokenAs x s
+no-class : (ed : Edition) (x : Class) (s : List ℕ) → (classCode x ≡ 1 → ⊥) → (classCode x ≡ 2 → ⊥) → (classCode x ≡ 3 → ⊥) → (classCode x ≡ 4 → ⊥) → (classCode x ≡ 5 → ⊥) → (classCode x ≡ 6 → ⊥) → (classCode x ≡ 7 → ⊥) → (classCode x ≡ 8 → ⊥) → (classCode x ≡ 9 → ⊥) → (classCode x ≡ 10 → ⊥) → (classCode x ≡ 11 → ⊥) → (classCode x ≡ 12 → ⊥) → (classCode x ≡ 13 → ⊥) → (classCode x ≡ 14 → ⊥) → (classCode x ≡ 15 → ⊥) → (classCode x ≡ 16 → ⊥) → (classCode x ≡ 17 → ⊥) → (classCode x ≡ 18 → ⊥) → taken skipped 1 ≡ tokenAs ed x s
 unfolding classCode tokenAs
-no-class white s n1 n2 n3 n4 n5 n6 n7 n8 n9 n10 n11 n12 n13 n14 n15 n16 n17 n18 = absurd (n1 refl)
-no-class ampersand s n1 n2 n3 n4 n5 n6 n7 n8 n9 n10 n11 n12 n13 n14 n15 n16 n17 n18 = absurd (n2 refl)
-no-class quote s n1 n2 n3 n4 n5 n6 n7 n8 n9 n10 n11 n12 n13 n14 n15 n16 n17 n18 = absurd (n3 refl)
-no-class more s n1 n2 n3 n4 n5 n6 n7 n8 n9 n10 n11 n12 n13 n14 n15 n16 n17 n18 = absurd (n4 refl)
-no-class less s n1 n2 n3 n4 n5 n6 n7 n8 n9 n10 n11 n12 n13 n14 n15 n16 n17 n18 = absurd (n5 refl)
-no-class paren s n1 n2 n3 n4 n5 n6 n7 n8 n9 n10 n11 n12 n13 n14 n15 n16 n17 n18 = absurd (n6 refl)
-no-class braceOpen s n1 n2 n3 n4 n5 n6 n7 n8 n9 n10 n11 n12 n13 n14 n15 n16 n17 n18 = absurd (n7 refl)
-no-class braceClose s n1 n2 n3 n4 n5 n6 n7 n8 n9 n10 n11 n12 n13 n14 n15 n16 n17 n18 = absurd (n8 refl)
-no-class bang s n1 n2 n3 n4 n5 n6 n7 n8 n9 n10 n11 n12 n13 n14 n15 n16 n17 n18 = absurd (n9 refl)
-no-class plus s n1 n2 n3 n4 n5 n6 n7 n8 n9 n10 n11 n12 n13 n14 n15 n16 n17 n18 = absurd (n10 refl)
-no-class bars s n1 n2 n3 n4 n5 n6 n7 n8 n9 n10 n11 n12 n13 n14 n15 n16 n17 n18 = absurd (n11 refl)
-no-class bracket s n1 n2 n3 n4 n5 n6 n7 n8 n9 n10 n11 n12 n13 n14 n15 n16 n17 n18 = absurd (n12 refl)
-no-class (resting Notes.rest) s n1 n2 n3 n4 n5 n6 n7 n8 n9 n10 n11 n12 n13 n14 n15 n16 n17 n18 = absurd (n13 refl)
-no-class (resting Notes.invisibleRest) s n1 n2 n3 n4 n5 n6 n7 n8 n9 n10 n11 n12 n13 n14 n15 n16 n17 n18 = absurd (n14 refl)
-no-class (resting Notes.barRest) s n1 n2 n3 n4 n5 n6 n7 n8 n9 n10 n11 n12 n13 n14 n15 n16 n17 n18 = absurd (n15 refl)
-no-class (resting Notes.invisibleBarRest) s n1 n2 n3 n4 n5 n6 n7 n8 n9 n10 n11 n12 n13 n14 n15 n16 n17 n18 = absurd (n16 refl)
-no-class pitched s n1 n2 n3 n4 n5 n6 n7 n8 n9 n10 n11 n12 n13 n14 n15 n16 n17 n18 = absurd (n17 refl)
-no-class (resting Notes.sounded) s n1 n2 n3 n4 n5 n6 n7 n8 n9 n10 n11 n12 n13 n14 n15 n16 n17 n18 = absurd (n18 refl)
-no-class none-of-these s n1 n2 n3 n4 n5 n6 n7 n8 n9 n10 n11 n12 n13 n14 n15 n16 n17 n18 = refl
+no-class ed white s n1 n2 n3 n4 n5 n6 n7 n8 n9 n10 n11 n12 n13 n14 n15 n16 n17 n18 = absurd (n1 refl)
+no-class ed ampersand s n1 n2 n3 n4 n5 n6 n7 n8 n9 n10 n11 n12 n13 n14 n15 n16 n17 n18 = absurd (n2 refl)
+no-class ed quote s n1 n2 n3 n4 n5 n6 n7 n8 n9 n10 n11 n12 n13 n14 n15 n16 n17 n18 = absurd (n3 refl)
+no-class ed more s n1 n2 n3 n4 n5 n6 n7 n8 n9 n10 n11 n12 n13 n14 n15 n16 n17 n18 = absurd (n4 refl)
+no-class ed less s n1 n2 n3 n4 n5 n6 n7 n8 n9 n10 n11 n12 n13 n14 n15 n16 n17 n18 = absurd (n5 refl)
+no-class ed paren s n1 n2 n3 n4 n5 n6 n7 n8 n9 n10 n11 n12 n13 n14 n15 n16 n17 n18 = absurd (n6 refl)
+no-class ed braceOpen s n1 n2 n3 n4 n5 n6 n7 n8 n9 n10 n11 n12 n13 n14 n15 n16 n17 n18 = absurd (n7 refl)
+no-class ed braceClose s n1 n2 n3 n4 n5 n6 n7 n8 n9 n10 n11 n12 n13 n14 n15 n16 n17 n18 = absurd (n8 refl)
+no-class ed bang s n1 n2 n3 n4 n5 n6 n7 n8 n9 n10 n11 n12 n13 n14 n15 n16 n17 n18 = absurd (n9 refl)
+no-class ed plus s n1 n2 n3 n4 n5 n6 n7 n8 n9 n10 n11 n12 n13 n14 n15 n16 n17 n18 = absurd (n10 refl)
+no-class ed bars s n1 n2 n3 n4 n5 n6 n7 n8 n9 n10 n11 n12 n13 n14 n15 n16 n17 n18 = absurd (n11 refl)
+no-class ed bracket s n1 n2 n3 n4 n5 n6 n7 n8 n9 n10 n11 n12 n13 n14 n15 n16 n17 n18 = absurd (n12 refl)
+no-class ed (resting Notes.rest) s n1 n2 n3 n4 n5 n6 n7 n8 n9 n10 n11 n12 n13 n14 n15 n16 n17 n18 = absurd (n13 refl)
+no-class ed (resting Notes.invisibleRest) s n1 n2 n3 n4 n5 n6 n7 n8 n9 n10 n11 n12 n13 n14 n15 n16 n17 n18 = absurd (n14 refl)
+no-class ed (resting Notes.barRest) s n1 n2 n3 n4 n5 n6 n7 n8 n9 n10 n11 n12 n13 n14 n15 n16 n17 n18 = absurd (n15 refl)
+no-class ed (resting Notes.invisibleBarRest) s n1 n2 n3 n4 n5 n6 n7 n8 n9 n10 n11 n12 n13 n14 n15 n16 n17 n18 = absurd (n16 refl)
+no-class ed pitched s n1 n2 n3 n4 n5 n6 n7 n8 n9 n10 n11 n12 n13 n14 n15 n16 n17 n18 = absurd (n17 refl)
+no-class ed (resting Notes.sounded) s n1 n2 n3 n4 n5 n6 n7 n8 n9 n10 n11 n12 n13 n14 n15 n16 n17 n18 = absurd (n18 refl)
+no-class ed none-of-these s n1 n2 n3 n4 n5 n6 n7 n8 n9 n10 n11 n12 n13 n14 n15 n16 n17 n18 = refl
 
 -- a byte of no class is skipped
-pub unclassed : (line : List ℕ) (at k : ℕ) → getD line at 0 < 256 → k ≡ classCode (classOf (getD line at 0)) → (k ≡ 1 → ⊥) → (k ≡ 2 → ⊥) → (k ≡ 3 → ⊥) → (k ≡ 4 → ⊥) → (k ≡ 5 → ⊥) → (k ≡ 6 → ⊥) → (k ≡ 7 → ⊥) → (k ≡ 8 → ⊥) → (k ≡ 9 → ⊥) → (k ≡ 10 → ⊥) → (k ≡ 11 → ⊥) → (k ≡ 12 → ⊥) → (k ≡ 13 → ⊥) → (k ≡ 14 → ⊥) → (k ≡ 15 → ⊥) → (k ≡ 16 → ⊥) → (k ≡ 17 → ⊥) → taken skipped 1 ≡ tokenOf (drop at line)
+pub unclassed : (ed : Edition) (line : List ℕ) (at k : ℕ) → getD line at 0 < 256 → k ≡ classCode (classOf (getD line at 0)) → (k ≡ 1 → ⊥) → (k ≡ 2 → ⊥) → (k ≡ 3 → ⊥) → (k ≡ 4 → ⊥) → (k ≡ 5 → ⊥) → (k ≡ 6 → ⊥) → (k ≡ 7 → ⊥) → (k ≡ 8 → ⊥) → (k ≡ 9 → ⊥) → (k ≡ 10 → ⊥) → (k ≡ 11 → ⊥) → (k ≡ 12 → ⊥) → (k ≡ 13 → ⊥) → (k ≡ 14 → ⊥) → (k ≡ 15 → ⊥) → (k ≡ 16 → ⊥) → (k ≡ 17 → ⊥) → taken skipped 1 ≡ tokenOf ed (drop at line)
 unfolding tokenOf
-unclassed line at k h e n1 n2 n3 n4 n5 n6 n7 n8 n9 n10 n11 n12 n13 n14 n15 n16 n17 =
-    no-class (classOf (getD line at 0)) (drop at line) (λ q. n1 (e ∙ q)) (λ q. n2 (e ∙ q)) (λ q. n3 (e ∙ q)) (λ q. n4 (e ∙ q)) (λ q. n5 (e ∙ q)) (λ q. n6 (e ∙ q)) (λ q. n7 (e ∙ q)) (λ q. n8 (e ∙ q)) (λ q. n9 (e ∙ q)) (λ q. n10 (e ∙ q)) (λ q. n11 (e ∙ q)) (λ q. n12 (e ∙ q)) (λ q. n13 (e ∙ q)) (λ q. n14 (e ∙ q)) (λ q. n15 (e ∙ q)) (λ q. n16 (e ∙ q)) (λ q. n17 (e ∙ q)) (never-18 (getD line at 0) h)
-    ∙ ap (λ c. tokenAs (classOf c) (drop at line)) (sym (first-at line at))
+unclassed ed line at k h e n1 n2 n3 n4 n5 n6 n7 n8 n9 n10 n11 n12 n13 n14 n15 n16 n17 =
+    no-class ed (classOf (getD line at 0)) (drop at line) (λ q. n1 (e ∙ q)) (λ q. n2 (e ∙ q)) (λ q. n3 (e ∙ q)) (λ q. n4 (e ∙ q)) (λ q. n5 (e ∙ q)) (λ q. n6 (e ∙ q)) (λ q. n7 (e ∙ q)) (λ q. n8 (e ∙ q)) (λ q. n9 (e ∙ q)) (λ q. n10 (e ∙ q)) (λ q. n11 (e ∙ q)) (λ q. n12 (e ∙ q)) (λ q. n13 (e ∙ q)) (λ q. n14 (e ∙ q)) (λ q. n15 (e ∙ q)) (λ q. n16 (e ∙ q)) (λ q. n17 (e ∙ q)) (never-18 (getD line at 0) h)
+    ∙ ap (λ c. tokenAs ed (classOf c) (drop at line)) (sym (first-at line at))
 
 -- a rest
 module _ (line : List ℕ) (at : ℕ) (k : Notes.NoteKind) where

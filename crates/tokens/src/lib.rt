@@ -3,11 +3,12 @@ ghost use mathlib.Core.Path.{_≡_};
 ghost use mathlib.Core.Option.{none};
 ghost use Prim.Native.Nat.{_+_, _<_};
 ghost use lib.ListN.{length, drop, getD};
-ghost use Rattle.reader.specs.Sounds.{noteAs};
-ghost use Rattle.reader.specs.Tokens.{pitched, classOf, tokenAs, tokenOf};
+ghost use Rattle.reader.specs.Sounds.{noteAs, noteOf};
+ghost use Rattle.reader.specs.Tokens.{classOf, tokenOf};
 ghost use Rattle.token_symbols.specs.Classes.{classCode, classTable};
 ghost use Rattle.token_lexemes.specs.Lexemes.{cutFor};
 ghost use Rattle.tokens.specs.Tokens.{tokenisedFor, valuedFor, tokenisedIn, effectIn, effectedFor};
+use editions::Edition;
 use token_lengths::Length;
 use token_lexemes::Cut;
 use token_lexemes::Lexeme;
@@ -94,9 +95,9 @@ pub struct Effected {
 }
 
 // The token at `at` as it stands there, by the class of its first byte.
-fn lexeme_at(line: &[u8], at: usize, class: u8) -> Cut
+fn lexeme_at(edition: Edition, line: &[u8], at: usize, class: u8) -> Cut
     requires { ⌜ (at < length (now line)) × (class ≡ classCode (classOf (getD (now line) at 0))) ⌝ }
-    ensures { λ r. ⌜ r ≡ cutFor at (tokenOf (drop at (now (line .entry)))) ⌝ }
+    ensures { λ r. ⌜ r ≡ cutFor at (tokenOf edition (drop at (now (line .entry)))) ⌝ }
 {
     match class {
         token_symbols::WHITE => Cut {
@@ -110,7 +111,7 @@ fn lexeme_at(line: &[u8], at: usize, class: u8) -> Cut
         token_symbols::QUOTE => token_lexemes::quoted_text(line, at),
         token_symbols::MORE => token_lexemes::broken(line, at, b'>', true),
         token_symbols::LESS => token_lexemes::broken(line, at, b'<', false),
-        token_symbols::PAREN => token_lexemes::tuplet_or_slur(line, at),
+        token_symbols::PAREN => token_lexemes::tuplet_or_slur(edition, line, at),
         token_symbols::BRACE_OPEN => Cut {
             lexeme: Lexeme::GraceOpen,
             next: at + 1,
@@ -122,7 +123,7 @@ fn lexeme_at(line: &[u8], at: usize, class: u8) -> Cut
         token_symbols::BANG => token_lexemes::decoration(line, at, b'!'),
         token_symbols::PLUS => token_lexemes::decoration(line, at, b'+'),
         token_symbols::BARS => token_lexemes::bar_line(line, at),
-        token_symbols::BRACKET => token_brackets::bracket(line, at),
+        token_symbols::BRACKET => token_brackets::bracket(edition, line, at),
         token_symbols::REST => token_lexemes::rest(line, at, 1),
         token_symbols::INVISIBLE_REST => token_lexemes::rest(line, at, 2),
         token_symbols::BAR_REST => token_lexemes::rest(line, at, 3),
@@ -239,9 +240,15 @@ fn tokenise(cut: Cut, unit: u32) -> Tokenised
 
 // The token at `at`, under the unit 1 / `unit`. `classes` is what `letter_classes` makes, once for a call. A note and white space are read without the
 // switch of `lexeme_at`.
-pub fn token_at(line: &[u8], at: usize, unit: u32, classes: &[u8; 128]) -> Tokenised
+pub fn token_at(
+    edition: Edition,
+    line: &[u8],
+    at: usize,
+    unit: u32,
+    classes: &[u8; 128],
+) -> Tokenised
     requires { ⌜ (at < length (now line)) × (now classes ≡ classTable) ⌝ }
-    ensures { λ r. ⌜ r ≡ tokenisedFor at unit (tokenOf (drop at (now (line .entry)))) ⌝ }
+    ensures { λ r. ⌜ r ≡ tokenisedFor at unit (tokenOf edition (drop at (now (line .entry)))) ⌝ }
 {
     let class = token_symbols::class_of(classes, line[at]);
     if class == token_symbols::PITCHED {
@@ -253,7 +260,7 @@ pub fn token_at(line: &[u8], at: usize, unit: u32, classes: &[u8; 128]) -> Token
             next: at + 1,
         };
     }
-    tokenise(lexeme_at(line, at, class), unit)
+    tokenise(lexeme_at(edition, line, at, class), unit)
 }
 
 fn effect_of(lexeme: Lexeme) -> Effect
@@ -356,7 +363,7 @@ fn letter_effect(line: &[u8], at: usize) -> Effected
 // What the scan wants of a note with its accidentals.
 fn note_effect(line: &[u8], at: usize) -> Effected
     requires { ⌜ at < length (now line) ⌝ }
-    ensures { λ r. ⌜ r ≡ effectedFor at (tokenAs pitched (drop at (now (line .entry)))) ⌝ }
+    ensures { λ r. ⌜ r ≡ effectedFor at (noteOf (drop at (now (line .entry)))) ⌝ }
 {
     let before = token_pitches::accidental_before(line, at);
     let place = before.next;
@@ -376,9 +383,9 @@ fn note_effect(line: &[u8], at: usize) -> Effected
 }
 
 // What the scan wants of the token at `at`: no written value is sought, and of a note, white space or a byte that means nothing no lexeme is made.
-pub fn effect_at(line: &[u8], at: usize, classes: &[u8; 128]) -> Effected
+pub fn effect_at(edition: Edition, line: &[u8], at: usize, classes: &[u8; 128]) -> Effected
     requires { ⌜ (at < length (now line)) × (now classes ≡ classTable) ⌝ }
-    ensures { λ r. ⌜ r ≡ effectedFor at (tokenOf (drop at (now (line .entry)))) ⌝ }
+    ensures { λ r. ⌜ r ≡ effectedFor at (tokenOf edition (drop at (now (line .entry)))) ⌝ }
 {
     let class = token_symbols::class_of(classes, line[at]);
     if class == token_symbols::PITCHED {
@@ -396,7 +403,7 @@ pub fn effect_at(line: &[u8], at: usize, classes: &[u8; 128]) -> Effected
             next: at + 1,
         };
     }
-    let cut = lexeme_at(line, at, class);
+    let cut = lexeme_at(edition, line, at, class);
     let lexeme = cut.lexeme;
     let next = cut.next;
     Effected {

@@ -9,14 +9,13 @@ use Rattle.reader.specs.Codes.{bit}
 use Rattle.reader.specs.Lyrics.{Syllable}
 use Rattle.reader.specs.Records.{measureWidth}
 use Rattle.part_rows.specs.Encoded.{noteRowWidth}
-use Rattle.part_rows.specs.Read.{ofVoiceAt}
-use Rattle.part_measures.specs.Heads.{noteCount}
-use Rattle.write_notes.specs.Tables.{total}
+use Rattle.part_rows.specs.Read.{ofVoiceAt, leadRow, sungRow}
+use Rattle.part_measures.specs.Heads.{noteCount, total}
 use Rattle.write_notes.specs.Out.{leads}
 use Rattle.write_notes.proofs.Leads.{lead-first, lead-rest, leads-cut}
 use Rattle.write_syllables.specs.Pieces.{pieces}
 use Rattle.write_lyrics.specs.declared.Passed.{Passed}
-use Rattle.write_lyrics.specs.Out.{leadRow, sungRow, sungRows, sungTotal, rowsOut, measuresOut, PassedIs}
+use Rattle.write_lyrics.specs.Out.{sungRows, sungTotal, rowsOut, measuresOut, PassedIs}
 
 -- how many are sung: the first a rows, and the c others
 sung-cut : (s : List ℕ) (p t a c : ℕ) → t ≡ a + c → sungRows s p t ≡ sungRows s p a + sungRows s (p + noteRowWidth * a) c

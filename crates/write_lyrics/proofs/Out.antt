@@ -1,7 +1,7 @@
 -- THE LYRICS IN THE ORDER OF THE READING: what the rows give is layout's section.
 use Prim.Native.Nat.{ℕ, zero, suc, _+_, _-_, _*_, _/_, _^_, _≤_, _<_}
 use mathlib.Core.Path.{_≡_, refl, sym, ap, subst, _∙_}
-use mathlib.Core.Bool.{Bool, true, false, cond, _&&_}
+use mathlib.Core.Bool.{Bool, true, false, cond}
 use mathlib.Core.List.{List, [], _∷_, _++_, map}
 use native.Mathlib.Decide.{decLt}
 use native.Mathlib.Nat.{add-zero}
@@ -21,43 +21,30 @@ use Rattle.reader.specs.State.{Note}
 use Rattle.reader.specs.Lyrics.{Syllable}
 use Rattle.reader.specs.Codes.{bit}
 use Rattle.reader.specs.Records.{isSung, lyricBytes, lyricsOf, section, measureWidth, lyricWidth}
-use Rattle.part_layout.specs.Log.{Head}
-use Rattle.part_layout.specs.Sections.{notesIn, ofVoice, inOrder}
+use Rattle.part_layout.specs.Log.{Head, notesIn}
+use Rattle.part_layout.specs.Sections.{ofVoice, inOrder}
 use Rattle.reading_records.specs.Widths.{countWidth}
 use Rattle.part_rows.specs.Table.{Table}
 use Rattle.part_rows.specs.Encoded.{noteRow, noteRowWidth}
 use Rattle.part_rows.proofs.Bytes.{length-note}
+use Rattle.part_rows.proofs.Notes.{row-other, row-rest, row-sung, lead-is, sung-is}
 use Rattle.part_measures.specs.Heads.{headRow, noteCount}
 use Rattle.part_measures.proofs.Heads.{length-head}
 use Rattle.store_sections.specs.declared.Wrote.the-variants.{To, NoRoom}
 use Rattle.store_sections.specs.Writes.{WroteIs}
 use Rattle.store_sections.proofs.Writes.{count-last}
-use Rattle.part_rows.specs.Read.{soundsAt, ofVoiceAt}
+use Rattle.part_rows.specs.Read.{soundsAt, ofVoiceAt, leadRow, sungRow}
 use Rattle.write_notes.specs.declared.PartTables.{PartTables}
 use Rattle.write_notes.specs.Tables.{Represents}
-use Rattle.write_notes.proofs.Tables.{table-rest, table-take, table-drop, table-first}
-use Rattle.reader.proofs.CodeLaws.{kind-sounded, bit-le}
-use Rattle.write_notes.proofs.Out.{byte-kind, byte-voice, count-out}
+use Rattle.part_rows.proofs.Cuts.{table-rest, table-take, table-drop, table-first}
+use Rattle.reader.proofs.CodeLaws.{bit-le}
+use Rattle.part_measures.proofs.Counts.{count-out}
 use Rattle.write_notes.proofs.Sung.{sungIn, lyrics-none, lyrics-passed, lyrics-taken, lyrics-measure}
 use Rattle.write_syllables.specs.Pieces.{piece, pieces}
 use Rattle.write_syllables.proofs.Pieces.{length-record}
 use Rattle.write_lyrics.specs.declared.Passed.{Passed}
 use Rattle.write_lyrics.specs.declared.Passed.the-variants as P
-use Rattle.write_lyrics.specs.Out.{leadRow, sungRow, sungRows, sungTotal, rowsOut, Says, PassedIs, measuresOut, countOf, counted, sectionOut}
-
--- A ROW, as the code asks for it
-module _ (s : List ℕ) (p : ℕ) where
-  pub row-other : ofVoiceAt s 0 p ≡ false → sungRow s p ≡ false
-  unfolding sungRow leadRow
-  row-other h = and-no-left _ _ h
-
-  pub row-rest : soundsAt s p ≡ false → sungRow s p ≡ false
-  unfolding sungRow
-  row-rest h = and-no-right (leadRow s p) _ h
-
-  pub row-sung : ofVoiceAt s 0 p ≡ true → soundsAt s p ≡ true → sungRow s p ≡ true
-  unfolding sungRow leadRow
-  row-sung h g = and-both _ _ h g
+use Rattle.write_lyrics.specs.Out.{sungRows, sungTotal, rowsOut, Says, PassedIs, measuresOut, countOf, counted, sectionOut}
 
 -- STEPS, as the loops take them
 sung-step : (s : List ℕ) (p k : ℕ) → 0 < k → sungRows s p k ≡ bit (sungRow s p) 1 + sungRows s (p + noteRowWidth) (k - 1)
@@ -175,14 +162,6 @@ module _ (s : List ℕ) (p : ℕ) (x : ℕ × Note) (xs : List (ℕ × Note)) (t
   behind : Table noteRow noteRowWidth s (p + noteRowWidth) xs
   behind = table-rest noteRow noteRowWidth length-note (x ∷ []) xs (p + noteRowWidth) (omega arith) t
 
-  lead-is : leadRow s p ≡ eqb (x .0) 0
-  unfolding leadRow
-  lead-is = ap (λ (k : ℕ). eqb k 0) (byte-voice s p x row)
-
-  sung-is : sungRow s p ≡ isSung x
-  unfolding sungRow isSung
-  sung-is = (λ i. lead-is i && eqb (byte-kind s p x row i) 0) ∙ ap (λ (c : Bool). eqb (x .0) 0 && c) (kind-sounded (x .1 .kind))
-
 -- A NOTE of another voice, a rest, and one that is sung
 pub note-case {ℓ} : {P : Type ℓ} (x : ℕ × Note) → (eqb (x .0) 0 ≡ false → isSung x ≡ false → P) → (eqb (x .0) 0 ≡ true → isSung x ≡ false → P) → (eqb (x .0) 0 ≡ true → isSung x ≡ true → P) → P
 unfolding isSung
@@ -213,7 +192,7 @@ unfolding sungRows ofVoice
 sung-out s p [] t = refl
 sung-out s p (x ∷ xs) t =
     let ih = sung-out s (p + noteRowWidth) xs (behind s p x xs t) in
-    let e = sung-is s p x xs t in
+    let e = sung-is s p x (row s p x xs t) in
     note-case x (λ v n. bit-no _ (e ∙ n) ∙ ih ∙ ap sungIn (sym (voice-other x xs v)))
     (λ v n. bit-no _ (e ∙ n) ∙ ih ∙ ap length (sym (filter-no isSung x (ofVoice 0 xs) n)) ∙ ap sungIn (sym (voice-own x xs v)))
     (λ v y. bit-yes _ (e ∙ y) ∙ ap suc ih ∙ ap length (sym (filter-yes isSung x (ofVoice 0 xs) y)) ∙ ap sungIn (sym (voice-own x xs v)))
@@ -244,8 +223,8 @@ module _ (b : Bool) (ws : List (List Syllable)) (s : List ℕ) where
   unfolding rowsOut ofVoice bit
   rows-out i j p [] t = sym (ap (encAll (out b)) (lyrics-nil i (drop j ws)) ∙ encAll-none (out b))
   rows-out i j p (x ∷ xs) t =
-      let u = lead-is s p x xs t in
-      let v = sung-is s p x xs t in
+      let u = lead-is s p x (row s p x xs t) in
+      let v = sung-is s p x (row s p x xs t) in
       let ih : (i j : ℕ) → rowsOut b ws s i j (p + noteRowWidth) (length xs) ≡ shown i j (ofVoice 0 xs) = λ i j. rows-out i j (p + noteRowWidth) xs (behind s p x xs t) in
       note-case x (λ e n. after i j p (length xs) false false (u ∙ e) (v ∙ n) ∙ rw (add-zero i, add-zero j) (ih i j ∙ ap (shown i j) (sym (voice-other x xs e))))
       (λ e n. after i j p (length xs) true false (u ∙ e) (v ∙ n) ∙ rw (add-zero j) (ih (i + 1) j ∙ shown-passed i j x (ofVoice 0 xs) n ∙ ap (shown i j) (sym (voice-own x xs e))))

@@ -15,7 +15,8 @@ use Rattle.write_notes.specs.declared.PartTables.{PartTables}
 use Rattle.lyrics.specs.declared.Sheet.{Sheet}
 use Rattle.lyrics.specs.Sheet.{sungFrom, headsIn, syllablesIn}
 use Rattle.write_syllables.specs.Pieces.{piece, pieces}
-use Rattle.write_lyrics.specs.Out.{leadRow, sungRow, sungRows, rowsOut, measuresOut, counted, sectionOut}
+use Rattle.part_rows.specs.Read.{leadRow, sungRow}
+use Rattle.write_lyrics.specs.Out.{sungRows, rowsOut, measuresOut, counted, sectionOut}
 
 no-syllable : (text s : List ℕ) (h : Sheet) → h .count ≡ 0 → (j : ℕ) → getD (syllablesIn text s h) j [] ≡ []
 unfolding syllablesIn sungFrom

@@ -12,7 +12,8 @@ use Rattle.part_rows.specs.Encoded.{noteRowWidth}
 use Rattle.part_measures.specs.Heads.{noteCount}
 use Rattle.write_notes.specs.declared.PartTables.{PartTables}
 use Rattle.write_syllables.specs.Pieces.{pieces}
-use Rattle.write_lyrics.specs.Out.{leadRow, sungRow, sungRows, sungTotal, rowsOut, measuresOut, textsOut, counted, sectionOut}
+use Rattle.part_rows.specs.Read.{leadRow, sungRow}
+use Rattle.write_lyrics.specs.Out.{sungRows, sungTotal, rowsOut, measuresOut, textsOut, counted, sectionOut}
 
 module _ (ws : List (List Syllable)) where
   texts-cut : (j a c : ℕ) → textsOut ws j (a + c) ≡ textsOut ws j a ++ textsOut ws (j + a) c

@@ -2,7 +2,7 @@
 -- is sung.
 use Prim.Native.Nat.{ℕ, zero, suc, _+_, _*_, _/_, _<_}
 use mathlib.Core.Path.{_≡_}
-use mathlib.Core.Bool.{Bool, true, cond, _&&_}
+use mathlib.Core.Bool.{Bool, true, cond}
 use mathlib.Core.List.{List, [], _++_}
 use lib.ListN.{length, getD}
 use Rattle.laws.specs.Bytes.{le32}
@@ -12,7 +12,7 @@ use Rattle.reader.specs.Records.{measureWidth, lyricWidth}
 use Rattle.part_rows.specs.Encoded.{noteRowWidth}
 use Rattle.store_sections.specs.declared.Wrote.the-variants as W
 use Rattle.store_sections.specs.Writes.{WroteIs}
-use Rattle.part_rows.specs.Read.{soundsAt, ofVoiceAt}
+use Rattle.part_rows.specs.Read.{leadRow, sungRow}
 use Rattle.part_measures.specs.Heads.{noteCount}
 use Rattle.lyrics.specs.declared.Sheet.{Sheet}
 use Rattle.lyric_walk.specs.Walks.{Tables}
@@ -21,15 +21,7 @@ use Rattle.write_syllables.specs.Pieces.{pieces}
 use Rattle.write_lyrics.specs.declared.Passed.{Passed}
 use Rattle.write_lyrics.specs.declared.Passed.the-variants as P
 
--- the row at p is of a note of voice 0
-unfoldable pub leadRow : List ℕ → ℕ → Bool
-leadRow s p = ofVoiceAt s 0 p
-
--- and of no rest
-unfoldable pub sungRow : List ℕ → ℕ → Bool
-sungRow s p = leadRow s p && soundsAt s p
-
--- how many of the k rows from p on are
+-- how many of the k rows from p on are sung
 unfoldable pub sungRows : List ℕ → ℕ → ℕ → ℕ
 sungRows s p zero = 0
 sungRows s p (suc k) = bit (sungRow s p) 1 + sungRows s (p + noteRowWidth) k

@@ -12,8 +12,7 @@ use Rattle.part_rows.specs.Encoded.{noteRowWidth, voiceAt}
 use Rattle.part_rows.specs.Read.{ofVoiceAt}
 use Rattle.store_sections.specs.declared.Wrote.the-variants.{To}
 use Rattle.store_sections.specs.Writes.{WroteIs}
-use Rattle.part_measures.specs.Heads.{noteCount}
-use Rattle.write_notes.specs.Tables.{total}
+use Rattle.part_measures.specs.Heads.{noteCount, total}
 use Rattle.write_notes.specs.Out.{noteOut, recordsOut, voiceOut, voicesOut, leads, notesOut}
 use Rattle.write_notes.proofs.Out.{length-note-out, wrote-as}
 

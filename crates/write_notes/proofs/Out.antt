@@ -3,39 +3,40 @@ use Prim.Native.Nat.{ℕ, zero, suc, _+_, _-_, _*_, _%_, _^_, _≤_, _<_}
 use mathlib.Core.Path.{_≡_, refl, sym, ap, subst, _∙_}
 use mathlib.Core.Bool.{Bool, true, false, cond}
 use mathlib.Core.List.{List, [], _∷_, _++_, append-nil, append-assoc}
-use native.Mathlib.Nat.{add-zero}
 use native.Mathlib.Omega.{arith}
 use lib.Dec.{eqb}
-use lib.ListN.{length, getD, take, drop, length-append, length-take, length-drop, take-append-drop}
+use lib.ListN.{length, take, drop, length-append, length-take, length-drop, take-append-drop}
 use Rattle.laws.specs.Lists.{All, filter, sum}
-use Rattle.laws.specs.Bytes.{part, splice, encAll, little, le32, u32At}
-use Rattle.laws.proofs.Lists.{sum-append, getD-sum, All-left, All-right}
-use Rattle.laws.proofs.Parts.{length-part, getD-part, part-part}
+use Rattle.laws.specs.Bytes.{part, splice, encAll, little, le32}
+use Rattle.laws.proofs.Lists.{sum-append, All-left, All-right}
+use Rattle.laws.proofs.Parts.{length-part, part-part}
 use Rattle.laws.proofs.Splices.{spliced-next}
-use Rattle.laws.proofs.Numbers.{length-little, littleAt-part}
+use Rattle.laws.proofs.Numbers.{length-little}
 use Rattle.laws.proofs.Rows.{encAll-none, encAll-cons, encAll-append}
-use Rattle.standard.specs.Notes.{beamable, Flags}
+use Rattle.standard.specs.Notes.{beamable}
 use Rattle.reader.specs.State.{Note}
-use Rattle.reader.specs.Codes.{kindCode, bit}
+use Rattle.reader.specs.Codes.{bit}
 use Rattle.reader.specs.Records.{isUnbeamed, flagByte, noteBytes, section, measureWidth, noteWidth}
-use Rattle.reader.proofs.CodeLaws.{kind-sounded, bit-le}
-use Rattle.part_layout.specs.Log.{Head}
-use Rattle.part_layout.specs.Sections.{headBytes, notesIn, ofVoice, byVoice, inOrder}
+use Rattle.reader.proofs.CodeLaws.{kind-sounded}
+use Rattle.part_layout.specs.Log.{Head, notesIn}
+use Rattle.part_layout.specs.Sections.{headBytes, ofVoice, byVoice, inOrder}
 use Rattle.reading_records.specs.Widths.{countWidth}
 use Rattle.part_rows.specs.Table.{Table}
 use Rattle.part_rows.specs.declared.NoteStart.{NoteStart}
 use Rattle.part_rows.specs.Read.{startAt, restAt, ofVoiceAt}
-use Rattle.part_rows.specs.Encoded.{flagsByte, rowBytes, noteRow, noteRowWidth, voiceAt, flagsAt, valueAt, dotsAt, beamAt}
+use Rattle.part_rows.specs.Encoded.{flagsByte, rowBytes, noteRow, noteRowWidth, flagsAt, valueAt, dotsAt, beamAt}
 use Rattle.part_rows.proofs.Bytes.{length-note}
-use Rattle.part_measures.specs.Heads.{headRow, noteCount}
-use Rattle.part_measures.proofs.Heads.{length-head, head-row, head-count}
+use Rattle.part_rows.proofs.Notes.{byte, byte-kind, byte-voice, marks-small}
+use Rattle.part_measures.specs.Heads.{headRow, noteCount, total}
+use Rattle.part_measures.proofs.Heads.{length-head, head-row}
+use Rattle.part_measures.proofs.Counts.{count-out, total-out}
 use Rattle.store_sections.specs.declared.Wrote.{Wrote}
 use Rattle.store_sections.specs.declared.Wrote.the-variants.{To, NoRoom}
 use Rattle.store_sections.specs.Writes.{WroteIs}
 use Rattle.write_notes.specs.declared.PartTables.{PartTables}
-use Rattle.write_notes.specs.Tables.{total, InStore, Represents}
+use Rattle.write_notes.specs.Tables.{InStore, Represents}
 use Rattle.write_notes.specs.Out.{isLone, flagsFor, noteOut, voiceOut, voicesOut, notesOut, measuresSection, notesSection}
-use Rattle.write_notes.proofs.Tables.{table-rest, table-take, table-drop, table-first}
+use Rattle.part_rows.proofs.Cuts.{table-rest, table-take, table-drop, table-first}
 
 -- STEPS, as the loops take them
 pub voice-step : (s : List ℕ) (v p k : ℕ) → 0 < k → voiceOut s v p k ≡ cond (ofVoiceAt s v p) (noteOut s p) [] ++ voiceOut s v (p + noteRowWidth) (k - 1)
@@ -72,11 +73,6 @@ notes-step s h p (suc n) l = let e : suc n - 1 ≡ n = omega arith in rw e
 pub notes-none : (s : List ℕ) (h p n : ℕ) → n ≡ 0 → notesOut s h p n ≡ []
 unfolding notesOut
 notes-none s h p n l = rw l
-
-pub total-step : (s : List ℕ) (h n : ℕ) → 0 < n → total s h n ≡ noteCount s h + total s (h + measureWidth) (n - 1)
-unfolding total
-total-step s h zero l = absurd (omega arith)
-total-step s h (suc n) l = let e : suc n - 1 ≡ n = omega arith in rw e
 
 pub length-note-out : (s : List ℕ) (p : ℕ) → p + noteRowWidth ≤ length s → length (noteOut s p) ≡ noteWidth
 unfolding noteOut part
@@ -126,36 +122,21 @@ module _ (s : List ℕ) (t : PartTables) (i : InStore s t) where
 pub wrote-as : {d a e : List ℕ} {r : Wrote} → WroteIs d a e r → {b : List ℕ} → a ≡ b → WroteIs d b e r
 wrote-as {d} {a} {e} {r} w p = subst (λ (l : List ℕ). WroteIs d l e r) p w
 
-marks-small : (f : Flags) → flagsByte f % 32 ≡ flagsByte f
-unfolding flagsByte
-marks-small f = omega (arith, bit-le (f .tieStart) 1, bit-le (f .tieEnd) 2, bit-le (f .slurStart) 4, bit-le (f .slurEnd) 8, bit-le (f .grace) 16)
-
 module _ (s : List ℕ) (p : ℕ) (x : ℕ × Note) (e : part s p noteRowWidth ≡ noteRow x) where
-  byte : (k : ℕ) → k < noteRowWidth → getD s (p + k) 0 ≡ getD (noteRow x) k 0
-  byte k h = sym (getD-part s p noteRowWidth k h) ∙ ap (λ (l : List ℕ). getD l k 0) e
-
-  pub byte-kind : getD s p 0 ≡ kindCode (x .1 .kind)
-  unfolding rowBytes
-  byte-kind = ap (λ (k : ℕ). getD s k 0) (sym (add-zero p)) ∙ byte 0 (omega arith)
-
-  pub byte-voice : getD s (p + voiceAt) 0 ≡ x .0
-  unfolding rowBytes little
-  byte-voice = byte voiceAt (omega arith)
-
   lone : isLone (startAt s p) ≡ isUnbeamed (x .1)
   unfolding isLone isUnbeamed beamable rowBytes
-  lone = rw (byte-kind, byte valueAt (omega arith), byte beamAt (omega arith), kind-sounded)
+  lone = rw (byte-kind s p x e, byte s p x e valueAt (omega arith), byte s p x e beamAt (omega arith), kind-sounded)
 
   flags : flagsFor (startAt s p) ≡ flagByte (x .1)
   unfolding flagsFor flagByte rowBytes flagsByte
-  flags = (λ i. byte flagsAt (omega arith) i % 32 + bit (lone i) 32) ∙ ap (λ (k : ℕ). k + bit (isUnbeamed (x .1)) 32) (marks-small (x .1 .flags))
+  flags = (λ i. byte s p x e flagsAt (omega arith) i % 32 + bit (lone i) 32) ∙ ap (λ (k : ℕ). k + bit (isUnbeamed (x .1)) 32) (marks-small (x .1 .flags))
 
   back : restAt s p ≡ part (noteRow x) beamAt 8
   back = sym (part-part s p noteRowWidth beamAt 8 (omega arith)) ∙ ap (λ (l : List ℕ). part l beamAt 8) e
 
   pub note-out : noteOut s p ≡ noteBytes (x .1)
   unfolding noteOut noteBytes rowBytes little part
-  note-out = λ i. (byte-kind i ∷ byte valueAt (omega arith) i ∷ byte dotsAt (omega arith) i ∷ flags i ∷ []) ++ back i
+  note-out = λ i. (byte-kind s p x e i ∷ byte s p x e valueAt (omega arith) i ∷ byte s p x e dotsAt (omega arith) i ∷ flags i ∷ []) ++ back i
 
 -- ONE VOICE
 abbrev pub out : ℕ × Note → List ℕ
@@ -188,25 +169,6 @@ measure-out s p xs t =
     (sym (ap (encAll out) (by-voice xs) ∙ encAll-append out (ofVoice 0 xs) (ofVoice 1 xs ++ (ofVoice 2 xs ++ ofVoice 3 xs)) ∙ rw (encAll-append out (ofVoice 1 xs) (ofVoice 2 xs ++ ofVoice 3 xs), encAll-append out (ofVoice 2 xs) (ofVoice 3 xs))))
 
 -- ALL MEASURES
--- a head's four counts
-four-sum : (cs : List ℕ) → length cs ≡ 4 → sum (λ n. n) cs ≡ getD cs 0 0 + getD cs 1 0 + getD cs 2 0 + getD cs 3 0
-four-sum [] h = absurd (omega arith)
-four-sum (a ∷ []) h = absurd (omega arith)
-four-sum (a ∷ b ∷ []) h = absurd (omega arith)
-four-sum (a ∷ b ∷ c ∷ []) h = absurd (omega arith)
-four-sum (a ∷ b ∷ c ∷ d ∷ []) h = omega arith
-four-sum (a ∷ b ∷ c ∷ d ∷ e ∷ cs) h = absurd (omega arith)
-
-pub count-out : (s : List ℕ) (h : ℕ) (m : Head) (ms : List Head) → Table headRow measureWidth s h (m ∷ ms) → length (m .counts) ≡ 4 → notesIn m < 2 ^ 32 → noteCount s h ≡ notesIn m
-unfolding noteCount notesIn
-count-out s h m ms t four small =
-    let place : h + measureWidth * 0 ≡ h = omega arith in
-    let row = ap (λ (k : ℕ). part s k measureWidth) (sym place) ∙ table-first headRow measureWidth length-head m ms t in
-    let at : (v : ℕ) → v < 4 → 4 * v + 4 ≤ measureWidth → u32At s (h + 4 * v) ≡ getD (m .counts) v 0 =
-    λ v l k. sym (littleAt-part 4 s h measureWidth (4 * v) k) ∙ ap (λ (r : List ℕ). u32At r (4 * v)) row ∙ head-count m v l (omega (arith, getD-sum (m .counts) v)) in
-    let z : u32At s h ≡ getD (m .counts) 0 0 = ap (u32At s) (sym (add-zero h)) ∙ at 0 (omega arith) (omega arith) in
-    rw (z, at 1 (omega arith) (omega arith), at 2 (omega arith) (omega arith), at 3 (omega arith) (omega arith)) (sym (four-sum (m .counts) four))
-
 pub notes-out : (s : List ℕ) (h p : ℕ) (ms : List Head) (log : List (ℕ × Note)) → Table headRow measureWidth s h ms → Table noteRow noteRowWidth s p log → All (λ (m : Head). length (m .counts) ≡ 4) ms
     → sum notesIn ms ≡ length log → length log < 2 ^ 32 → notesOut s h p (length ms) ≡ encAll out (inOrder ms log)
 unfolding notesOut inOrder
@@ -222,12 +184,6 @@ notes-out s h p (m ∷ ms) log t u four e l =
     (omega (arith, length-drop k log))
     (omega (arith, length-drop k log)) in
     (λ i. first i ++ notesOut s (h + measureWidth) (p + noteRowWidth * n i) (length ms)) ∙ rw ih (sym (encAll-append out (byVoice (take k log)) (inOrder ms (drop k log))))
-
-pub total-out : (s : List ℕ) (h : ℕ) (ms : List Head) → Table headRow measureWidth s h ms → All (λ (m : Head). length (m .counts) ≡ 4) ms → sum notesIn ms < 2 ^ 32 → total s h (length ms) ≡ sum notesIn ms
-unfolding total
-total-out s h [] t four l = refl
-total-out s h (m ∷ ms) t four l =
-    rw (count-out s h m ms t (four .0) (omega arith), total-out s (h + measureWidth) ms (table-rest headRow measureWidth length-head (m ∷ []) ms (h + measureWidth) (omega arith) t) (four .1) (omega arith))
 
 -- EACH NOTE ONCE: a sum over the notes in order is the sum over the log
 one-of : (v n : ℕ) → v < 4 → cond (eqb v 0) n 0 + (cond (eqb v 1) n 0 + (cond (eqb v 2) n 0 + cond (eqb v 3) n 0)) ≡ n

@@ -12,13 +12,8 @@ use Rattle.part_layout.specs.Lines.{Fits}
 use Rattle.part_rows.specs.Table.{Table}
 use Rattle.part_rows.specs.Encoded.{noteRowWidth, pitchRowWidth, noteRow}
 use Rattle.part_rows.specs.Read.{pitchCount}
-use Rattle.part_measures.specs.Heads.{headRow, noteCount}
+use Rattle.part_measures.specs.Heads.{headRow, total}
 use Rattle.write_notes.specs.declared.PartTables.{PartTables}
-
--- how many notes the n measures from h on count
-unfoldable pub total : List ℕ → ℕ → ℕ → ℕ
-total s h zero = 0
-total s h (suc n) = noteCount s h + total s (h + measureWidth) n
 
 -- how many pitches the k notes from p on have
 unfoldable pub pitchTotal : List ℕ → ℕ → ℕ → ℕ

@@ -11,7 +11,7 @@ ghost use Rattle.part_layout.specs.Sections.{headBytes, inOrder};
 ghost use Rattle.part_rows.specs.Encoded.{noteRowWidth};
 ghost use Rattle.store_sections.specs.declared.Wrote.the-variants.{To};
 ghost use Rattle.store_sections.specs.Writes.{WroteIs};
-ghost use Rattle.write_notes.specs.Tables.{total, InStore, Represents};
+ghost use Rattle.write_notes.specs.Tables.{InStore, Represents};
 ghost use Rattle.write_notes.specs.Out.{flagsFor, noteOut, recordsOut, voiceOut, voicesOut, leads, notesOut, measuresSection, notesSection};
 use part_measures::MEASURE;
 use part_rows::NOTE_ROW;

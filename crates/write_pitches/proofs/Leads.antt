@@ -11,8 +11,8 @@ use Rattle.write_notes.specs.Out.{leads}
 use Rattle.write_notes.proofs.Leads.{lead-first, lead-rest, lead-only, leads-cut}
 use Rattle.part_rows.specs.Read.{pitchCount}
 use Rattle.reader.specs.Records.{measureWidth}
-use Rattle.part_measures.specs.Heads.{noteCount}
-use Rattle.write_notes.specs.Tables.{total, pitchTotal}
+use Rattle.part_measures.specs.Heads.{noteCount, total}
+use Rattle.write_notes.specs.Tables.{pitchTotal}
 use Rattle.write_pitches.specs.Out.{voiceOut, voicesOut, pitchesOut}
 use Rattle.write_pitches.proofs.Out.{pitch-total-split, pitch-total-none}
 

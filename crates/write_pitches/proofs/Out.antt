@@ -14,22 +14,24 @@ use Rattle.laws.proofs.Numbers.{littleAt-part, littleAt-little, littleAt-own}
 use Rattle.laws.proofs.Rows.{encAll-none, encAll-append}
 use Rattle.reader.specs.State.{Note}
 use Rattle.reader.specs.Records.{noteBytes, pitchBytes, section, measureWidth}
-use Rattle.part_layout.specs.Log.{Head}
-use Rattle.part_layout.specs.Sections.{headBytes, notesIn, ofVoice, byVoice, inOrder}
+use Rattle.part_layout.specs.Log.{Head, notesIn}
+use Rattle.part_layout.specs.Sections.{headBytes, ofVoice, byVoice, inOrder}
 use Rattle.part_rows.specs.Table.{Table}
 use Rattle.part_rows.specs.Read.{ofVoiceAt, pitchCount}
 use Rattle.part_rows.specs.Encoded.{rowBytes, noteRow, noteRowWidth, pitchRowWidth, voiceAt, pitchCountAt}
 use Rattle.part_rows.proofs.Bytes.{length-note, length-pitch}
-use Rattle.part_measures.specs.Heads.{headRow, noteCount}
+use Rattle.part_rows.proofs.Notes.{byte-voice}
+use Rattle.part_measures.specs.Heads.{headRow, noteCount, total}
 use Rattle.part_measures.proofs.Heads.{length-head}
 use Rattle.store_sections.specs.declared.Wrote.{Wrote}
 use Rattle.store_sections.specs.declared.Wrote.the-variants.{To, NoRoom}
 use Rattle.store_sections.specs.Writes.{WroteIs}
-use Rattle.part_ends.proofs.Zipped.{table-front}
+use Rattle.part_rows.proofs.Zipped.{table-front}
 use Rattle.write_notes.specs.declared.PartTables.{PartTables}
-use Rattle.write_notes.specs.Tables.{total, pitchTotal, pitchesOf, Represents}
-use Rattle.write_notes.proofs.Tables.{table-rest, table-take, table-drop, table-first}
-use Rattle.write_notes.proofs.Out.{wrote-as, byte-voice, by-voice, count-out, in-order-sum, notes-total}
+use Rattle.write_notes.specs.Tables.{pitchTotal, pitchesOf, Represents}
+use Rattle.part_rows.proofs.Cuts.{table-rest, table-take, table-drop, table-first}
+use Rattle.part_measures.proofs.Counts.{count-out}
+use Rattle.write_notes.proofs.Out.{wrote-as, by-voice, in-order-sum, notes-total}
 use Rattle.write_pitches.specs.Out.{voiceOut, voicesOut, pitchesOut, pitchesSection}
 
 -- STEPS, as the loops take them

@@ -1,4 +1,4 @@
--- `abc::abc_parse` meets its contract: the answer of `parse_abc`, packed.
+-- `abc::abc_parse` meets its contract: the answer of `parse_abc` in the first edition, packed.
 use mathlib.Core.Path.{ap, _∙_}
 use borrow.Author.Needs.{needs}
 use Rattle.abc.specs.Packed.{packed}
@@ -7,7 +7,7 @@ use Rattle.abc.proofs.abc_parse.Statement.{statement}
 use Rattle.abc.proofs.abc_parse.Tie as tie
 
 pack-requires : tie.Need-pack-requires
-pack-requires c κs = short-as _ _ _ _ (c .before .before .before .before .parse-abc .ensures .0)
+pack-requires c κs = short-as _ _ _ _ _ (c .before .before .before .before .parse-abc .ensures .0)
 
 returns : tie.Need-returns
 returns c =

@@ -8,9 +8,10 @@ use Rattle.abc_parts.proofs.read_part.Tie as tie
 returns : tie.Need-returns
 returns c =
     let a = c .before .before .before .before .before .before .before .before .before .before .before .before .before .before .before .before .args in
+    let p = c .before .before .before .before .before .before .before .before .before .before .before .before .before .before .before .before .pre in
     let b = c .before .before .before .before .before .before .before .before .before .before .before .before .build-items in
     let e = c .before .before .before .before .before .end-part .ensures in
-    part-read (a .text .now) (a .scratch .now) (a .n) (a .part) (keyAs (a .key)) (a .t) (c .before .before .before .before .before .before .before .before .before .before .before .before .before .before .before .before .pre .1) _ (b .result) (b .ensures) (c .before .before .before .before .before .before .before .before .before .before .before .before .before .before .before .before .pre .0) _ _ (e .0 .1) (e .1) (e .0 .0)
+    part-read (a .edition) (a .text .now) (a .scratch .now) (a .n) (a .part) (keyAs (a .key)) (a .t) (p .1) _ (b .result) (b .ensures) (p .0) _ _ (e .0 .1) (e .1) (e .0 .0)
 
 pub read-part-spec : {M : Type 1} → statement M
 read-part-spec = tie.close (tie.spec (λ c κs. search needs) (λ c. search needs) (λ c κs. search needs) (λ c. search needs) (λ c. search needs) (λ c. search needs) (λ c. search needs) returns)

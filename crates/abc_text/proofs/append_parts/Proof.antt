@@ -15,12 +15,12 @@ use Rattle.abc_text.proofs.append_parts.Statement.{statement}
 use Rattle.abc_text.proofs.append_parts.Tie as tie
 
 abbrev Inv-loop : tie.InvT-loop
-Inv-loop text scratch₀ n count key to₀ at₀ part₀ scratch to at part =
+Inv-loop edition text scratch₀ n count key to₀ at₀ part₀ scratch to at part =
     (part ≤ count) × (length to ≡ length to₀) × (length scratch ≡ length scratch₀) × (itemsIn text scratch n ≡ itemsIn text scratch₀ n)
-    × WroteIs to₀ (partsOf (keyAs key) (itemsIn text scratch₀ n) part) to (To at)
+    × WroteIs to₀ (partsOf edition (keyAs key) (itemsIn text scratch₀ n) part) to (To at)
 
 abbrev μ-loop : tie.MeasureT-loop
-μ-loop text scratch₀ n count key to₀ at₀ part₀ scratch to at part = count - part
+μ-loop edition text scratch₀ n count key to₀ at₀ part₀ scratch to at part = count - part
 
 loop-holds : tie.Need-loop-holds Inv-loop μ-loop
 loop-holds c = (search needs, refl, refl, refl, rw parts-none (start _))
@@ -60,7 +60,7 @@ returns c =
     let l = c .before .before .before .before .before .before .before .before .before .before .before .before .before .before .loop in
     let a = c .before .before .before .before .before .before .before .before .before .before .before .before .before .before .before .before .before .before .args in
     let mine = own-items _ _ _ (c .before .before .before .before .before .before .before .before .before .before .before .before .before .before .before .before .before .before .pre) _ (l .inv .3) (l .inv .2) _ _ _ (c .before .before .before .before .before .before .before .before .before .before .before .own-items .ensures) in
-    no-part (keyAs (a .key)) (itemsIn (a .text .now) (a .scratch .now) (a .n)) _ (l .part) (a .count) (c .before .before .before .before .before .before .before .before .before .before .before .before .before .loop-test .taken) (l .inv .4) mine
+    no-part _ (keyAs (a .key)) (itemsIn (a .text .now) (a .scratch .now) (a .n)) _ (l .part) (a .count) (c .before .before .before .before .before .before .before .before .before .before .before .before .before .loop-test .taken) (l .inv .4) mine
     (told (c .before .before .before .before .before .before .write-part .ensures .0) (c .enum-told .given .1))
 
 add-at : tie.Need-add-at Inv-loop μ-loop
@@ -70,7 +70,7 @@ add-at c =
     let mine = own-items _ _ _ (c .before .before .before .before .before .before .before .before .before .before .before .before .before .before .before .before .before .before .before .pre) _ (l .inv .3) (l .inv .2) _ _ _ (c .before .before .before .before .before .before .before .before .before .before .before .before .own-items .ensures) in
     omega (
       arith,
-      one-part (keyAs (a .key)) (itemsIn (a .text .now) (a .scratch .now) (a .n)) _ (l .part) (l .inv .4) mine
+      one-part _ (keyAs (a .key)) (itemsIn (a .text .now) (a .scratch .now) (a .n)) _ (l .part) (l .inv .4) mine
           (told (c .before .before .before .before .before .before .before .write-part .ensures .0) (c .before .m .given .1)) .says .1,
       c .before .before .before .before .before .before .before .before .before .before .before .before .before .before .before .before .before .before .before .good,
     )
@@ -83,7 +83,7 @@ loop-again c =
     let o = c .before .before .before .before .before .before .before .before .before .before .before .before .own-items .ensures in
     let kept = c .before .before .before .before .before .before .before .write-part .ensures .1 in
     let mine = own-items _ _ _ p _ (l .inv .3) (l .inv .2) _ _ _ o in
-    let w = one-part (keyAs (a .key)) (itemsIn (a .text .now) (a .scratch .now) (a .n)) _ (l .part) (l .inv .4) mine
+    let w = one-part _ (keyAs (a .key)) (itemsIn (a .text .now) (a .scratch .now) (a .n)) _ (l .part) (l .inv .4) mine
     (told (c .before .before .before .before .before .before .before .write-part .ensures .0) (c .before .m .given .1)) in
     let after = own-kept _ _ _ p _ (l .inv .3) (l .inv .2) _ _ _ o _ (kept .0) (kept .1) in
     (search needs, in-store w .1, after .0, after .1, w)

@@ -11,13 +11,13 @@ use Rattle.abc_text.proofs.finish.Tie as tie
 returns : tie.Need-returns
 returns c =
     let a = c .before .before .before .before .before .before .before .before .before .before .before .before .args in
-    silent-parsed (a .text .now) (a .scratch .now) (a .h) (c .before .before .before .before .before .before .before .before .before .before .before .before .pre .0) _ _ _ _ _ (not-true _ (c .before .before .before .before .before .before .before .if1 .taken)) (c .before .before .before .before .refuse .ensures)
+    silent-parsed _ (a .text .now) (a .scratch .now) (a .h) (c .before .before .before .before .before .before .before .before .before .before .before .before .pre .0) _ _ _ _ _ (not-true _ (c .before .before .before .before .before .before .before .if1 .taken)) (c .before .before .before .before .refuse .ensures)
 
 write-parts-requires : tie.Need-write-parts-requires
 write-parts-requires c κs =
     let a = c .before .before .before .before .before .before .before .before .before .args in
     let p = c .before .before .before .before .before .before .before .before .before .pre in
-    rooms-left (a .text .now) (a .scratch .now) (a .h) (p .0) (p .1 .0) (p .1 .1)
+    rooms-left _ (a .text .now) (a .scratch .now) (a .h) (p .0) (p .1 .0) (p .1 .1)
 
 seal-requires : tie.Need-seal-requires
 seal-requires c κs = reached-in (c .before .before .before .before .before .before .before .before .before .write-parts .ensures) (search needs)
@@ -26,7 +26,7 @@ returns-2 : tie.Need-returns-2
 returns-2 c =
     let a = c .before .before .before .before .before .before .before .before .before .before .before .before .before .before .before .before .before .before .before .before .before .before .before .args in
     rw (c .wrote-answer .ensures)
-    (written-parsed (a .text .now) (a .scratch .now) (a .h) (c .before .before .before .before .before .before .before .before .before .before .before .before .before .before .before .before .before .before .before .before .before .before .before .pre .0) _ _ _ _ _ (not-false _ (c .before .before .before .before .before .before .before .before .before .before .before .before .before .before .before .before .before .before .if1 .left))
+    (written-parsed _ (a .text .now) (a .scratch .now) (a .h) (c .before .before .before .before .before .before .before .before .before .before .before .before .before .before .before .before .before .before .before .before .before .before .before .pre .0) _ _ _ _ _ (not-false _ (c .before .before .before .before .before .before .before .before .before .before .before .before .before .before .before .before .before .before .if1 .left))
     (filled (rw (c .before .before .before .before .before .before .before .before .before .before .before .before .before .before .before .before .before .count-parts .ensures) at (c .before .before .before .before .before .before .before .before .before .before .before .before .before .write-parts .ensures)) (search needs) (c .before .before .before .seal .ensures))
     (cleared _ _ _ (c .before .before .before .before .before .before .before .clear .ensures) (search needs)))
 

@@ -11,26 +11,26 @@ finish-requires : tie.Need-finish-requires
 finish-requires c κs =
     let a = c .before .before .before .before .before .before .before .before .before .before .before .before .before .before .before .args in
     let p = passed (a .text .now) _ _ (c .before .before .before .before .before .before .before .before .before .before .before .test-text .ensures) (c .before .before .before .before .before .before .before .before .before .enum-told .given .1) in
-    (scan-done (c .before .before .before .before .before .before .before .scan-lines .ensures) (c .before .before .before .h .given .1), (p .0, search needs))
+    (scan-done _ (c .before .before .before .before .before .before .before .scan-lines .ensures) (c .before .before .before .h .given .1), (p .0, search needs))
 
 returns : tie.Need-returns
 returns c =
     let a = c .before .before .before .before .before .before .before .before .before .before .before .before .before .before .args in
-    called (call-early (a .text .now) _ _ _ (c .before .before .before .before .before .before .before .before .before .before .test-text .ensures) _ _ _ _ (c .before .before .before .before .before .before .before .before .n .given .1) (c .before .before .before .before .refuse .ensures))
+    called (call-early _ (a .text .now) _ _ _ (c .before .before .before .before .before .before .before .before .before .before .test-text .ensures) _ _ _ _ (c .before .before .before .before .before .before .before .before .n .given .1) (c .before .before .before .before .refuse .ensures))
 
 returns-2 : tie.Need-returns-2
 returns-2 c =
     let a = c .before .before .before .before .before .before .before .before .before .before .before .before .before .before .before .before .before .before .before .before .args in
     called
-    (call-scanned (a .text .now) _ _ _ (c .before .before .before .before .before .before .before .before .before .before .before .before .before .before .before .before .test-text .ensures) _ _ _ (c .before .before .before .before .before .before .before .before .before .before .before .before .before .before .enum-told .given .1)
-    (refused-scanned (a .text .now) _ _ _ _ _ (scan-refused (c .before .before .before .before .before .before .before .before .before .before .before .before .scan-lines .ensures) (c .before .before .before .before .before .before .before .before .n2 .given .1)) (search needs) (c .before .before .before .before .refuse2 .ensures)))
+    (call-scanned _ (a .text .now) _ _ _ (c .before .before .before .before .before .before .before .before .before .before .before .before .before .before .before .before .test-text .ensures) _ _ _ (c .before .before .before .before .before .before .before .before .before .before .before .before .before .before .enum-told .given .1)
+    (refused-scanned _ (a .text .now) _ _ _ _ _ (scan-refused _ (c .before .before .before .before .before .before .before .before .before .before .before .before .scan-lines .ensures) (c .before .before .before .before .before .before .before .before .n2 .given .1)) (search needs) (c .before .before .before .before .refuse2 .ensures)))
 
 returns-3 : tie.Need-returns-3
 returns-3 c =
     let a = c .before .before .before .before .before .before .before .before .before .before .before .before .before .before .before .before .before .before .before .before .args in
     called
-    (call-scanned (a .text .now) _ _ _ (c .before .before .before .before .before .before .before .before .before .before .before .before .before .before .before .before .test-text .ensures) _ _ _ (c .before .before .before .before .before .before .before .before .before .before .before .before .before .before .enum-told .given .1)
-    (finished (a .text .now) _ _ _ (search needs) (c .before .before .before .before .finish .ensures)))
+    (call-scanned _ (a .text .now) _ _ _ (c .before .before .before .before .before .before .before .before .before .before .before .before .before .before .before .before .test-text .ensures) _ _ _ (c .before .before .before .before .before .before .before .before .before .before .before .before .before .before .enum-told .given .1)
+    (finished _ (a .text .now) _ _ _ (search needs) (c .before .before .before .before .finish .ensures)))
 
 pub parse-abc-spec : {M : Type 1} → statement M
 parse-abc-spec =

@@ -20,8 +20,8 @@ returns-2 : tie.Need-returns-2
 unfolding bytesOf
 returns-2 c = next-none (told (c .before .before .before .before .before .before .before .before .before .before .before .before .before .before .write-u32 .ensures) (c .before .before .before .before .before .before .before .before .before .before .at .given .1)) (told (c .before .before .before .before .before .before .append-parts .ensures) (c .enum-told2 .given .1))
 
-add-t17 : tie.Need-add-t17
-add-t17 c =
+add-t18 : tie.Need-add-t18
+add-t18 c =
     omega (
       arith,
       next-to (told (c .before .before .before .before .before .before .before .before .before .before .before .before .before .before .before .write-u32 .ensures) (c .before .before .before .before .before .before .before .before .before .before .before .at .given .1)) (told (c .before .before .before .before .before .before .before .append-parts .ensures) (c .before .m .given .1)) .says .1,
@@ -34,4 +34,4 @@ returns-3 c = next-to (told (c .before .before .before .before .before .before .
 
 pub write-parts-spec : {M : Type 1} → statement M
 write-parts-spec =
-    tie.close (tie.spec (λ c κs. search needs) (λ c. search needs) (λ c. search needs) (λ c. search needs) returns sub-append-parts part-append-parts-start (λ c. search needs) (λ c κs. search needs) (λ c. search needs) (λ c. search needs) (λ c. search needs) (λ c. search needs) returns-2 add-t17 (λ c. search needs) (λ c. search needs) returns-3)
+    tie.close (tie.spec (λ c κs. search needs) (λ c. search needs) (λ c. search needs) (λ c. search needs) returns sub-append-parts part-append-parts-start (λ c. search needs) (λ c κs. search needs) (λ c. search needs) (λ c. search needs) (λ c. search needs) (λ c. search needs) returns-2 add-t18 (λ c. search needs) (λ c. search needs) returns-3)

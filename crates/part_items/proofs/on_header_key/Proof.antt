@@ -8,7 +8,7 @@ use Rattle.part_items.proofs.on_header_key.Tie as tie
 returns : tie.Need-returns
 returns c =
     let a = c .before .args in
-    λ t s. simulates-item-as (c .set-key .ensures) (key-in-header-simulates (keyAs (a .header)))
+    λ ed t s. simulates-item-as (c .set-key .ensures) (key-in-header-simulates ed (keyAs (a .header)))
 
 pub on-header-key-spec : {M : Type 1} → statement M
 on-header-key-spec = tie.close (tie.spec (λ c κs. search needs) returns)

@@ -4,7 +4,7 @@ use Rattle.part_items.proofs.on_reset.Statement.{statement}
 use Rattle.part_items.proofs.on_reset.Tie as tie
 
 returns : tie.Need-returns
-returns c = λ t s header. reset-simulates header
+returns c = λ ed t s header. reset-simulates ed header
 
 pub on-reset-spec : {M : Type 1} → statement M
 on-reset-spec = tie.close (tie.spec returns)

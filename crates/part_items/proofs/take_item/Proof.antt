@@ -11,7 +11,7 @@ use Rattle.part_items.proofs.take_item.Tie as tie
 returns : tie.Need-returns
 returns c =
     let a = c .before .before .before .before .before .before .args in
-    taken-other (a .text .now) (a .t) (keyAs (a .header)) (a .part) (a .i) (a .store .now) (a .r) _ (c .before .before .get-item .ensures) (c .if1 .taken)
+    taken-other _ (a .text .now) (a .t) (keyAs (a .header)) (a .part) (a .i) (a .store .now) (a .r) _ (c .before .before .get-item .ensures) (c .if1 .taken)
 
 on-item-requires : tie.Need-on-item-requires
 on-item-requires c κs =
@@ -20,7 +20,7 @@ on-item-requires c κs =
 
 returns-2 : tie.Need-returns-2
 returns-2 c =
-    taken-as (c .before .before .before .before .if1 .left) (c .before .before .on-item .ensures)
+    taken-as _ (c .before .before .before .before .if1 .left) (c .before .before .on-item .ensures)
 
 pub take-item-spec : {M : Type 1} → statement M
 take-item-spec = tie.close (tie.spec (λ c κs. search needs) (λ c. search needs) returns on-item-requires (λ c. search needs) returns-2)

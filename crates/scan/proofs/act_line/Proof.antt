@@ -40,16 +40,16 @@ returns-2 : tie.Need-returns-2
 returns-2 c = rw (c .before .before .before .before .enum-told2 .given .1) (c .before .before .lyric-line .ensures (c .before .before .before .before .before .before .before .before .args .text .now))
 
 returns-3 : tie.Need-returns-3
-returns-3 c = rw (c .before .before .before .before .enum-told3 .given .1) (c .before .before .voice-line .ensures)
+returns-3 c = rw (c .before .before .before .before .enum-told3 .given .1) (c .before .before .voice-line .ensures (c .before .before .before .before .before .before .before .before .args .edition))
 
 returns-4 : tie.Need-returns-4
 returns-4 c = rw (c .before .before .before .before .enum-told4 .given .1) (c .before .before .key-line .ensures)
 
 returns-5 : tie.Need-returns-5
-returns-5 c = rw (c .before .enum-told5 .given .1) (c .unit-line .ensures (c .before .before .before .before .before .args .scratch .now))
+returns-5 c = rw (c .before .enum-told5 .given .1) (c .unit-line .ensures (c .before .before .before .before .before .args .edition) (c .before .before .before .before .before .args .scratch .now))
 
 returns-6 : tie.Need-returns-6
-returns-6 c = rw (c .before .before .before .before .enum-told6 .given .1) (c .before .before .meter-line .ensures)
+returns-6 c = rw (c .before .before .before .before .enum-told6 .given .1) (c .before .before .meter-line .ensures (c .before .before .before .before .before .before .before .before .args .edition))
 
 returns-7 : tie.Need-returns-7
 returns-7 c = rw (c .before .enum-told7 .given .1) (c .tune-line .ensures (c .before .before .before .before .before .args .text .now) (c .before .before .before .before .before .args .scratch .now))

@@ -12,12 +12,12 @@ use Rattle.scan.proofs.step_line.Tie as tie
 returns : tie.Need-returns
 returns c =
     let a = c .before .before .before .before .before .args in
-    rw (c .refuse .ensures) (too-many-lines (a .text .now) (a .scratch .now) (a .st) (between (a .text .now) (a .from) (a .to)) _ (c .before .if1 .taken))
+    rw (c .refuse .ensures) (too-many-lines _ (a .text .now) (a .scratch .now) (a .st) (between (a .text .now) (a .from) (a .to)) _ (c .before .if1 .taken))
 
 returns-2 : tie.Need-returns-2
 returns-2 c =
     let a = c .before .before .before .before .before .before .before .args in
-    rw (c .refuse2 .ensures) (too-long (a .text .now) (a .scratch .now) (a .st) (a .from) (a .to) _ (c .before .before .clean-end .ensures) (search needs) (c .before .before .before .if1 .left) _ (c .before .if2 .taken))
+    rw (c .refuse2 .ensures) (too-long _ (a .text .now) (a .scratch .now) (a .st) (a .from) (a .to) _ (c .before .before .clean-end .ensures) (search needs) (c .before .before .before .if1 .left) _ (c .before .if2 .taken))
 
 act-line-requires : tie.Need-act-line-requires
 act-line-requires c κs =
@@ -28,7 +28,7 @@ act-line-requires c κs =
 returns-3 : tie.Need-returns-3
 returns-3 c =
     let a = c .before .before .before .before .before .before .before .before .before .before .before .before .args in
-    by-class (a .text .now) (a .scratch .now) (a .st) (a .from) (a .to) _ (c .before .before .before .before .before .before .before .clean-end .ensures) (search needs) (c .before .before .before .before .before .before .before .before .if1 .left) _ _ _ (c .before .before .before .before .before .before .if2 .left)
+    by-class _ (a .text .now) (a .scratch .now) (a .st) (a .from) (a .to) _ (c .before .before .before .before .before .before .before .clean-end .ensures) (search needs) (c .before .before .before .before .before .before .before .before .if1 .left) _ _ _ (c .before .before .before .before .before .before .if2 .left)
     (c .before .before .before .before .line-class .ensures ∙ ap classOf (part-cut (a .text .now) (a .from) (c .before .before .before .before .before .before .before .clean-end .result - a .from))) (c .before .before .act-line .ensures)
 
 pub step-line-spec : {M : Type 1} → statement M

@@ -9,13 +9,13 @@ use Rattle.scan_fields.proofs.meter_line.Tie as tie
 returns : tie.Need-returns
 returns c =
     let a = c .before .before .before .before .before .args in
-    rw (c .refuse .ensures) (refused-kind _ 6 _ (high-meter (a .text .now) (a .from) (a .end) (sym (c .before .before .is-high .ensures) ∙ c .before .if1 .taken)))
+    λ ed. rw (c .refuse .ensures) (refused-kind _ 6 _ (high-meter ed (a .text .now) (a .from) (a .end) (sym (c .before .before .is-high .ensures) ∙ c .before .if1 .taken)))
 
 returns-2 : tie.Need-returns-2
 returns-2 c =
     let a = c .before .before .before .before .before .before .before .before .before .args in
-    by-kind _ _ _
-    (is-meter (a .text .now) (a .from) (a .end) (sym (c .before .before .before .before .before .before .is-high .ensures) ∙ c .before .before .before .before .before .if1 .left) _ (c .before .before .before .before .parse-meter .ensures))
+    λ ed. by-kind _ _ _
+    (is-meter ed (a .text .now) (a .from) (a .end) (sym (c .before .before .before .before .before .before .is-high .ensures) ∙ c .before .before .before .before .before .if1 .left) _ (c .before .before .before .before .parse-meter .ensures))
     (c .before .before .set-meter .ensures (a .text .now))
 
 pub meter-line-spec : {M : Type 1} → statement M

@@ -9,20 +9,20 @@ use Rattle.scan_fields.proofs.voice_line.Tie as tie
 returns : tie.Need-returns
 returns c =
     let a = c .before .before .before .before .before .args in
-    rw (c .refuse .ensures) (refused-kind _ 6 _ (high-voice (a .text .now) (a .from) (a .end) (sym (c .before .before .is-high .ensures) ∙ c .before .if1 .taken)))
+    λ ed. rw (c .refuse .ensures) (refused-kind _ 6 _ (high-voice ed (a .text .now) (a .from) (a .end) (sym (c .before .before .is-high .ensures) ∙ c .before .if1 .taken)))
 
 returns-2 : tie.Need-returns-2
 returns-2 c =
     let a = c .before .before .before .before .before .before .before .args in
-    rw (c .refuse2 .ensures)
+    λ ed. rw (c .refuse2 .ensures)
     (refused-kind _ 8 _
-    (no-voice (a .text .now) (a .from) (a .end) (sym (c .before .before .before .before .is-high .ensures) ∙ c .before .before .before .if1 .left) _ (c .before .before .voice-identifier .ensures) (c .before .if2 .taken)))
+    (no-voice ed (a .text .now) (a .from) (a .end) (sym (c .before .before .before .before .is-high .ensures) ∙ c .before .before .before .if1 .left) _ (c .before .before .voice-identifier .ensures) (c .before .if2 .taken)))
 
 returns-3 : tie.Need-returns-3
 returns-3 c =
     let a = c .before .before .before .before .before .before .before .before .before .before .before .args in
-    by-kind _ _ _
-    (is-voice (a .text .now) (a .from) (a .end) (sym (c .before .before .before .before .before .before .before .before .is-high .ensures) ∙ c .before .before .before .before .before .before .before .if1 .left) _ (c .before .before .before .before .before .before .voice-identifier .ensures) _ (search needs) (search needs) (c .before .before .before .before .has-middle .ensures))
+    λ ed. by-kind _ _ _
+    (is-voice ed (a .text .now) (a .from) (a .end) (sym (c .before .before .before .before .before .before .before .before .is-high .ensures) ∙ c .before .before .before .before .before .before .before .if1 .left) _ (c .before .before .before .before .before .before .voice-identifier .ensures) _ (search needs) (search needs) (c .before .before .before .before .has-middle .ensures))
     (c .before .before .named-voice .ensures)
 
 pub voice-line-spec : {M : Type 1} → statement M

@@ -29,7 +29,7 @@ returns : tie.Need-returns
 returns c =
     let d = c .before .before in
     let s = d .before .before .before in
-    c .volta .ensures ∙ ap (cutFor (s .args .at)) (is-ending (s .args .line .now) (s .args .at) (digit d ∙ c .before .if1 .taken))
+    c .volta .ensures ∙ ap (cutFor (s .args .at)) (is-ending _ (s .args .line .now) (s .args .at) (digit d ∙ c .before .if1 .taken))
 
 is-inline-requires : tie.Need-is-inline-requires
 is-inline-requires c κs =
@@ -42,14 +42,14 @@ inline-field-requires c κs =
     let d = f .before .before in
     let s = d .before .before .before in
     let k = close f in
-    (omega (arith, k), field-closes (s .args .line .now) (s .args .at) (digit d ∙ f .before .if1 .left) (sym (c .before .is-inline .ensures) ∙ c .if2 .taken) _ k)
+    (omega (arith, k), field-closes (s .args .edition) (s .args .line .now) (s .args .at) (digit d ∙ f .before .if1 .left) (sym (c .before .is-inline .ensures) ∙ c .if2 .taken) _ k)
 
 returns-2 : tie.Need-returns-2
 returns-2 c =
     let f = c .before .before .before in
     let d = f .before .before in
     let s = d .before .before .before in
-    c .inline-field .ensures ∙ ap (cutFor (s .args .at)) (is-field (s .args .line .now) (s .args .at) (digit d ∙ f .before .if1 .left) (sym (c .before .before .is-inline .ensures) ∙ c .before .if2 .taken) _ (close f))
+    c .inline-field .ensures ∙ ap (cutFor (s .args .at)) (is-field _ (s .args .line .now) (s .args .at) (digit d ∙ f .before .if1 .left) (sym (c .before .before .is-inline .ensures) ∙ c .before .if2 .taken) _ (close f))
 
 chord-requires : tie.Need-chord-requires
 chord-requires c κs =
@@ -62,7 +62,7 @@ returns-3 c =
     let f = c .before .before .before in
     let d = f .before .before in
     let s = d .before .before .before in
-    c .chord .ensures ∙ ap (cutFor (s .args .at)) (is-chord (s .args .line .now) (s .args .at) (digit d ∙ f .before .if1 .left) (sym (c .before .before .is-inline .ensures) ∙ c .before .if2 .left))
+    c .chord .ensures ∙ ap (cutFor (s .args .at)) (is-chord _ (s .args .line .now) (s .args .at) (digit d ∙ f .before .if1 .left) (sym (c .before .before .is-inline .ensures) ∙ c .before .if2 .left))
 
 pub bracket-spec : {M : Type 1} → statement M
 bracket-spec =

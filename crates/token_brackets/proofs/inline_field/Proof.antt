@@ -29,16 +29,16 @@ returns-3 c =
 returns-4 : tie.Need-returns-4
 unfolding lexemeFor
 returns-4 c =
-    let p = c .before .before in
+    let p = c .before .before .before in
     let s = p .before .before in
-    rw (c .enum-told .given .1) at (field-cut (s .args .at) (s .args .close) (s .pre .0) (p .parse-inline-field .result) _ (p .parse-inline-field .ensures))
+    rw (c .before .n .given .1) at (field-cut (s .args .at) (s .args .close) (s .pre .0) (p .parse-inline-field .result) _ (p .parse-inline-field .ensures))
 
 returns-5 : tie.Need-returns-5
 unfolding lexemeFor
 returns-5 c =
     let p = c .before .before in
     let s = p .before .before in
-    rw (c .enum-told2 .given .1) at (field-cut (s .args .at) (s .args .close) (s .pre .0) (p .parse-inline-field .result) _ (p .parse-inline-field .ensures))
+    rw (c .enum-told .given .1) at (field-cut (s .args .at) (s .args .close) (s .pre .0) (p .parse-inline-field .result) _ (p .parse-inline-field .ensures))
 
 pub inline-field-spec : {M : Type 1} → statement M
 inline-field-spec =

@@ -4,7 +4,6 @@ use native.Mathlib.Omega.{arith}
 use Prim.Native.Nat.{_+_}
 use lib.ListN.{length, drop, length-drop}
 use Rattle.reader.specs.Token.{quoted, taken}
-use Rattle.reader.specs.Tokens.{tokenAs}
 use Rattle.token_lexemes.specs.Lexemes.{lexemeFor}
 use Rattle.token_lexemes.proofs.Closed.{closed, unclosed}
 use borrow.Author.Needs.{needs}
@@ -12,13 +11,13 @@ use Rattle.token_lexemes.proofs.quoted_text.Statement.{statement}
 use Rattle.token_lexemes.proofs.quoted_text.Tie as tie
 
 returns : tie.Need-returns
-unfolding tokenAs lexemeFor
+unfolding lexemeFor
 returns c =
     let a = c .before .before .before .args in
     closed (a .line .now) (a .at) 34 (c .before .find .result) (c .before .before .before .pre) (c .before .find .ensures) quoted (taken quoted (length (drop (a .at) (a .line .now)))) (c .if1 .taken)
 
 returns-2 : tie.Need-returns-2
-unfolding tokenAs lexemeFor
+unfolding lexemeFor
 returns-2 c =
     let a = c .before .before .before .args in
     let n : length (a .line .now) ≡ a .at + length (drop (a .at) (a .line .now)) = rw (length-drop (a .at) (a .line .now)) (omega (arith, c .before .before .before .pre)) in

@@ -13,8 +13,8 @@ use Rattle.tokens.proofs.lexeme_at.Statement.{statement}
 use Rattle.tokens.proofs.lexeme_at.Tie as tie
 
 -- the token, where the class is known
-by-class : (c : tie.Start) (n : ℕ) → c .args .class ≡ n → tokenOf (drop (c .args .at) (c .args .line .now)) ≡ byCode n (drop (c .args .at) (c .args .line .now))
-by-class c n e = classed (c .args .line .now) (c .args .at) (c .args .class) n (c .pre .1) e
+by-class : (c : tie.Start) (n : ℕ) → c .args .class ≡ n → tokenOf (c .args .edition) (drop (c .args .at) (c .args .line .now)) ≡ byCode (c .args .edition) n (drop (c .args .at) (c .args .line .now))
+by-class c n e = classed _ (c .args .line .now) (c .args .at) (c .args .class) n (c .pre .1) e
 
 returns : tie.Need-returns
 unfolding byCode tokenAs lexemeFor
@@ -29,7 +29,7 @@ returns-2 c =
     ap (cutFor (k .args .at)) (sym (by-class k 2 (c .match .keys2)))
 
 returns-3 : tie.Need-returns-3
-unfolding byCode
+unfolding byCode tokenAs
 returns-3 c =
     let k = c .before .before .before in
     c .quoted-text .ensures ∙ ap (cutFor (k .args .at)) (sym (by-class k 3 (c .before .match .keys3)))
@@ -47,7 +47,7 @@ returns-5 c =
     c .broken2 .ensures ∙ ap (cutFor (k .args .at)) (sym (by-class k 5 (c .before .match .keys5)))
 
 returns-6 : tie.Need-returns-6
-unfolding byCode
+unfolding byCode tokenAs
 returns-6 c =
     let k = c .before .before .before in
     c .tuplet-or-slur .ensures ∙ ap (cutFor (k .args .at)) (sym (by-class k 6 (c .before .match .keys6)))
@@ -77,13 +77,13 @@ returns-10 c =
     c .decoration2 .ensures ∙ ap (cutFor (k .args .at)) (sym (by-class k 10 (c .before .match .keys10)))
 
 returns-11 : tie.Need-returns-11
-unfolding byCode
+unfolding byCode tokenAs
 returns-11 c =
     let k = c .before .before .before in
     c .bar-line .ensures ∙ ap (cutFor (k .args .at)) (sym (by-class k 11 (c .before .match .keys11)))
 
 returns-12 : tie.Need-returns-12
-unfolding byCode
+unfolding byCode tokenAs
 returns-12 c =
     let k = c .before .before .before in
     c .bracket .ensures ∙ ap (cutFor (k .args .at)) (sym (by-class k 12 (c .before .match .keys12)))
@@ -113,7 +113,7 @@ returns-16 c =
     c .rest4 .ensures ∙ rest-cut (k .args .line .now) (k .args .at) Notes.invisibleBarRest ∙ ap (cutFor (k .args .at)) (sym (by-class k 16 (c .before .match .keys16)))
 
 returns-17 : tie.Need-returns-17
-unfolding byCode
+unfolding byCode tokenAs
 returns-17 c =
     let k = c .before .before .before in
     c .note .ensures ∙ ap (cutFor (k .args .at)) (sym (by-class k 17 (c .before .match .keys17)))
@@ -124,7 +124,7 @@ returns-18 c =
     let k = c .before .before in
     let a = k .args in
     let h : getD (a .line .now) (a .at) 0 < 256 = omega (arith, c .before .shared-slice-known .given (a .at)) in
-    ap (cutFor (a .at)) (unclassed (a .line .now) (a .at) (a .class) h (k .pre .1) (c .match .rest .0 .0 .0 .0 .0 .0 .0 .0 .0 .0 .0 .0 .0 .0 .0 .0 .1) (c .match .rest .0 .0 .0 .0 .0 .0 .0 .0 .0 .0 .0 .0 .0 .0 .0 .1) (c .match .rest .0 .0 .0 .0 .0 .0 .0 .0 .0 .0 .0 .0 .0 .0 .1) (c .match .rest .0 .0 .0 .0 .0 .0 .0 .0 .0 .0 .0 .0 .0 .1) (c .match .rest .0 .0 .0 .0 .0 .0 .0 .0 .0 .0 .0 .0 .1) (c .match .rest .0 .0 .0 .0 .0 .0 .0 .0 .0 .0 .0 .1) (c .match .rest .0 .0 .0 .0 .0 .0 .0 .0 .0 .0 .1) (c .match .rest .0 .0 .0 .0 .0 .0 .0 .0 .0 .1) (c .match .rest .0 .0 .0 .0 .0 .0 .0 .0 .1) (c .match .rest .0 .0 .0 .0 .0 .0 .0 .1) (c .match .rest .0 .0 .0 .0 .0 .0 .1) (c .match .rest .0 .0 .0 .0 .0 .1) (c .match .rest .0 .0 .0 .0 .1) (c .match .rest .0 .0 .0 .1) (c .match .rest .0 .0 .1) (c .match .rest .0 .1) (c .match .rest .1))
+    ap (cutFor (a .at)) (unclassed _ (a .line .now) (a .at) (a .class) h (k .pre .1) (c .match .rest .0 .0 .0 .0 .0 .0 .0 .0 .0 .0 .0 .0 .0 .0 .0 .0 .1) (c .match .rest .0 .0 .0 .0 .0 .0 .0 .0 .0 .0 .0 .0 .0 .0 .0 .1) (c .match .rest .0 .0 .0 .0 .0 .0 .0 .0 .0 .0 .0 .0 .0 .0 .1) (c .match .rest .0 .0 .0 .0 .0 .0 .0 .0 .0 .0 .0 .0 .0 .1) (c .match .rest .0 .0 .0 .0 .0 .0 .0 .0 .0 .0 .0 .0 .1) (c .match .rest .0 .0 .0 .0 .0 .0 .0 .0 .0 .0 .0 .1) (c .match .rest .0 .0 .0 .0 .0 .0 .0 .0 .0 .0 .1) (c .match .rest .0 .0 .0 .0 .0 .0 .0 .0 .0 .1) (c .match .rest .0 .0 .0 .0 .0 .0 .0 .0 .1) (c .match .rest .0 .0 .0 .0 .0 .0 .0 .1) (c .match .rest .0 .0 .0 .0 .0 .0 .1) (c .match .rest .0 .0 .0 .0 .0 .1) (c .match .rest .0 .0 .0 .0 .1) (c .match .rest .0 .0 .0 .1) (c .match .rest .0 .0 .1) (c .match .rest .0 .1) (c .match .rest .1))
 
 pub lexeme-at-spec : {M : Type 1} → statement M
 lexeme-at-spec =

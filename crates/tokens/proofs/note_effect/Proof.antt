@@ -3,8 +3,7 @@ use Prim.Native.Nat.{_+_}
 use mathlib.Core.Path.{sym, ap, _∙_}
 use mathlib.Core.Option.{none}
 use lib.ListN.{getD, drop}
-use Rattle.reader.specs.Sounds.{noteAs}
-use Rattle.reader.specs.Tokens.{pitched, tokenAs}
+use Rattle.reader.specs.Sounds.{noteAs, noteOf}
 use Rattle.token_pitches.specs.Pitches.{signOf}
 use Rattle.token_lexemes.proofs.Sounding.{note-ends, note-other, note-letter}
 use Rattle.tokens.specs.Tokens.{effectIn, effectedIn}
@@ -18,7 +17,7 @@ unfolding effectIn
 returns c =
     let b = c .before in
     let a = b .before .before .args in
-    ap effectedIn (note-ends (a .line .now) (a .at) (b .accidental-before .result) (b .accidental-before .ensures) (c .if1 .taken)) ∙ effected (a .at) (tokenAs pitched (drop (a .at) (a .line .now)))
+    ap effectedIn (note-ends (a .line .now) (a .at) (b .accidental-before .result) (b .accidental-before .ensures) (c .if1 .taken)) ∙ effected (a .at) (noteOf (drop (a .at) (a .line .now)))
 
 returns-2 : tie.Need-returns-2
 returns-2 c =
@@ -32,7 +31,7 @@ returns-2 c =
     ∙ marked place none (signOf (before .sign)) (getD line place 0) (drop (place + 1) line)
     ∙ sym (effected place (noteAs (record { sign = signOf (before .sign); used = 0 }) (getD line place 0) (drop (place + 1) line)))
     ∙ ap effectedIn (note-letter line (a .at) before (b .accidental-before .ensures) (e .if1 .left) (sym (c .before .before .is-letter .ensures) ∙ c .before .if2 .taken))
-    ∙ effected (a .at) (tokenAs pitched (drop (a .at) line))
+    ∙ effected (a .at) (noteOf (drop (a .at) line))
 
 returns-3 : tie.Need-returns-3
 unfolding effectIn
@@ -41,7 +40,7 @@ returns-3 c =
     let b = e .before in
     let a = b .before .before .args in
     ap effectedIn (note-other (a .line .now) (a .at) (b .accidental-before .result) (b .accidental-before .ensures) (e .if1 .left) (sym (c .before .is-letter .ensures) ∙ c .if2 .left))
-    ∙ effected (a .at) (tokenAs pitched (drop (a .at) (a .line .now)))
+    ∙ effected (a .at) (noteOf (drop (a .at) (a .line .now)))
 
 pub note-effect-spec : {M : Type 1} → statement M
 note-effect-spec =

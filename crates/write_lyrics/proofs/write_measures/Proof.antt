@@ -7,8 +7,8 @@ use borrow.Author.Needs.{needs}
 use lib.ListN.{length}
 use Rattle.reader.specs.Records.{measureWidth}
 use Rattle.part_rows.specs.Encoded.{noteRowWidth}
-use Rattle.write_notes.specs.Tables.{total}
-use Rattle.write_notes.proofs.Out.{total-step}
+use Rattle.part_measures.specs.Heads.{total}
+use Rattle.part_measures.proofs.Counts.{total-step}
 use Rattle.write_notes.proofs.Written.{Written, begin, written-in, written-as, written-on, written-none, written-all}
 use Rattle.lyrics.specs.Sheet.{syllablesIn}
 use Rattle.write_lyrics.specs.Out.{sungRows, sungTotal, measuresOut}

@@ -11,8 +11,9 @@ use Rattle.laws.proofs.Bools.{not-true, not-false}
 use Rattle.store_sections.proofs.Writes.{told}
 use Rattle.write_notes.proofs.Written.{Written, begin, written-in, written-as, written-on, written-none, written-all}
 use Rattle.lyrics.specs.Sheet.{syllablesIn}
+use Rattle.part_rows.proofs.Notes.{row-other, row-rest, row-sung}
 use Rattle.write_lyrics.specs.Out.{sungRows, rowsOut}
-use Rattle.write_lyrics.proofs.Out.{row-other, row-rest, row-sung, sung-other, sung-one, sung-none, rows-other, rows-rest, rows-sung, rows-none}
+use Rattle.write_lyrics.proofs.Out.{sung-other, sung-one, sung-none, rows-other, rows-rest, rows-sung, rows-none}
 use Rattle.write_lyrics.proofs.write_rows.Statement.{statement}
 use Rattle.write_lyrics.proofs.write_rows.Tie as tie
 

@@ -7,10 +7,11 @@ use Rattle.reader.specs.Records.{measureWidth}
 use Rattle.part_rows.specs.Encoded.{noteRowWidth}
 use Rattle.store_sections.proofs.Writes.{told}
 use mathlib.Core.List.{_++_}
-use Rattle.write_notes.specs.Tables.{total}
+use Rattle.part_measures.specs.Heads.{total}
 use Rattle.write_notes.specs.Out.{voicesOut, notesOut}
 use Rattle.write_notes.proofs.Written.{Written, begin, written-in, written-on, written-none, written-all}
-use Rattle.write_notes.proofs.Out.{notes-step, notes-none, total-step}
+use Rattle.part_measures.proofs.Counts.{total-step}
+use Rattle.write_notes.proofs.Out.{notes-step, notes-none}
 use borrow.Author.Needs.{needs}
 use Rattle.write_notes.proofs.write_note_records.Statement.{statement}
 use Rattle.write_notes.proofs.write_note_records.Tie as tie

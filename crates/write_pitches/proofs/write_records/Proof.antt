@@ -7,8 +7,9 @@ use Rattle.reader.specs.Records.{measureWidth}
 use Rattle.part_rows.specs.Encoded.{noteRowWidth, pitchRowWidth}
 use Rattle.store_sections.proofs.Writes.{told}
 use Rattle.write_notes.proofs.Written.{Written, begin, written-in, written-as, written-on, written-none, written-all}
-use Rattle.write_notes.specs.Tables.{total, pitchTotal}
-use Rattle.write_notes.proofs.Out.{total-step}
+use Rattle.part_measures.specs.Heads.{total}
+use Rattle.write_notes.specs.Tables.{pitchTotal}
+use Rattle.part_measures.proofs.Counts.{total-step}
 use Rattle.write_pitches.specs.Out.{pitchesOut}
 use Rattle.write_pitches.proofs.Out.{pitch-total-split, pitches-step, pitches-none}
 use borrow.Author.Needs.{needs}

@@ -1,10 +1,9 @@
 //! `abc_played` and `abc_is_whole` beside the second implementation (tools/oracle, src/played.rs): `tools/differential-walks --help`.
-use compare::Sum;
+use compare::{Options, Sum};
 use oracle::played::{self, Bar, NoList, reading_of};
 use oracle::rng::Rng;
 use oracle::{Answer, answer, generate};
 use sindvaelo::{Reading, is_whole, list_bytes, played_measures};
-use std::collections::BTreeMap;
 use std::io::Write;
 
 /// Where the second implementation stops: every list of a longer store is cut here.
@@ -514,28 +513,16 @@ fn sample() -> String {
 }
 
 fn main() {
-    let mut values = BTreeMap::from([("--count", 1_000_000u64), ("--seed", 1), ("--jobs", 2)]);
-    let (mut only, mut spoil) = (None, false);
-    let mut args = std::env::args().skip(1);
-    while let Some(arg) = args.next() {
-        match arg.as_str() {
-            "--only" => only = args.next(),
-            "--spoil" => spoil = true,
-            "--sample" => {
-                let _ = std::io::stdout().write_all(sample().as_bytes());
-                return;
-            }
-            _ => {
-                let slot = values.get_mut(arg.as_str()).unwrap_or_else(|| panic!("no option {arg}"));
-                *slot = args.next().and_then(|n| n.parse().ok()).unwrap_or_else(|| panic!("{arg} takes a number"));
-            }
-        }
+    let options = Options::of(std::env::args().skip(1));
+    if options.sample {
+        let _ = std::io::stdout().write_all(sample().as_bytes());
+        return;
     }
-    let (count, seed, jobs) = (values["--count"], values["--seed"], values["--jobs"].max(1));
-    let wanted = |name: &str| only.as_ref().is_none_or(|word| name.contains(word.as_str()));
+    assert!(options.rest.is_empty(), "no option {}", options.rest[0]);
+    let Options { count, seed, jobs, spoil, .. } = options;
     let mut total = Sum::default();
     let mut run = |name: &str, count: u64, each: &(dyn Fn(&mut Run, u64) + Sync)| {
-        if wanted(name) {
+        if options.wants(name) {
             let start = |job| Run { sum: Sum::default(), noise: job, spoil };
             total.add(compare::kind(name, "readings", count, jobs, start, each, |run| run.sum));
         }

@@ -6,6 +6,7 @@ mod lengths;
 mod marks;
 mod notes;
 pub mod passes;
+mod second;
 mod texts;
 mod tokens;
 
@@ -25,6 +26,7 @@ pub fn pieces() -> Vec<Piece> {
     pieces.extend(fields::pieces());
     pieces.extend(tokens::pieces());
     pieces.extend(texts::pieces());
+    pieces.extend(second::pieces());
     pieces
 }
 

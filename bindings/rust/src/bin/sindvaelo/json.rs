@@ -1,6 +1,6 @@
 //! JSON, one object a line.
 use crate::words;
-use sindvaelo::{Note, Reading, Refusal};
+use sindvaelo::{Edition, Note, Reading, Refusal};
 use std::fmt::Write;
 
 /// A string of JSON.
@@ -24,36 +24,40 @@ fn list(items: impl Iterator<Item = String>) -> String {
     format!("[{}]", items.collect::<Vec<_>>().join(","))
 }
 
-fn reader() -> String {
-    format!("\"version\":{},\"commit\":{}", string(sindvaelo::VERSION), string(sindvaelo::COMMIT))
+fn reader(edition: Edition) -> String {
+    let edition = match edition {
+        Edition::First => "",
+        Edition::Abc21 => ",\"edition\":\"2.1\"",
+    };
+    format!("\"version\":{},\"commit\":{}{edition}", string(sindvaelo::VERSION), string(sindvaelo::COMMIT))
 }
 
-pub fn error(name: &str, error: &std::io::Error) -> String {
-    format!("{{\"file\":{},{},\"error\":{}}}\n", string(name), reader(), string(&error.to_string()))
+pub fn error(name: &str, error: &std::io::Error, edition: Edition) -> String {
+    format!("{{\"file\":{},{},\"error\":{}}}\n", string(name), reader(edition), string(&error.to_string()))
 }
 
-pub fn refused(name: &str, refusal: &Refusal) -> String {
+pub fn refused(name: &str, refusal: &Refusal, edition: Edition) -> String {
     let line = refusal.line().unwrap_or(0);
-    format!("{{\"file\":{},{},\"refused\":{},\"line\":{line},\"says\":{}}}\n", string(name), reader(), refusal.number(), string(&refusal.to_string()))
+    format!("{{\"file\":{},{},\"refused\":{},\"line\":{line},\"says\":{}}}\n", string(name), reader(edition), refusal.number(), string(&refusal.to_string()))
 }
 
 pub fn tally(name: &str, reading: &Reading<&[u8]>) -> String {
     let parts = words::counts(reading).map(|c| {
         format!("{{\"measures\":{},\"sounded\":{},\"rests\":{},\"syllables\":{}}}", c.measures, c.sounded, c.rests, c.syllables)
     });
-    format!("{{\"file\":{},{},\"parts\":{}}}\n", string(name), reader(), list(parts))
+    format!("{{\"file\":{},{},\"parts\":{}}}\n", string(name), reader(Edition::First), list(parts))
 }
 
 /// Each part's measures as they are played, or why they are not listed.
-pub fn played(name: &str, parts: &[Result<Vec<u32>, Refusal>], says: impl Fn(&Refusal) -> String) -> String {
+pub fn played(name: &str, parts: &[Result<Vec<u32>, Refusal>], edition: Edition, says: impl Fn(&Refusal) -> String) -> String {
     let parts = parts.iter().map(|part| match part {
         Ok(played) => format!("{{\"plays\":{},\"played\":{}}}", played.len(), list(played.iter().map(u32::to_string))),
         Err(refusal) => format!("{{\"refused\":{},\"says\":{}}}", refusal.number(), string(&says(refusal))),
     });
-    format!("{{\"file\":{},{},\"parts\":{}}}\n", string(name), reader(), list(parts))
+    format!("{{\"file\":{},{},\"parts\":{}}}\n", string(name), reader(edition), list(parts))
 }
 
-pub fn read(name: &str, reading: &Reading<&[u8]>) -> String {
+pub fn read(name: &str, reading: &Reading<&[u8]>, edition: Edition) -> String {
     let parts = reading.parts().map(|part| {
         let measures = part.measures().map(|m| {
             let time = m.time_sig();
@@ -72,7 +76,7 @@ pub fn read(name: &str, reading: &Reading<&[u8]>) -> String {
         });
         format!("{{\"measures\":{}}}", list(measures))
     });
-    format!("{{\"file\":{},{},\"parts\":{}}}\n", string(name), reader(), list(parts))
+    format!("{{\"file\":{},{},\"parts\":{}}}\n", string(name), reader(edition), list(parts))
 }
 
 fn note(note: Note) -> String {

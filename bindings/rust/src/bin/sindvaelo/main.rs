@@ -6,7 +6,7 @@ mod table;
 mod words;
 
 use files::{in_order, shown, text_of};
-use sindvaelo::{Reader, Reading, Refusal};
+use sindvaelo::{Edition, Reader, Reading, Refusal};
 use std::ffi::{OsStr, OsString};
 use std::io::Write;
 use std::process::ExitCode;
@@ -27,7 +27,9 @@ sindvaelo: what a tune in ABC notation is charged by, as the proved reader finds
   sindvaelo --version                the version, the commit to put under a quote, and the toolchain
   sindvaelo --help                   this text
 
-FILE - is standard input. --json prints one JSON object a line for each FILE.
+FILE - is standard input. --json prints one JSON object a line for each FILE. --edition 2.1, with played, read
+and show, reads by ABC 2.1 in keys and modes, tuplets and lyrics (docs/SWITCHING.md); --edition first is what is
+read where nothing else is said, and what the tally reads.
 
 A text may have up to 67,108,864 bytes and is read with up to 55 bytes of memory for each of its own.
 Several files go to all processors.
@@ -50,7 +52,7 @@ enum End {
 fn main() -> ExitCode {
     let words: Vec<_> = std::env::args_os().skip(1).collect();
     let mut names = Vec::new();
-    let (mut json, mut only_names, mut most) = (false, false, None);
+    let (mut json, mut only_names, mut most, mut edition) = (false, false, None, Edition::First);
     let mut rest = words.iter().skip(1);
     while let Some(word) = rest.next() {
         match word.to_str() {
@@ -59,6 +61,11 @@ fn main() -> ExitCode {
             Some("--most") if !only_names => match rest.next().and_then(|n| n.to_str()?.parse().ok()) {
                 Some(n) => most = Some(n),
                 None => return wrong("--most takes a number"),
+            },
+            Some("--edition") if !only_names => match rest.next().and_then(|name| name.to_str()) {
+                Some("first") => edition = Edition::First,
+                Some("2.1") => edition = Edition::Abc21,
+                _ => return wrong("--edition takes first or 2.1"),
             },
             Some("--help" | "-h") if !only_names => return print(HELP),
             Some(option) if !only_names && option.starts_with('-') && option != "-" => return wrong(&format!("no option {option}")),
@@ -70,16 +77,20 @@ fn main() -> ExitCode {
         (Some("--help" | "-h" | "help"), _) => return print(HELP),
         (Some("--version" | "-V" | "version"), _) => return print(&version()),
         (Some("tally" | "read" | "show"), _) if most.is_some() => return wrong("--most is for played"),
+        (Some("tally"), _) if edition != Edition::First => return wrong("the tally is of the first edition; --edition 2.1 is for played, read and show"),
         (Some("tally" | "played" | "read" | "show"), 0) => return wrong("no FILE (- is standard input)"),
-        (Some("tally"), 1) if json => one(&names[0], Form::Json, |reading| json::tally(&shown(&names[0]), reading)),
-        (Some("tally"), 1) => one(&names[0], Form::Words, tally),
+        (Some("tally"), 1) if json => one(&names[0], Form::Json, edition, |reading| json::tally(&shown(&names[0]), reading)),
+        (Some("tally"), 1) => one(&names[0], Form::Words, edition, tally),
         (Some("tally"), _) => many(&names, json),
         (Some("show"), _) if json => return wrong("show draws; --json is for tally, played and read"),
         (Some("played" | "read" | "show"), 2..) => return wrong("one FILE at a time; tally takes several"),
-        (Some("played"), _) => one(&names[0], if json { Form::Json } else { Form::Words }, |reading| played(&shown(&names[0]), reading, json, most.unwrap_or(MOST_PLAYED))),
-        (Some("read"), _) if json => one(&names[0], Form::Json, |reading| json::read(&shown(&names[0]), reading)),
-        (Some("read"), _) => one(&names[0], Form::Words, table::read),
-        (Some("show"), _) => one(&names[0], Form::Picture, show::picture),
+        (Some("played"), _) => {
+            let (form, most) = (if json { Form::Json } else { Form::Words }, most.unwrap_or(MOST_PLAYED));
+            one(&names[0], form, edition, |reading| played(&shown(&names[0]), reading, json, most, edition))
+        }
+        (Some("read"), _) if json => one(&names[0], Form::Json, edition, |reading| json::read(&shown(&names[0]), reading, edition)),
+        (Some("read"), _) => one(&names[0], Form::Words, edition, |reading| table::read(reading, edition)),
+        (Some("show"), _) => one(&names[0], Form::Picture, edition, |reading| show::picture(reading, edition)),
         (Some(other), _) => return wrong(&format!("no command {other}")),
         (None, _) => return wrong("no command"),
     };
@@ -144,7 +155,7 @@ impl From<String> for Answer {
 }
 
 /// Each part's measures as they are played, `most` of them at most.
-fn played(name: &str, reading: &Reading<&[u8]>, json: bool, most: usize) -> Answer {
+fn played(name: &str, reading: &Reading<&[u8]>, json: bool, most: usize, edition: Edition) -> Answer {
     let parts: Vec<_> = reading.parts().map(|part| part.played(most)).collect();
     // Of a reading's own part nothing else is refused.
     let says = |refusal: &Refusal| format!("refused ({}): more than {most} measures are played. Allow more with --most N", refusal.number());
@@ -162,7 +173,7 @@ fn played(name: &str, reading: &Reading<&[u8]>, json: bool, most: usize) -> Answ
         }
     }
     let end = if told.is_empty() { End::Fine } else { End::Refused };
-    Answer { out: if json { json::played(name, &parts, says) } else { out }, told, end }
+    Answer { out: if json { json::played(name, &parts, edition, says) } else { out }, told, end }
 }
 
 fn answer<A: Into<Answer>>(reader: &mut Reader, name: &OsStr, form: Form, accepted: impl Fn(&Reading<&[u8]>) -> A) -> Answer {
@@ -170,16 +181,17 @@ fn answer<A: Into<Answer>>(reader: &mut Reader, name: &OsStr, form: Form, accept
     let text = match text_of(name) {
         Ok(text) => text,
         Err(error) => {
-            let out = if let Form::Json = form { json::error(&shown, &error) } else { String::new() };
+            let out = if let Form::Json = form { json::error(&shown, &error, reader.edition()) } else { String::new() };
             return Answer { out, told: format!("sindvaelo: {shown}: {error}\n"), end: End::Error };
         }
     };
+    let edition = reader.edition();
     match reader.read(&text) {
         Ok(reading) => accepted(&reading).into(),
         Err(refusal) => {
             let out = match form {
                 Form::Words => format!("refused {} {}\n", refusal.number(), refusal.line().unwrap_or(0)),
-                Form::Json => json::refused(&shown, &refusal),
+                Form::Json => json::refused(&shown, &refusal, edition),
                 Form::Picture => String::new(),
             };
             Answer { out, told: format!("{shown}: {refusal}\n{}", words::marked(&text, &refusal)), end: End::Refused }
@@ -187,8 +199,8 @@ fn answer<A: Into<Answer>>(reader: &mut Reader, name: &OsStr, form: Form, accept
     }
 }
 
-fn one<A: Into<Answer>>(name: &OsStr, form: Form, accepted: impl Fn(&Reading<&[u8]>) -> A) -> End {
-    let Answer { out, told, end } = answer(&mut Reader::new(), name, form, accepted);
+fn one<A: Into<Answer>>(name: &OsStr, form: Form, edition: Edition, accepted: impl Fn(&Reading<&[u8]>) -> A) -> End {
+    let Answer { out, told, end } = answer(&mut Reader::with_edition(edition), name, form, accepted);
     let put = put(&out);
     eprint!("{told}");
     end.max(put)

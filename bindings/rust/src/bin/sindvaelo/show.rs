@@ -2,7 +2,7 @@
 //!
 //! Lengths are in pixels. A staff's lines stand 10 apart; heights count downwards from its lowest line, places on it upwards in steps of 5.
 use crate::words;
-use sindvaelo::{Barline, BeamState, Duration, KeySignature, Kind, Lyric, Measure, Note, Part, Pitch, Reading, Syllabic, TimeSignature, TupletBoundary, VoltaKind};
+use sindvaelo::{Barline, BeamState, Duration, Edition, KeySignature, Kind, Lyric, Measure, Note, Part, Pitch, Reading, Syllabic, TimeSignature, TupletBoundary, VoltaKind};
 use std::collections::BTreeMap;
 use std::fmt::Write;
 
@@ -1111,7 +1111,7 @@ fn part(number: usize, part: &Part, y: f64) -> (String, f64, f64) {
 }
 
 /// The whole picture.
-pub fn picture(reading: &Reading<&[u8]>) -> String {
+pub fn picture(reading: &Reading<&[u8]>, edition: Edition) -> String {
     let mut body = String::new();
     let (mut y, mut wide) = (10.0, WIDTH);
     for (i, each) in reading.parts().enumerate() {
@@ -1127,8 +1127,7 @@ pub fn picture(reading: &Reading<&[u8]>) -> String {
         }
     }
     let _ = writeln!(body, r#"<text x="{LEFT}" y="{:.1}" font-size="11" fill="{FAINT}">{legend}</text>"#, y + 8.0);
-    let commit = format!("read by sindvaelo {}, commit {}", sindvaelo::VERSION, sindvaelo::COMMIT);
-    let _ = writeln!(body, r##"<text x="{LEFT}" y="{:.1}" font-size="12" fill="#111">{}</text>"##, y + 26.0, escape(&commit));
+    let _ = writeln!(body, r##"<text x="{LEFT}" y="{:.1}" font-size="12" fill="#111">{}</text>"##, y + 26.0, escape(&words::read_by(edition)));
     y += 40.0;
     format!(
         "<?xml version=\"1.0\" encoding=\"UTF-8\"?>\n<svg xmlns=\"http://www.w3.org/2000/svg\" width=\"{wide:.0}\" height=\"{y:.0}\" viewBox=\"0 0 {wide:.0} {y:.0}\" \

@@ -1,6 +1,6 @@
 //! The reading laid out in columns.
 use crate::words;
-use sindvaelo::{BeamState, Kind, Note, Reading, Syllabic, TupletBoundary, VoltaKind};
+use sindvaelo::{BeamState, Edition, Kind, Note, Reading, Syllabic, TupletBoundary, VoltaKind};
 
 /// Ties, slurs, beams, tuplets and graces in words.
 fn marks(note: &Note) -> String {
@@ -53,7 +53,7 @@ fn syllable(lyric: &sindvaelo::Lyric) -> String {
     format!("{before}{text}{behind}{}", if lyric.extend { "_" } else { "" })
 }
 
-pub fn read(reading: &Reading<&[u8]>) -> String {
+pub fn read(reading: &Reading<&[u8]>, edition: Edition) -> String {
     let mut out = String::new();
     let parts = reading.parts().len();
     for (p, part) in reading.parts().enumerate() {
@@ -120,5 +120,5 @@ pub fn read(reading: &Reading<&[u8]>) -> String {
             out.push('\n');
         }
     }
-    out + &format!("read by sindvaelo {}, commit {}\n", sindvaelo::VERSION, sindvaelo::COMMIT)
+    out + &format!("{}\n", words::read_by(edition))
 }

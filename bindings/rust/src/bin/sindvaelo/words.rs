@@ -1,6 +1,15 @@
 //! What a person is told: names of values and pitches, counts, the line that brought a refusal about.
-use sindvaelo::{Barline, Duration, KeySignature, Mode, Note, Part, Pitch, Reading, Refusal, Step, VoltaBracket};
+use sindvaelo::{Barline, Duration, Edition, KeySignature, Mode, Note, Part, Pitch, Reading, Refusal, Step, VoltaBracket};
 use std::fmt::Write;
+
+/// What a quote bears.
+pub fn read_by(edition: Edition) -> String {
+    let edition = match edition {
+        Edition::First => "",
+        Edition::Abc21 => ", edition 2.1",
+    };
+    format!("read by sindvaelo {}, commit {}{edition}", sindvaelo::VERSION, sindvaelo::COMMIT)
+}
 
 /// What a price list charges for in a part.
 pub struct Counts {

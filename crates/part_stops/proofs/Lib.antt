@@ -1,0 +1,4 @@
+pub mod Fronts
+pub mod Forward
+pub mod Backward
+pub mod Bars
