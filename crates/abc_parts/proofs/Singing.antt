@@ -7,22 +7,30 @@ use lib.ListN.{replicate}
 use Rattle.editions.specs.declared.Edition.{Edition}
 use Rattle.editions.specs.declared.Edition.the-variants.{First, Second}
 use Rattle.reader.specs.State as reader
+use Rattle.reader.specs.State.{Note}
+use Rattle.part_layout.specs.Log.{Head}
 use Rattle.reader.specs.Lyrics.{sungIn}
 use Rattle.part_layout.specs.Ends.{takersIn}
 use Rattle.part_rows.specs.Table.{Only}
 use Rattle.part_rows.proofs.Tables.{only-none, only-wider, only-then}
 use Rattle.part_registers.specs.declared.Tables.{Tables}
-use Rattle.part_stops.specs.Stops.{Stopped}
+use Rattle.part_stops.specs.Stops.{InTable, Stopped}
 use Rattle.lyrics.specs.Sheet.{lyricStopWidth, lyricRowWidth}
 use Rattle.lyrics.specs.Items.{linesIn, rowsOf, Fits}
 use Rattle.lyrics.proofs.Items.{lines-front}
 use Rattle.lyric_stops.specs.declared.Stops.{Stops}
+use Rattle.lyric_lines.specs.Lines.{Known}
 use Rattle.lyric_items.specs.Items.{AllSung}
 use Rattle.write_notes.specs.declared.PartTables.{PartTables}
 use Rattle.abc_parts.specs.declared.Ended.{Ended}
-use Rattle.abc_parts.specs.Parts.{sheetAt, stopsAt, StopsPut, PartSung}
+use Rattle.abc_parts.specs.Parts.{sheetAt, stopsAt, HoldsNotes, PartSung}
 
--- STOPS: none in the first edition
+-- THE STOPS OF ITS NOTES ARE WRITTEN, where the edition asks for them
+pub record StopsPut (ed : Edition) (s s′ : List ℕ) (d : PartTables) (t : Stops) : Type 0 where
+  pub only : InTable t s s′
+  pub known : (ms : List Head) (log : List (ℕ × Note)) → HoldsNotes s d ms log → Known ed s′ t (takersIn 0 ms log)
+
+-- none in the first edition
 pub put-first : (s : List ℕ) (d : PartTables) (t : Stops) → StopsPut First s s d t
 put-first s d t = record { only = only-none (t .at) (t .at + lyricStopWidth * t .count) s; known = λ ms log x. tt }
 

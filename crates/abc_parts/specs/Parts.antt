@@ -17,9 +17,8 @@ use Rattle.lyrics.specs.declared.Sheet.{Sheet}
 use Rattle.lyrics.specs.Sheet.{lyricHeadWidth, lyricStopWidth, lyricRowWidth, Kept, Outside, syllablesIn}
 use Rattle.lyrics.specs.Items.{linesIn, rowsOf, Fits}
 use Rattle.lyric_stops.specs.declared.Stops.{Stops}
-use Rattle.lyric_bars.specs.Stands.{stopsOf}
-use Rattle.lyric_items.specs.Items.{Known}
-use Rattle.part_stops.specs.Stops.{InTable, Ready, Holds}
+use Rattle.lyric_lines.specs.Stands.{stopsOf}
+use Rattle.part_stops.specs.Stops.{Ready, Holds}
 use Rattle.write_notes.specs.declared.PartTables.{PartTables}
 use Rattle.write_notes.specs.Tables.{Represents}
 use Rattle.part_registers.specs.declared.Tables.{Tables}
@@ -57,11 +56,6 @@ pub record PartRead (ed : Edition) (text s : List ℕ) (n p : ℕ) (header : Key
   pub sheet : Fits text s′ n p (sheetAt t (d .sounded) 0)
   pub same-items : itemsIn text s′ n ≡ itemsIn text s n
   pub same-length : length s′ ≡ length s
-
--- THE STOPS OF ITS NOTES ARE WRITTEN, where the edition asks for them
-pub record StopsPut (ed : Edition) (s s′ : List ℕ) (d : PartTables) (t : Stops) : Type 0 where
-  pub only : InTable t s s′
-  pub known : (ms : List Head) (log : List (ℕ × Note)) → HoldsNotes s d ms log → Known ed s′ t (takersIn 0 ms log)
 
 -- ITS LYRICS ARE SUNG, in c rows
 pub record PartSung (ed : Edition) (text s s′ : List ℕ) (n p : ℕ) (t : Tables) (d : Ended) (c : ℕ) : Type 0 where

@@ -10,7 +10,7 @@ ghost use Rattle.scan_table.specs.Rows.{itemsIn};
 ghost use Rattle.lyrics.specs.Items.{Fits};
 ghost use Rattle.store_sections.specs.Writes.{WroteIs};
 ghost use Rattle.part_sizing.specs.Room.{PartRoom, Sized};
-ghost use Rattle.abc_parts.specs.Parts.{sheetAt, stopsAt, StopsReady, PartRead, StopsPut, PartSung};
+ghost use Rattle.abc_parts.specs.Parts.{sheetAt, stopsAt, StopsReady, PartRead, PartSung};
 use editions::Edition;
 use field_keys::Key;
 use lyric_stops::Stops;
@@ -63,17 +63,6 @@ fn read_part(
     }
 }
 
-// The stops of the part's notes, which the second edition asks for.
-fn put_stops(edition: Edition, scratch: &mut [u8], d: PartTables, stops: Stops)
-    requires { ⌜ StopsReady (now scratch) d stops ⌝ }
-    ensures { λ _. ⌜ StopsPut edition (now (scratch .entry)) (now (scratch .exit)) d stops ⌝ }
-{
-    if let Edition::First = edition {
-        return;
-    }
-    part_stops::write_stops(scratch, d.measures.at, d.measures.count, d.notes.at, stops);
-}
-
 // The part's lyric lines, sung to its notes: the sheet stands where the accidentals in force stood, which are over.
 fn sing_part(
     edition: Edition,
@@ -91,21 +80,56 @@ fn sing_part(
     let sounded = d.sounded;
     let at = heads + lyrics::HEAD * sounded;
     let log = at + lyric_stops::STOP * sounded;
-    let tables = d.tables;
-    let stops = Stops { at, count: sounded };
-    put_stops(edition, scratch, tables, stops);
-    let sheet = Sheet {
-        heads,
-        sounded,
-        log,
-        count: 0,
-    };
-    let count = lyric_items::apply_abc_lyrics(edition, text, scratch, n, part, sheet);
-    Sheet {
-        heads,
-        sounded,
-        log,
-        count,
+    match edition {
+        Edition::First => {
+            let sheet = Sheet {
+                heads,
+                sounded,
+                log,
+                count: 0,
+            };
+            let count = lyric_items::apply_abc_lyrics(
+                Edition::First,
+                text,
+                scratch,
+                n,
+                part,
+                sheet,
+            );
+            Sheet {
+                heads,
+                sounded,
+                log,
+                count,
+            }
+        }
+        Edition::Second => {
+            let tables = d.tables;
+            let measures = tables.measures;
+            let notes = tables.notes;
+            let stops = Stops { at, count: sounded };
+            part_stops::write_stops(scratch, measures.at, measures.count, notes.at, stops);
+            let sheet = Sheet {
+                heads,
+                sounded,
+                log,
+                count: 0,
+            };
+            let count = lyric_items::apply_abc_lyrics(
+                Edition::Second,
+                text,
+                scratch,
+                n,
+                part,
+                sheet,
+            );
+            Sheet {
+                heads,
+                sounded,
+                log,
+                count,
+            }
+        }
     }
 }
 

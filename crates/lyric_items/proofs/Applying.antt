@@ -29,30 +29,18 @@ use Rattle.lyric_stops.proofs.Table.{stops-same}
 use Rattle.lyrics.specs.declared.Sheet.{Sheet}
 use Rattle.lyrics.specs.declared.Line.{Line}
 use Rattle.lyrics.specs.Sheet.{lyricHeadWidth, lyricStopWidth, lyricRowWidth, stopsFrom, withCount, sungFrom, headOf, headsIn, syllablesIn, Kept, Outside}
-use Rattle.lyrics.specs.Lines as first
 use Rattle.lyrics.specs.Lines.{rowsFor, LineFits}
 use Rattle.lyrics.specs.Items.{isLine, lineIn, lineOf, linesIn, rowsOf, Fits}
 use Rattle.lyrics.proofs.Sheets.{outside-none, outside-next}
 use Rattle.lyrics.proofs.Items.{item-words, item-part, lines-more, lines-front}
-use Rattle.lyric_bars.specs.Stands.{stopsOf}
-use Rattle.lyric_bars.specs.Lines as second
-use Rattle.lyric_items.specs.Items.{Known, LineFrom, LineSung, ItemFits, ItemSung, AllSung}
+use Rattle.lyric_lines.specs.Stands.{stopsOf}
+use Rattle.lyric_lines.specs.Lines.{Known, LineSung}
+use Rattle.lyric_items.specs.Items.{LineFrom, ItemFits, ItemSung, AllSung}
 
 -- WHAT IS KNOWN OF MEASURES, where the stops stay
 known-same : (ed : Edition) (s t : List ℕ) (q : Stops) → stopsIn t q ≡ stopsIn s q → (ms : List (List ℕ)) → Known ed s q ms → Known ed t q ms
 known-same First s t q e ms k = tt
 known-same Second s t q e ms k = record { hints = subst Hints (sym e) (k .hints); bars = ap (λ (xs : List Stop). leftFrom xs 0) e ∙ k .bars }
-
--- A LINE by the rules of its edition
-pub line-first : (text s t : List ℕ) (h : Sheet) (l : Line) (n : ℕ) → first.LineSung text s t h l n → LineSung First text s t h l n
-unfolding sungIn sungBy
-line-first text s t h l n x =
-    record { kept = x .kept; known = λ ms k. tt; sung = λ ms k. x .sung; more = x .more; room = x .room; outside = x .outside }
-
-pub line-second : (text s t : List ℕ) (h : Sheet) (l : Line) (n : ℕ) → second.LineSung text s t h l n → LineSung Second text s t h l n
-unfolding sungIn sungByBars
-line-second text s t h l n x =
-    record { kept = x .kept; known = known-same Second s t (stopsOf h) (x .stops); sung = x .sung; more = x .more; room = x .room; outside = x .outside }
 
 -- no line, and one after the other
 sung-none : (ed : Edition) (ms : List (List ℕ)) (notes : List (List Syllable)) → sungIn ed ms [] notes ≡ notes
@@ -134,7 +122,7 @@ module _ (ed : Edition) (text s : List ℕ) (p i : ℕ) (h : Sheet) (r : items.R
     line-item t n x =
         record {
           kept = x .kept;
-          known = x .known;
+          known = known-same ed s t (stopsOf h) (x .stops);
           sung = λ ms k.
               x .sung ms k
               ∙ (λ j. sungIn ed ms (record { start = (f .start ∙ is .unit) j; verse = (f .verse ∙ is .b) j; text = same-text j } ∷ []) (syllablesIn text s h))

@@ -1,28 +1,18 @@
 -- THE LYRIC LINES OF A PART, among the items of the line table, sung in either edition.
 use Prim.Native.Nat.{ℕ, _+_, _-_, _*_, _≤_, _<_, _^_}
 use mathlib.Core.Path.{_≡_}
-use mathlib.Core.List.{List, [], _∷_}
+use mathlib.Core.List.{List}
 use lib.ListN.{length}
-use Rattle.laws.specs.Bytes.{between}
 use Rattle.editions.specs.declared.Edition.{Edition}
-use Rattle.editions.specs.declared.Edition.the-variants.{First, Second}
-use Rattle.reader.specs.State as reader
 use Rattle.reader.specs.Lyrics.{Syllable, sungIn}
 use Rattle.scan_table.specs.declared.Row as items
 use Rattle.scan_table.specs.Rows.{itemRowWidth, rowFrom, itemAt}
-use Rattle.lyric_stops.specs.declared.Stops.{Stops}
-use Rattle.lyric_stops.specs.Stops.{StopsAre}
 use Rattle.lyrics.specs.declared.Sheet.{Sheet}
 use Rattle.lyrics.specs.declared.Line.{Line}
 use Rattle.lyrics.specs.Sheet.{lyricRowWidth, withCount, Kept, Outside, syllablesIn}
-use Rattle.lyrics.specs.Lines.{rowsFor}
 use Rattle.lyrics.specs.Items.{lineOf, linesIn, rowsOf}
-use Rattle.lyric_bars.specs.Stands.{stopsOf}
-
--- measures, each by its notes that take a syllable: the first edition asks for none; the second for those whose stops the table is
-abbrev pub Known : Edition → List ℕ → Stops → List (List ℕ) → Type 0
-Known First s t ms = Unit {0}
-Known Second s t ms = StopsAre s t ms
+use Rattle.lyric_lines.specs.Stands.{stopsOf}
+use Rattle.lyric_lines.specs.Lines.{Known}
 
 -- a line's fields are those of its item
 pub record LineFrom (r : items.Row) (l : Line) : Type 0 where
@@ -31,19 +21,6 @@ pub record LineFrom (r : items.Row) (l : Line) : Type 0 where
   pub low : l .at ≡ r .at
   pub high : l .end ≡ r .end
   pub near : l .start < 2 ^ 32
-
--- a line as the reader has it
-abbrev pub asLine : List ℕ → Line → reader.Sung
-asLine text l = record { start = l .start; verse = l .verse; text = between text (l .at) (l .end) }
-
--- a line was sung; n rows are now written
-pub record LineSung (ed : Edition) (text s t : List ℕ) (h : Sheet) (l : Line) (n : ℕ) : Type 0 where
-  pub kept : Kept t (withCount h n)
-  pub known : (ms : List (List ℕ)) → Known ed s (stopsOf h) ms → Known ed t (stopsOf h) ms
-  pub sung : (ms : List (List ℕ)) → Known ed s (stopsOf h) ms → syllablesIn text t (withCount h n) ≡ sungIn ed ms (asLine text l ∷ []) (syllablesIn text s h)
-  pub more : h .count ≤ n
-  pub room : n ≤ h .count + rowsFor (l .end - l .at)
-  pub outside : Outside s t (h .heads) (h .log + lyricRowWidth * n)
 
 -- item i stands before the tables, and there is room for its rows
 pub record ItemFits (text s : List ℕ) (p i : ℕ) (h : Sheet) : Type 0 where

@@ -3,23 +3,11 @@ ghost use Prim.Native.Nat.{_+_, _*_, _<_};
 ghost use mathlib.Core.List.{[]};
 ghost use lib.ListN.{replicate};
 ghost use Rattle.lyrics.specs.Sheet.{withCount, syllablesIn, Kept};
-ghost use Rattle.lyrics.specs.Lines.{LineFits};
 ghost use Rattle.lyrics.specs.Items.{Fits};
-ghost use Rattle.lyric_items.specs.Items.{LineFrom, LineSung, ItemFits, ItemSung, AllSung};
+ghost use Rattle.lyric_items.specs.Items.{LineFrom, ItemFits, ItemSung, AllSung};
 use editions::Edition;
 use lyrics::Line;
 use lyrics::Sheet;
-
-// A line by the rules of the edition. Answers how many rows are written.
-fn sing_line(edition: Edition, text: &[u8], scratch: &mut [u8], sheet: Sheet, line: Line) -> usize
-    requires { ⌜ LineFits (now text) (now scratch) sheet line ⌝ }
-    ensures { λ r. ⌜ LineSung edition (now (text .entry)) (now (scratch .entry)) (now (scratch .exit)) sheet line r ⌝ }
-{
-    match edition {
-        Edition::First => lyrics::sing_line(text, scratch, sheet, line),
-        Edition::Second => lyric_bars::sing_line(text, scratch, sheet, line),
-    }
-}
 
 // The lyric line of an item: its verse and its first note stand in its row since the part was read.
 fn line_of(item: scan_table::Row) -> Line
@@ -53,7 +41,7 @@ fn sing_item(
         return sheet.count;
     }
     let line = line_of(item);
-    sing_line(edition, text, scratch, sheet, line)
+    lyric_lines::sing_line(edition, text, scratch, sheet, line)
 }
 
 // The lyric lines of a part, which are among the first n items, in order.

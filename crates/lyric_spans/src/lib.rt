@@ -126,6 +126,9 @@ pub fn next_start(text: &[u8], at: usize, end: usize) -> usize
     requires { ⌜ (at ≤ end) × (end ≤ length (now text)) ⌝ }
     ensures { λ r. ⌜ WordStart (now (text .entry)) at end r ⌝ }
 {
+    if at == end {
+        return end;
+    }
     if end - at < 2 {
         return word_start(text, at, end);
     }

@@ -44,10 +44,6 @@ module _ (xs : List Stop) where
           let out : length xs ≤ j = omega arith in
           absurd (n (ap (λ (x : Stop). x .kind) (List·getD-eq-default xs noStop out)))
 
-  -- behind the last note none is passed over
-  pub kind-over : (j : ℕ) → length xs ≤ j → kindAt xs j ≡ passedKind → ⊥
-  kind-over j h e = absurd (omega (arith, e, ap (λ (x : Stop). x .kind) (List·getD-eq-default xs noStop h)))
-
   pub left-here : (j : ℕ) → j < length xs → leftFrom xs j ≡ withNote (kindAt xs j) j (leftFrom xs (j + 1))
   unfolding leftBy
   left-here j h = ap (λ (ys : List Stop). leftBy j (kindsOf ys)) (drop-next xs j noStop h) ∙ ap (λ (i : ℕ). withNote (kindAt xs j) j (leftBy i (kindsOf (drop (j + 1) xs)))) (sym (add-one j))

@@ -7,7 +7,7 @@ use native.Mathlib.Decide.{decLt}
 use native.Mathlib.Nat.{add-zero}
 use native.Mathlib.Omega.{arith}
 use lib.Dec.{eqb}
-use lib.ListN.{getD}
+use lib.ListN.{length, getD, List·getD-eq-default}
 use borrow.Author.Tests.{eqb-true, eq-eqb}
 use Rattle.laws.proofs.Bools.{by-test}
 use Rattle.lyric_stops.specs.declared.Stop.{Stop}
@@ -15,6 +15,10 @@ use Rattle.lyric_stops.specs.declared.Stops.{Stops}
 use Rattle.lyric_stops.specs.Stops.{passedKind, firstKind, farthest, stopsIn, noStop, kindAt, passedPlace, backOf, Hints}
 use Rattle.lyric_stops.specs.Walks.{TakerFrom, FirstFrom}
 use Rattle.lyric_stops.proofs.Table.{stop-over}
+
+-- behind the last note none is passed over
+pub kind-over : (xs : List Stop) (j : ℕ) → length xs ≤ j → kindAt xs j ≡ passedKind → ⊥
+kind-over xs j h e = absurd (omega (arith, e, ap (λ (x : Stop). x .kind) (List·getD-eq-default xs noStop h)))
 
 -- a note that is no first is there
 note-in : (s : List ℕ) (t : Stops) (j : ℕ) → (kindAt (stopsIn s t) j ≡ firstKind → ⊥) → j < t .count
@@ -36,6 +40,7 @@ pub record Seeking (xs : List Stop) (from j : ℕ) (x : Stop) : Type 0 where
 -- to a note that takes a syllable
 pub record ToTaker (xs : List Stop) (from j : ℕ) (x : Stop) : Type 0 where
   pub at : Seeking xs from j x
+  pub high : (b : ℕ) → from ≤ b → length xs + farthest ≤ b → j ≤ b
   pub passed : Hints xs → (k : ℕ) → from ≤ k → k < j → kindAt xs k ≡ passedKind
 
 -- there is a note to go on from
@@ -44,18 +49,26 @@ taker-in s t from j x v e = note-in s t j (λ f. absurd (omega (arith, e, f, ap 
 
 module _ (xs : List Stop) (from : ℕ) where
   pub taker-start : (x : Stop) → (x ≡ getD xs from noStop) × (1 ≤ x .distance) × (x .distance ≤ farthest) × (x .kind < 4) → ToTaker xs from from x
-  taker-start x e = record { at = record { is = e .0; one = e .1; near = e .2; low = omega arith }; passed = λ h k l m. absurd (omega arith) }
+  taker-start x e = record { at = record { is = e .0; one = e .1; near = e .2; low = omega arith }; high = λ b l m. l; passed = λ h k l m. absurd (omega arith) }
 
   module _ (j : ℕ) (x : Stop) (v : ToTaker xs from j x) where
     pub taker-on : x .kind ≡ passedKind → (y : Stop) → (y ≡ getD xs (j + x .distance) noStop) × (1 ≤ y .distance) × (y .distance ≤ farthest) × (y .kind < 4) → ToTaker xs from (j + x .distance) y
     taker-on e y f =
         record {
           at = record { is = f .0; one = f .1; near = f .2; low = omega (arith, v .at .low) };
+          high = λ b l m. omega (arith, m, inside, v .at .near);
           passed = λ h k l m. go h k l m (decLt k j);
         }
       where
         here : kindAt xs j ≡ passedKind
         here = ap (λ (z : Stop). z .kind) (sym (v .at .is)) ∙ e
+
+        inside : j < length xs
+        inside = in-table (decLt j (length xs))
+          where
+            in-table : Dec (j < length xs) → j < length xs
+            in-table (yes b) = b
+            in-table (no b) = let out : length xs ≤ j = omega arith in absurd (kind-over xs j out here)
 
         step : x .distance ≡ getD xs j noStop .distance
         step = ap (λ (z : Stop). z .distance) (v .at .is)
@@ -65,7 +78,7 @@ module _ (xs : List Stop) (from : ℕ) where
         go h k l m (no b) = h .over-passed j k here (omega arith) (omega (arith, step))
 
     pub taker-end : (x .kind ≡ passedKind → ⊥) → TakerFrom xs from j
-    taker-end n = record { low = v .at .low; here = λ e. n (ap (λ (z : Stop). z .kind) (v .at .is) ∙ e); passed = v .passed }
+    taker-end n = record { low = v .at .low; here = λ e. n (ap (λ (z : Stop). z .kind) (v .at .is) ∙ e); passed = v .passed; near = v .high }
 
 -- to the first note of a measure
 pub record ToFirst (xs : List Stop) (from j : ℕ) (x : Stop) : Type 0 where

@@ -199,7 +199,7 @@ pub fn first_cursor(text: &[u8], at: usize, end: usize) -> Cursor
     requires { ⌜ (at ≤ end) × (end ≤ length (now text)) ⌝ }
     ensures { λ r. ⌜ First (now (text .entry)) at end r ⌝ }
 {
-    let start = lyric_spans::word_start(text, at, end);
+    let start = lyric_spans::next_start(text, at, end);
     Cursor {
         at: start,
         word: start,

@@ -1,3 +1,3 @@
 pub mod Sheets
-pub mod Singing
+pub mod Rows
 pub mod Items

@@ -1,13 +1,10 @@
 // The syllables of a part in scratch: for each note that sounds a chain of rows, the newest first, each a syllable or a hold of the one before it.
-// Rows are only ever added, so no chain is changed by what is added to another. And a lyric line of the first edition.
+// Rows are only ever added, so no chain is changed by what is added to another.
 ghost use Prim.Native.Nat.{_+_, _*_, _^_, _≤_, _<_};
 ghost use mathlib.Core.Path.{_≡_};
 ghost use lib.ListN.{length};
 ghost use Rattle.laws.specs.Bytes.{splice};
-ghost use Rattle.lyric_words.specs.Words.{Small};
-ghost use Rattle.lyric_words.specs.declared.Token.the-variants as Token;
 ghost use Rattle.lyrics.specs.Sheet.{lyricRowWidth, rowBytes, Room, RowAppended};
-ghost use Rattle.lyrics.specs.Lines.{WordSung, LineFits, LineSung};
 
 // The number of a hold, in a row, where a syllable has its syllabic's.
 pub const HOLD: u8 = 4;
@@ -51,12 +48,6 @@ pub struct Line {
     pub end: usize,
 }
 
-// How many notes a line has taken, and how many rows are written.
-pub struct Sung {
-    pub taken: usize,
-    pub count: usize,
-}
-
 // Writes a row, before which stands the row `next`.
 fn put_row(scratch: &mut [u8], at: usize, row: Row, next: u32)
     requires { ⌜ at + lyricRowWidth ≤ length (now scratch) ⌝ }
@@ -81,112 +72,4 @@ pub fn append_row(scratch: &mut [u8], sheet: Sheet, note: usize, row: Row) -> us
         return sheet.count + 1;
     }
     sheet.count
-}
-
-// A hold: it takes a note, and holds the syllable of the note before.
-fn sing_hold(scratch: &mut [u8], sheet: Sheet, line: Line, taken: usize) -> Sung
-    requires { ⌜ (Room (now scratch) sheet) × (line .start + taken + 1 < 2 ^ 64) ⌝ }
-    ensures { λ r. ⌜ WordSung (now (scratch .entry)) (now (scratch .exit)) sheet line taken Token.Hold r ⌝ }
-{
-    if taken == 0 {
-        return Sung {
-            taken: 1,
-            count: sheet.count,
-        };
-    }
-    let row = Row {
-        verse: line.verse,
-        code: HOLD,
-        at: 0,
-        end: 0,
-    };
-    let count = append_row(scratch, sheet, line.start + taken - 1, row);
-    Sung {
-        taken: taken + 1,
-        count,
-    }
-}
-
-// A syllable on the next note; a later one of the same verse replaces it.
-fn sing_syllable(
-    scratch: &mut [u8],
-    sheet: Sheet,
-    line: Line,
-    taken: usize,
-    at: usize,
-    end: usize,
-    code: u8,
-) -> Sung
-    requires { ⌜ (Room (now scratch) sheet) × (line .start + taken + 1 < 2 ^ 64) × (at < 2 ^ 32) × (end < 2 ^ 32) × (code < 4) ⌝ }
-    ensures { λ r. ⌜ WordSung (now (scratch .entry)) (now (scratch .exit)) sheet line taken (Token.Syllable at end code) r ⌝ }
-{
-    let row = Row {
-        verse: line.verse,
-        code,
-        at: at as u32,
-        end: end as u32,
-    };
-    let count = append_row(scratch, sheet, line.start + taken, row);
-    Sung {
-        taken: taken + 1,
-        count,
-    }
-}
-
-// One word, or one syllable of a word.
-fn sing_token(
-    scratch: &mut [u8],
-    sheet: Sheet,
-    line: Line,
-    taken: usize,
-    token: lyric_words::Token,
-) -> Sung
-    requires { ⌜ (Room (now scratch) sheet) × (line .start + taken + 1 < 2 ^ 64) × (Small 4294967295 token) ⌝ }
-    ensures { λ r. ⌜ WordSung (now (scratch .entry)) (now (scratch .exit)) sheet line taken token r ⌝ }
-{
-    match token {
-        lyric_words::Token::Bar => Sung {
-            taken,
-            count: sheet.count,
-        },
-        lyric_words::Token::Skip => Sung {
-            taken: taken + 1,
-            count: sheet.count,
-        },
-        lyric_words::Token::Hold => sing_hold(scratch, sheet, line, taken),
-        lyric_words::Token::Syllable(at, end, code) => sing_syllable(
-            scratch,
-            sheet,
-            line,
-            taken,
-            at,
-            end,
-            code,
-        ),
-    }
-}
-
-// The words of a lyric line on the notes from its first on. Answers how many rows are written.
-pub fn sing_line(text: &[u8], scratch: &mut [u8], sheet: Sheet, line: Line) -> usize
-    requires { ⌜ LineFits (now text) (now scratch) sheet line ⌝ }
-    ensures { λ r. ⌜ LineSung (now (text .entry)) (now (scratch .entry)) (now (scratch .exit)) sheet line r ⌝ }
-{
-    let mut cursor = lyric_words::first_cursor(text, line.at, line.end);
-    let mut taken: usize = 0;
-    let mut count = sheet.count;
-    while cursor.at < line.end {
-        let read = lyric_words::abc_lyric_token(text, cursor, line.end);
-        let token = read.token;
-        let now = Sheet {
-            heads: sheet.heads,
-            sounded: sheet.sounded,
-            log: sheet.log,
-            count,
-        };
-        let sung = sing_token(scratch, now, line, taken, token);
-        taken = sung.taken;
-        count = sung.count;
-        cursor = read.cursor;
-    }
-    count
 }
