@@ -1,7 +1,7 @@
 /* The tune reader, for C. Link target/staticlib/libabc.a, which `rt staticlib abc` writes.
  *
- * abc_parse reads a text into a store of the caller's, abc_parse_2_1 does so in the second edition; abc_played lists the measures of one part of that reading as they are played; abc_is_whole tests bytes
- * that were kept. Each call allocates nothing, keeps nothing, never fails otherwise than by its answer, and may be made from several threads at once with stores
+ * abc_parse reads a text into a store of the caller's, abc_parse_2_1 does so in the second edition, which is ABC 2.1's in some things; abc_played lists the measures of one part of either reading as they are played;
+ * abc_is_whole tests bytes that were kept. Each call allocates nothing, keeps nothing, never fails otherwise than by its answer, and may be made from several threads at once with stores
  * of their own. Whatever the stores held before does not matter. */
 #ifndef ABC_H
 #define ABC_H
@@ -32,7 +32,7 @@ uint64_t abc_version(void);
 #define ABC_READING_BYTES(n) ((size_t)23 * (size_t)(n))
 #define ABC_SCRATCH_BYTES(n) ((size_t)32 * ((size_t)(n) + 256))
 
-/* Reads a text. The answer is the reading's length in bytes; or it has ABC_REFUSED set, and is taken apart by the two macros below.
+/* Reads a text, in the first edition. The answer is the reading's length in bytes; or it has ABC_REFUSED set, and is taken apart by the two macros below.
  *
  * Afterwards scratch is all zeros. The reading store holds the reading and then zeros, or, after a refusal, zeros. The three stores must not
  * overlap; a pointer to a store of 0 bytes may be any pointer that is not null. */
@@ -40,7 +40,8 @@ uint64_t abc_parse(const uint8_t *text, size_t text_len, uint8_t *reading, size_
 
 /* THE SECOND EDITION. The same, but by ABC 2.1 in this: the header's key holds for every voice; modes are read (K:Ador), and a key of more than seven sharps or flats is refused with
  * ABC_KEY_BEYOND; tuplets of 5, 7 and 9 go in the time of 3 where the meter's top is divisible by 3, else 2, 6 goes in 2 and 8 in 3; an empty part behind a : of a tuplet takes its default; grace notes take
- * no syllable; a | in a lyric line, as a word of its own, goes on to the first note of a later measure. Stores, answers and limits are abc_parse's. */
+ * no syllable; a | in a lyric line, as a word of its own, goes on to the first note of a later measure, and where there is none the rest of that line lapses. The key mark is 2 for min, aeo and m, 1 for every other mode.
+ * Stores, answers and limits are abc_parse's, and so are its other refusals. */
 uint64_t abc_parse_2_1(const uint8_t *text, size_t text_len, uint8_t *reading, size_t reading_len, uint8_t *scratch, size_t scratch_len);
 
 #define ABC_REFUSED ((uint64_t)1 << 63)
@@ -73,7 +74,7 @@ uint64_t abc_parse_2_1(const uint8_t *text, size_t text_len, uint8_t *reading, s
 #define ABC_SCRATCH_SHORT 15  /* scratch below ABC_SCRATCH_BYTES(text_len) */
 #define ABC_READING_SHORT 16  /* the reading store is shorter than the reading */
 /* those of abc_played, tested in this order */
-#define ABC_NO_SUCH_PART 19   /* the bytes are no whole reading, or it has no part of that number: hand over a reading as abc_parse left it, and a part from 1 to its count of parts */
+#define ABC_NO_SUCH_PART 19   /* the bytes are no whole reading, or it has no part of that number: hand over a reading as abc_parse or abc_parse_2_1 left it, and a part from 1 to its count of parts */
 #define ABC_LIST_SHORT 20     /* the list's store is below ABC_LIST_BYTES(numbers in the list), or the list has over 4,294,967,295 numbers: lend a store twice as long, up to what you can spare */
 
 /* AS IT IS PLAYED. Lists the measures of one part in the order in which a player walks them: repeats, endings by their passes. The reading is a whole one, with its
@@ -88,7 +89,7 @@ uint64_t abc_parse_2_1(const uint8_t *text, size_t text_len, uint8_t *reading, s
 #define ABC_LIST_BYTES(count) ((size_t)4 + (size_t)4 * (size_t)(count))
 uint64_t abc_played(const uint8_t *reading, size_t reading_len, uint32_t part, uint8_t *list, size_t list_len);
 
-/* Whether bytes are a whole reading: counts that match their length and each other, codes in their ranges, every ending that begins ended, zeros behind it. What abc_parse leaves in a
+/* Whether bytes are a whole reading: counts that match their length and each other, codes in their ranges, every ending that begins ended, zeros behind it. What abc_parse or abc_parse_2_1 leaves in a
  * store of four bytes or more is one, a refusal's zeros among them (no parts). Lyric texts may be any bytes, and no text need have this reading. */
 bool abc_is_whole(const uint8_t *reading, size_t reading_len);
 
