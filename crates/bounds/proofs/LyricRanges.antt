@@ -11,14 +11,14 @@ use Rattle.laws.proofs.Bools.{by-test}
 use Rattle.laws.proofs.Lists.{All-append, All-filter, All-alterAt, All-reverse}
 use Rattle.standard.specs.Bytes.{ascii, is, first, last}
 use Rattle.standard.specs.Keys.{Key}
-use Rattle.standard.specs.Lyrics.{Word, skip, hold, syllable, syllableText, syllables, Syllabic, bar}
+use Rattle.standard.specs.Lyrics.{Word, skip, hold, syllable, syllableText, syllables, Syllabic, bar, SungBar, lastOr, placed}
 use Rattle.editions.specs.declared.Edition.{Edition}
 use Rattle.editions.specs.declared.Edition.the-variants.{First, Second}
 use Rattle.reader.specs.Pieces.{pieces, words, separator, whiteAt}
 use Rattle.reader.specs.Scan.{Item}
 use Rattle.reader.specs.State.{Sung, newPart}
 use Rattle.reader.specs.Voltas.{close, closed}
-use Rattle.reader.specs.Lyrics.{Syllable, orSkip, wordOf, wordsOf, lyricWords, put, held, sing, sungBy, heldAt, sungAt, singOn, singBars, sungByBars, sungIn, SungBar, barsFrom, lastOr}
+use Rattle.reader.specs.Lyrics.{Syllable, orSkip, wordOf, wordsOf, lyricWords, put, held, sing, sungBy, heldAt, sungAt, singOn, singBars, sungByBars, sungIn, barsFrom, sungWord, sungEach}
 use Rattle.reader.specs.Part.{onItem, finished, build, emptyPart, takersIn, finishedMeasures}
 use Rattle.bounds.specs.Ranges.{Bytes, VerseFits, SungFits, SyllableFits, StateFits, ItemFits, PartFits}
 use Rattle.bounds.proofs.PartRanges.{items-state, new-part-fits, finished-fit, finished-voltas}
@@ -130,7 +130,7 @@ sung-at-fits v c t i notes l f h =
 
 on-fits : (v : ℕ) (b : Option ℕ) (ws : List Word) (g : List ℕ) (bs : List SungBar) (notes : List (List Syllable)) → VerseFits v → All WordFits ws → All (All SyllableFits) notes
     → All (All SyllableFits) (singOn v b ws g bs notes)
-unfolding singOn WordFits
+unfolding placed sungEach sungWord WordFits
 on-fits v b [] g bs notes l f h = h
 on-fits v b (bar ∷ ws) g [] notes l f h = h
 on-fits v b (bar ∷ ws) g ((i, r) ∷ bs) notes l f h = on-fits v (lastOr b g) ws (i ∷ r) bs notes l (f .1) h

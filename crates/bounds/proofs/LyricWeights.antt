@@ -17,7 +17,7 @@ use Rattle.reader.proofs.PartLaws.{counted-lines}
 use Rattle.standard.specs.Bytes.{ascii, is, first, last}
 use Rattle.standard.specs.Keys.{Key}
 use Rattle.standard.specs.Notes.{isSounded}
-use Rattle.standard.specs.Lyrics.{Word, skip, hold, syllable, syllableText, syllables, Syllabic, bar}
+use Rattle.standard.specs.Lyrics.{Word, skip, hold, syllable, syllableText, syllables, Syllabic, bar, SungBar, lastOr, placed}
 use Rattle.editions.specs.declared.Edition.the-variants.{First, Second}
 use Rattle.reader.specs.Text.{push}
 use Rattle.reader.specs.Pieces.{pieces, words, separator, whiteAt}
@@ -25,7 +25,7 @@ use Rattle.reader.specs.Token.{Token, space, overlay, quoted, broken, tuplet, s
 use Rattle.reader.specs.Tokens.{tokens}
 use Rattle.reader.specs.Scan.{Item, voiceDeclared, reset, keyInHeader, keyChange, meterChange, lyricLine, musicLine}
 use Rattle.reader.specs.State.{PartState, Note, Measure, Sung, Verses, voiceNow, setVoice, onOpen, newPart}
-use Rattle.reader.specs.Lyrics.{Syllable, orSkip, wordOf, wordsOf, lyricWords, put, held, sing, sungBy, heldAt, sungAt, singOn, singBars, sungByBars, sungIn, SungBar, barsFrom, lastOr}
+use Rattle.reader.specs.Lyrics.{Syllable, orSkip, wordOf, wordsOf, lyricWords, put, held, sing, sungBy, heldAt, sungAt, singOn, singBars, sungByBars, sungIn, barsFrom, sungWord, sungEach}
 use Rattle.reader.specs.Part.{onBroken, onNothing, countedIn, append, onSound, onBarline, hears, onToken, lineBegins, onLine, onLyric, onKey, onItem, finished, build, takersIn, finishedMeasures}
 use Rattle.reader.specs.Records.{isSung, lyricsOf}
 use Rattle.bounds.specs.Weights.{Weights, Covered, syllableWeight, wordsWeight, lyricBytes}
@@ -156,7 +156,7 @@ module _ (p : Weights) where
       sum-alter (sum (syllableWeight p)) i (put y) (syllableWeight p y) (put-weight y) notes
 
   on-weight : (v : ℕ) (b : Option ℕ) (ws : List Word) (g : List ℕ) (bs : List SungBar) (notes : List (List Syllable)) → wordsWeight p (singOn v b ws g bs notes) ≤ wordsWeight p notes + sum wordWeight ws
-  unfolding singOn wordWeight
+  unfolding placed sungEach sungWord wordWeight
   on-weight v b [] g bs notes = omega arith
   on-weight v b (bar ∷ ws) g [] notes = omega arith
   on-weight v b (bar ∷ ws) g ((i, h) ∷ bs) notes = omega (arith, on-weight v (lastOr b g) ws (i ∷ h) bs notes)

@@ -7,8 +7,8 @@ use lib.ListN.{length}
 use Rattle.laws.specs.Bytes.{between}
 use Rattle.editions.specs.declared.Edition.{Edition}
 use Rattle.editions.specs.declared.Edition.the-variants.{First, Second}
-use Rattle.standard.specs.Lyrics.{Word}
-use Rattle.reader.specs.Lyrics.{Syllable, SungBar, sing, singOn, singBars, lyricWords, sungBy, sungByBars, sungIn}
+use Rattle.standard.specs.Lyrics.{Word, SungBar, placed}
+use Rattle.reader.specs.Lyrics.{Syllable, sing, singOn, singBars, lyricWords, sungBy, sungByBars, sungIn, sungWord, sungEach}
 use Rattle.lyric_words.specs.declared.Cursor.{Cursor}
 use Rattle.lyric_words.specs.declared.Read.{Read}
 use Rattle.lyric_words.specs.Words as words
@@ -69,7 +69,7 @@ singing-start ed text s h l c p f i b =
 
 -- no word is left
 sung-out : (ed : Edition) (start v : ℕ) (xs : List Stop) (p : Place) (notes : List (List Syllable)) → singAt ed start v xs p [] notes ≡ notes
-unfolding sing singOn
+unfolding sing placed sungEach sungWord
 sung-out First start v xs p notes = refl
 sung-out Second start v xs p notes = refl
 

@@ -10,8 +10,8 @@ use lib.Dec.{eqb}
 use lib.ListN.{length}
 use borrow.Author.Tests.{eqb-true, eqb-false, lt-ltb, le-ltb}
 use Rattle.laws.proofs.Bools.{by-test}
-use Rattle.standard.specs.Lyrics.{Syllabic, Word, skip, hold, bar, syllable}
-use Rattle.reader.specs.Lyrics.{Syllable, SungBar, lastOr, heldAt, sungAt, singOn, singBars, barOf}
+use Rattle.standard.specs.Lyrics.{Syllabic, Word, skip, hold, bar, syllable, SungBar, lastOr, placed}
+use Rattle.reader.specs.Lyrics.{Syllable, heldAt, sungAt, singOn, singBars, barOf, sungWord, sungEach}
 use Rattle.lyrics.proofs.Sheets.{alter-past}
 use Rattle.lyric_stops.specs.declared.Stop.{Stop}
 use Rattle.lyric_stops.specs.Stops.{passedKind, firstKind, kindAt, Left, leftFrom, backOf, noteAt, Hints}
@@ -22,7 +22,7 @@ use Rattle.lyric_lines.specs.Stands.{Stand, On, Taken, Over, beforeOf, l
 
 -- no note is left: words do nothing
 pub lapsed : (v : ℕ) (ws : List Word) (notes : List (List Syllable)) → singOn v none ws [] [] notes ≡ notes
-unfolding singOn heldAt
+unfolding placed sungEach sungWord heldAt
 lapsed v [] notes = refl
 lapsed v (bar ∷ ws) notes = refl
 lapsed v (skip ∷ ws) notes = lapsed v ws notes
@@ -40,20 +40,20 @@ module _ (v : ℕ) (ws : List Word) where
   afterPut c t notes (some x) = singOn v (some (x .0)) ws (x .1 .0) (x .1 .1) (sungAt v c t (x .0) notes)
 
   skip-next : (b : Option ℕ) (g : List ℕ) (bs : List SungBar) (notes : List (List Syllable)) → singOn v b (skip ∷ ws) g bs notes ≡ after notes (nextIn g bs)
-  unfolding singOn nextIn after
+  unfolding placed sungEach sungWord nextIn after
   skip-next b [] [] notes = refl
   skip-next b [] ((i, h) ∷ bs) notes = refl
   skip-next b (i ∷ g) bs notes = refl
 
   hold-next : (b : Option ℕ) (g : List ℕ) (bs : List SungBar) (notes : List (List Syllable)) → singOn v b (hold ∷ ws) g bs notes ≡ after (heldAt v b notes) (nextIn g bs)
-  unfolding singOn nextIn after
+  unfolding placed sungEach sungWord nextIn after
   hold-next b [] [] notes = refl
   hold-next b [] ((i, h) ∷ bs) notes = refl
   hold-next b (i ∷ g) bs notes = refl
 
   put-next : (c : Syllabic) (t : List ℕ) (b : Option ℕ) (g : List ℕ) (bs : List SungBar) (notes : List (List Syllable))
       → singOn v b (syllable c t ∷ ws) g bs notes ≡ afterPut c t notes (nextIn g bs)
-  unfolding singOn nextIn afterPut
+  unfolding placed sungEach sungWord nextIn afterPut
   put-next c t b [] [] notes = refl
   put-next c t b [] ((i, h) ∷ bs) notes = refl
   put-next c t b (i ∷ g) bs notes = refl
@@ -182,7 +182,7 @@ module _ (xs : List Stop) where
         ∙ ap (λ (k : ℕ). noteAt (backOf xs k)) there
 
     pub moved-to : (place : ℕ) → r < length xs → BackFrom xs r place → Moved xs (Taken note) (On r place)
-    unfolding beforeOf leftOf singOn
+    unfolding beforeOf leftOf placed sungEach sungWord
     moved-to place h b =
         record {
           reached = λ e. absurd (omega (arith, e, w .here));
@@ -195,7 +195,7 @@ module _ (xs : List Stop) where
         }
 
     pub moved-over : length xs ≤ r → Moved xs (Taken note) Over
-    unfolding beforeOf leftOf singOn
+    unfolding beforeOf leftOf placed sungEach sungWord
     moved-over h =
         record {
           reached = tt;
@@ -207,7 +207,7 @@ module _ (xs : List Stop) where
   -- where no word has taken it yet
   bar-same : (v : ℕ) (ws : List Word) (b : Option ℕ) (i : ℕ) (g : List ℕ) (bs : List SungBar) (notes : List (List Syllable))
       → singOn v (some i) (bar ∷ ws) g bs notes ≡ singOn v b (bar ∷ ws) (i ∷ g) bs notes
-  unfolding singOn lastOr
+  unfolding placed sungEach sungWord lastOr
   bar-same v ws b i g [] notes = refl
   bar-same v ws b i g ((k, h) ∷ bs) notes = refl
 
@@ -221,5 +221,5 @@ module _ (xs : List Stop) where
 
   -- nowhere
   pub moved-none : Moved xs Over Over
-  unfolding beforeOf leftOf singOn
+  unfolding beforeOf leftOf placed sungEach sungWord
   moved-none = record { reached = tt; sung = λ hints n v ws notes. lapsed v ws notes }

@@ -6,8 +6,8 @@ use mathlib.Core.Option.{Option, none, some}
 use mathlib.Core.List.{List, [], _∷_, _++_}
 use lib.Dec.{ltb}
 use lib.ListN.{length}
-use Rattle.standard.specs.Lyrics.{Word, bar}
-use Rattle.reader.specs.Lyrics.{Syllable, SungBar, singOn, singBars, barOf}
+use Rattle.standard.specs.Lyrics.{Word, bar, SungBar}
+use Rattle.reader.specs.Lyrics.{Syllable, singOn, singBars, barOf}
 use Rattle.lyric_stops.specs.declared.Stop.{Stop}
 use Rattle.lyric_stops.specs.declared.Stops.{Stops}
 use Rattle.lyric_stops.specs.Stops.{passedKind, kindAt, Left, leftFrom, noteAt, Hints, stopsIn}

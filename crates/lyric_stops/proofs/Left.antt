@@ -14,7 +14,8 @@ use borrow.Author.Tests.{eqb-true, eqb-false, ne-eqb, le-leb, lt-leb}
 use Rattle.laws.specs.Lists.{All, filter, concat}
 use Rattle.laws.proofs.Bools.{by-test}
 use Rattle.laws.proofs.Lists.{drop-next, filter-yes, filter-no, filter-whole}
-use Rattle.reader.specs.Lyrics.{SungBar, lastOr, barOf, barsFrom}
+use Rattle.standard.specs.Lyrics.{SungBar, lastOr}
+use Rattle.reader.specs.Lyrics.{barOf, barsFrom}
 use Rattle.lyric_stops.specs.declared.Stop.{Stop}
 use Rattle.lyric_stops.specs.Stops.{passedKind, firstKind, noStop, kindAt, kindsOf, Left, withNote, leftBy, leftFrom, passedPlace, backOf, noteAt}
 use Rattle.lyric_stops.proofs.Walks.{back-here, back-passed}

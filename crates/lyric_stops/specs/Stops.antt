@@ -8,7 +8,8 @@ use mathlib.Core.List.{List, [], _∷_, _++_, map}
 use lib.Dec.{eqb}
 use lib.ListN.{length, getD, drop}
 use Rattle.laws.specs.Bytes.{rows, le16, u16At}
-use Rattle.reader.specs.Lyrics.{SungBar, barsFrom}
+use Rattle.standard.specs.Lyrics.{SungBar}
+use Rattle.reader.specs.Lyrics.{barsFrom}
 use Rattle.bounds.specs.Weights as bounds
 use Rattle.lyric_stops.specs.declared.Stop.{Stop}
 use Rattle.lyric_stops.specs.declared.Stops.{Stops}

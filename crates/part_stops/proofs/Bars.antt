@@ -10,7 +10,8 @@ use Rattle.laws.specs.Lists.{All, sum}
 use Rattle.laws.specs.Bytes.{part}
 use Rattle.laws.proofs.Bools.{by-test}
 use Rattle.reader.specs.State.{Note}
-use Rattle.reader.specs.Lyrics.{SungBar, barOf, barsFrom}
+use Rattle.standard.specs.Lyrics.{SungBar}
+use Rattle.reader.specs.Lyrics.{barOf, barsFrom}
 use Rattle.reader.specs.Records.{isSung, measureWidth}
 use Rattle.lyric_stops.specs.declared.Stops.{Stops}
 use Rattle.lyric_stops.specs.Stops.{passedKind, laterKind, firstKind, Inside, stopsIn, kindsOf, withNote, leftBy, Hints, StopsAre}

@@ -13,10 +13,10 @@ use Rattle.laws.proofs.Bools.{by-test, not-true, or-no-left, or-no-right}
 use Rattle.laws.proofs.Lists.{All-append, All-map, length-alterAt, filter-append, filter-whole, filter-none}
 use Rattle.standard.specs.Bytes.{ascii, is, first, last}
 use Rattle.standard.specs.Passes.{rising}
-use Rattle.standard.specs.Lyrics.{Word, skip, hold, bar, syllable, syllables}
+use Rattle.standard.specs.Lyrics.{Word, skip, hold, bar, syllable, syllables, SungBar, placed}
 use Rattle.reader.specs.Pieces.{words, separator, whiteAt}
 use Rattle.reader.specs.State.{Sung}
-use Rattle.reader.specs.Lyrics.{Syllable, orSkip, wordOf, wordsOf, lyricWords, put, held, sing, sungBy, SungBar, heldAt, sungAt, singOn, singBars, barOf, barsFrom, sungByBars}
+use Rattle.reader.specs.Lyrics.{Syllable, orSkip, wordOf, wordsOf, lyricWords, put, held, sing, sungBy, heldAt, sungAt, singOn, singBars, barOf, barsFrom, sungByBars, sungWord, sungEach}
 use Rattle.promises.specs.Alike.{noBar}
 
 -- WORDS WITHOUT BARS
@@ -71,7 +71,7 @@ flat-on g ((j, h) ∷ bs) = refl
 
 -- without bars it does not matter where a measure ends
 on-row : (v : ℕ) (before : Option ℕ) (ws : List Word) (g : List ℕ) (bs : List SungBar) (ns : List (List Syllable)) → All NotBar ws → singOn v before ws g bs ns ≡ singOn v before ws (flat g bs) [] ns
-unfolding singOn flat
+unfolding placed sungEach sungWord flat
 on-row v before [] g bs ns h = refl
 on-row v before (bar ∷ ws) g bs ns h = absurd (h .0)
 on-row v before (skip ∷ ws) (i ∷ g) bs ns h = on-row v (some i) ws g bs ns (h .1) ∙ sym (ap (λ (l : List ℕ). singOn v before (skip ∷ ws) l [] ns) (flat-cons i g bs))
@@ -86,7 +86,7 @@ on-row v before (syllable c t ∷ ws) [] [] ns h = refl
 
 -- PAST THE LAST NOTE nothing is written
 on-past : (v : ℕ) (ws : List Word) (ns : List (List Syllable)) → singOn v none ws [] [] ns ≡ ns
-unfolding singOn heldAt
+unfolding placed sungEach sungWord heldAt
 on-past v [] ns = refl
 on-past v (bar ∷ ws) ns = refl
 on-past v (skip ∷ ws) ns = on-past v ws ns
@@ -120,7 +120,7 @@ passed start zero = none
 passed start (suc i) = some (start + i)
 
 sing-row : (start v i m : ℕ) (ws : List Word) (ns : List (List Syllable)) → All NotBar ws → length ns ≡ start + i + m → singOn v (passed start i) ws (rising (start + i) m) [] ns ≡ sing start v i ws ns
-unfolding singOn sing rising passed heldAt sungAt
+unfolding placed sungEach sungWord sing rising passed heldAt sungAt
 sing-row start v i m [] ns h e = refl
 sing-row start v i m (bar ∷ ws) ns h e = absurd (h .0)
 sing-row start v i zero (skip ∷ ws) ns h e = on-past v ws ns ∙ sym (sing-past start v i ws ns (omega (arith, e)))

@@ -14,7 +14,7 @@ use Rattle.laws.specs.Lists.{All, any, alterAt, filter, foldl}
 use Rattle.laws.proofs.Bools.{by-test, both-true, eqb-same, and-both, and-no-left}
 use Rattle.laws.proofs.Lists.{All-append, All-alterAt, filter-append, getD-alterAt-other, filter-passes, All-filter, filter-yes, filter-no}
 use Rattle.standard.specs.Keys.{Key}
-use Rattle.standard.specs.Lyrics.{Word, skip, hold, bar, syllable}
+use Rattle.standard.specs.Lyrics.{Word, skip, hold, bar, syllable, SungBar, lastOr, placed}
 use Rattle.standard.specs.Notes.{isSounded}
 use Rattle.editions.specs.declared.Edition.{Edition}
 use Rattle.editions.specs.declared.Edition.the-variants.{First, Second}
@@ -22,7 +22,7 @@ use Rattle.reader.specs.Text.{textLines}
 use Rattle.reader.specs.Steps.{refuse, on, itemsOf}
 use Rattle.reader.specs.Scan.{Item, Env, Out, scan}
 use Rattle.reader.specs.State.{Note, Sung, PartState, Measure, newPart}
-use Rattle.reader.specs.Lyrics.{Syllable, lyricWords, put, held, sing, sungBy, heldAt, singOn, singBars, sungByBars, sungIn, SungBar, barOf, barsFrom, sungAt, lastOr}
+use Rattle.reader.specs.Lyrics.{Syllable, lyricWords, put, held, sing, sungBy, heldAt, singOn, singBars, sungByBars, sungIn, barOf, barsFrom, sungAt, sungWord, sungEach}
 use Rattle.reader.specs.Part.{Part, emptyPart, finished, build, takers, soundedIn, takersIn, finishedMeasures, onItem}
 use Rattle.reader.specs.Records.{isSung, lyricsOf, notesOf, lyrics, tagged, byVoice, allNotes}
 use Rattle.reader.specs.Answer.{reading, isMusic, built, parts, parseAbc}
@@ -99,7 +99,7 @@ held-rise v none ns h = h
 held-rise v (some i) ns h = All-alterAt Rising i (map (held v)) (held-rising v) ns h
 
 on-rise : (v : ℕ) (before : Option ℕ) (ws : List Word) (g : List ℕ) (bs : List SungBar) (ns : List (List Syllable)) → AllRise ns → AllRise (singOn v before ws g bs ns)
-unfolding singOn sungAt
+unfolding placed sungEach sungWord sungAt
 on-rise v before [] g bs ns h = h
 on-rise v before (bar ∷ ws) g [] ns h = h
 on-rise v before (bar ∷ ws) g ((i, k) ∷ bs) ns h = on-rise v (lastOr before g) ws (i ∷ k) bs ns h
@@ -257,7 +257,7 @@ abbrev BarTakes : List (ℕ × Note) → SungBar → Type 0
 BarTakes xs b = Taker xs (b .0) × All (Taker xs) (b .1)
 
 on-only : (xs : List (ℕ × Note)) (v : ℕ) (before : Option ℕ) (ws : List Word) (g : List ℕ) (bs : List SungBar) (ns : List (List Syllable)) → All (Taker xs) g → All (BarTakes xs) bs → Only xs ns → Only xs (singOn v before ws g bs ns)
-unfolding singOn sungAt
+unfolding placed sungEach sungWord sungAt
 on-only xs v before [] g bs ns a b h = h
 on-only xs v before (bar ∷ ws) g [] ns a b h = h
 on-only xs v before (bar ∷ ws) g ((i, k) ∷ bs) ns a b h = on-only xs v (lastOr before g) ws (i ∷ k) bs ns (b .0) (b .1) h

@@ -7,7 +7,7 @@ use mathlib.Core.List.{List, [], _∷_, _++_, map}
 use lib.Dec.{leb, ltb, eqb}
 use Rattle.laws.specs.Lists.{eqText, alterAt, filter, concat}
 use Rattle.standard.specs.Bytes.{ascii, is, first, last}
-use Rattle.standard.specs.Lyrics.{Syllabic, Word, skip, hold, bar, syllable, syllables}
+use Rattle.standard.specs.Lyrics.{Syllabic, Word, skip, hold, bar, syllable, syllables, SungBar, Placed, placed}
 use Rattle.editions.specs.declared.Edition.{Edition}
 use Rattle.editions.specs.declared.Edition.the-variants.{First, Second}
 use Rattle.reader.specs.Pieces.{words, separator, whiteAt}
@@ -73,16 +73,7 @@ unfoldable pub sungBy : List Sung → List (List Syllable) → List (List Syllab
 sungBy [] notes = notes
 sungBy (l ∷ ls) notes = sungBy ls (sing (l .start) (l .verse) 0 (lyricWords (l .text)) notes)
 
--- THE SECOND EDITION. A measure by those of its notes that take a syllable, one at least: the first and the others, each by its place among the notes of voice 0
--- that are no rests
-abbrev pub SungBar : Type 0
-SungBar = ℕ × List ℕ
-
--- the last of these notes, else the one before them
-unfoldable pub lastOr : Option ℕ → List ℕ → Option ℕ
-lastOr before [] = before
-lastOr before (i ∷ is) = lastOr (some i) is
-
+-- THE SECOND EDITION: words go where the standard has them (`placed`).
 -- the syllable of verse v on the note before, if there is one, is held
 unfoldable pub heldAt : ℕ → Option ℕ → List (List Syllable) → List (List Syllable)
 heldAt v none notes = notes
@@ -92,21 +83,22 @@ heldAt v (some i) notes = alterAt i (map (held v)) notes
 unfoldable pub sungAt : ℕ → Syllabic → List ℕ → ℕ → List (List Syllable) → List (List Syllable)
 sungAt v c t i notes = alterAt i (put (record { verse = v; syllabic = c; extend = false; text = t })) notes
 
+-- what a word does at its note; past the last note a syllable is not written
+unfoldable pub sungWord : ℕ → Word → Option ℕ → Option ℕ → List (List Syllable) → List (List Syllable)
+sungWord v skip note before notes = notes
+sungWord v bar note before notes = notes
+sungWord v hold note before notes = heldAt v before notes
+sungWord v (syllable c t) (some i) before notes = sungAt v c t i notes
+sungWord v (syllable c t) none before notes = notes
+
+unfoldable pub sungEach : ℕ → List Placed → List (List Syllable) → List (List Syllable)
+sungEach v [] notes = notes
+sungEach v (p ∷ ps) notes = sungEach v ps (sungWord v (p .word) (p .note) (p .before) notes)
+
 -- the words of a line on what is left of the measure last reached, g, and the measures behind it; `before` is the note before the next one, if the line has passed it.
 -- "a lyric `|` moves to the first note in a measure after the one last reached ..; that move, `*` and `_` reach too, and with no such note the line's rest lapses"
-unfoldable pub singOn : ℕ → Option ℕ → List Word → List ℕ → List SungBar → List (List Syllable) → List (List Syllable)
-singOn v before [] g bs notes = notes
-singOn v before (bar ∷ ws) g [] notes = notes
-singOn v before (bar ∷ ws) g ((i, h) ∷ bs) notes = singOn v (lastOr before g) ws (i ∷ h) bs notes
-singOn v before (skip ∷ ws) (i ∷ g) bs notes = singOn v (some i) ws g bs notes
-singOn v before (skip ∷ ws) [] ((i, h) ∷ bs) notes = singOn v (some i) ws h bs notes
-singOn v before (skip ∷ ws) [] [] notes = singOn v none ws [] [] notes
-singOn v before (hold ∷ ws) (i ∷ g) bs notes = singOn v (some i) ws g bs (heldAt v before notes)
-singOn v before (hold ∷ ws) [] ((i, h) ∷ bs) notes = singOn v (some i) ws h bs (heldAt v before notes)
-singOn v before (hold ∷ ws) [] [] notes = singOn v none ws [] [] (heldAt v before notes)
-singOn v before (syllable c t ∷ ws) (i ∷ g) bs notes = singOn v (some i) ws g bs (sungAt v c t i notes)
-singOn v before (syllable c t ∷ ws) [] ((i, h) ∷ bs) notes = singOn v (some i) ws h bs (sungAt v c t i notes)
-singOn v before (syllable c t ∷ ws) [] [] notes = singOn v none ws [] [] notes
+abbrev pub singOn : ℕ → Option ℕ → List Word → List ℕ → List SungBar → List (List Syllable) → List (List Syllable)
+singOn v before ws g bs notes = sungEach v (placed before ws g bs) notes
 
 -- "(at the start, the one of the line's first note)": the measure of the first note is reached before any word
 unfoldable pub singBars : ℕ → List Word → List SungBar → List (List Syllable) → List (List Syllable)

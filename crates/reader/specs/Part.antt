@@ -7,13 +7,13 @@ use lib.Dec.{leb, eqb}
 use lib.ListN.{getD, replicate}
 use Rattle.laws.specs.Lists.{foldl, alterAt, onFirst}
 use Rattle.standard.specs.Lengths.{Value, dotted, halved}
-use Rattle.standard.specs.Keys.{Key, plainKey}
+use Rattle.standard.specs.Keys.{Key, plainKey, voiceKey}
 use Rattle.standard.specs.Pitches.{Written, Pitch}
 use Rattle.standard.specs.Tuplets.{Tuplet, boundary}
 use Rattle.standard.specs.Bars.{Barline, normal, repeatStart, repeatEnd, repeatBoth, double, final}
 use Rattle.standard.specs.Notes
 use Rattle.standard.specs.Notes.{NoteKind, isSounded, Beam, beamable, Flags, Behind, Pending, nothingPending, flagsOf, pendingAfter, slurOpens, graceOpens, graceCloses, nextVoice}
-use Rattle.standard.specs.Lyrics.{nextVerse}
+use Rattle.standard.specs.Lyrics.{nextVerse, takesNone}
 use Rattle.standard.specs.Fields.{Meter}
 use Rattle.editions.specs.declared.Edition.{Edition}
 use Rattle.editions.specs.declared.Edition.the-variants.{First, Second}
@@ -229,7 +229,7 @@ onKey header k (m ∷ ms) s = onOpen (withKeyMark k) (hears k s)
 -- its reach is decided. A part first named in the header starts with C major. In the second edition "the header key holds for every voice" (ABC 2.1, 7.1)
 unfoldable pub firstKey : Edition → Key → Bool → Key
 firstKey First header inHeader = cond inHeader plainKey header
-firstKey Second header inHeader = header
+firstKey Second header inHeader = voiceKey header
 
 -- WHAT AN ITEM DOES
 unfoldable pub onItem : Edition → Key → PartState → Item → PartState
@@ -276,7 +276,7 @@ unfoldable pub takers : ℕ → List Note → List ℕ
 takers n [] = []
 takers n (x ∷ xs) =
     elim (isSounded (x .kind)) [
-      | true ↦ elim (x .flags .grace) [ true ↦ takers (suc n) xs | false ↦ n ∷ takers (suc n) xs ]
+      | true ↦ elim (takesNone (x .flags)) [ true ↦ takers (suc n) xs | false ↦ n ∷ takers (suc n) xs ]
       | false ↦ takers n xs
     ]
 

@@ -79,3 +79,7 @@ modeIn (n ∷ ns) s = elim (startsWith (n .0) s) [ true ↦ some (n .1) | false 
 -- what a key does to a step: sharps come in the line's order from F on, flats from B back
 unfoldable pub keyAlter : Key → ℕ → ℕ
 keyAlter k step = elim (ltb (place step + 128) (k .fifths)) [ true ↦ 129 | false ↦ cond (leb (k .fifths) (place step + 121)) 127 128 ]
+
+-- THE HEADER'S KEY (7.1) "holds for every voice": the key that a voice begins with
+abbrev pub voiceKey : Key → Key
+voiceKey header = header
