@@ -1,6 +1,6 @@
 //! The port and the Rust on the same texts, in turn: `tools/benchmark --help`.
 use compare::texts::{PASSED_OVER, TEXTS, Text};
-use sindvaelo::{is_whole, list_bytes, parse_abc, played_measures, read, reading_bytes, scratch_bytes};
+use sindvaelo::{Edition, is_whole, list_bytes, parse_abc, parse_abc_edition, played_measures, read, reading_bytes, scratch_bytes};
 use std::hint::black_box;
 use std::io::Write;
 
@@ -42,6 +42,7 @@ fn time(run: impl FnOnce()) -> f64 {
 struct Row {
     bytes: usize,
     port: f64,
+    second: f64,
     rust: f64,
     copy: f64,
 }
@@ -55,26 +56,32 @@ impl Row {
     }
 }
 
-/// Seconds for all of these texts, by the port and by the Rust in turn: processor time, low decile.
+/// Seconds for all of these texts, by the port in either edition and by the Rust in turn: processor time, low decile.
 fn measure(texts: &[String], budget: f64) -> Row {
     let bytes: usize = texts.iter().map(String::len).sum();
     let longest = texts.iter().map(String::len).max().unwrap_or(0);
     let (mut reading, mut scratch) = (vec![0; reading_bytes(longest)], vec![0; scratch_bytes(longest)]);
-    let mut port = |text: &str, store: usize| parse_abc(black_box(text.as_bytes()), &mut reading[..store], &mut scratch[..scratch_bytes(text.len())]);
+    let mut port =
+        |text: &str, store: usize, edition| parse_abc_edition(black_box(text.as_bytes()), &mut reading[..store], &mut scratch[..scratch_bytes(text.len())], edition);
     // The reading store as long as the reading: nothing is cleared but what a caller needs.
-    let stores: Vec<usize> = texts.iter().map(|text| port(text, reading_bytes(text.len())).expect("the port refuses a text of the benchmark")).collect();
+    let mut lengths = |edition| -> Vec<usize> {
+        texts.iter().map(|text| port(text, reading_bytes(text.len()), edition).expect("the port refuses a text of the benchmark")).collect()
+    };
+    let (stores, second_stores) = (lengths(Edition::First), lengths(Edition::Abc21));
     let (from, mut to) = (vec![1u8; bytes + stores.iter().sum::<usize>()], vec![0u8; bytes + stores.iter().sum::<usize>()]);
     let calls = SAMPLE.div_ceil(bytes);
-    let (mut ports, mut rusts, mut copies) = (Vec::new(), Vec::new(), Vec::new());
+    let (mut ports, mut seconds, mut rusts, mut copies) = (Vec::new(), Vec::new(), Vec::new(), Vec::new());
     let start = now();
     while ports.len() < 5 || (now() - start < budget && ports.len() < 5_001) {
-        ports.push(time(|| {
-            for _ in 0..calls {
-                for (text, store) in texts.iter().zip(&stores) {
-                    assert!(black_box(port(text, *store)).is_ok());
+        for (times, stores, edition) in [(&mut ports, &stores, Edition::First), (&mut seconds, &second_stores, Edition::Abc21)] {
+            times.push(time(|| {
+                for _ in 0..calls {
+                    for (text, store) in texts.iter().zip(stores) {
+                        assert!(black_box(port(text, *store, edition)).is_ok());
+                    }
                 }
-            }
-        }));
+            }));
+        }
         rusts.push(time(|| {
             for _ in 0..calls {
                 for text in texts {
@@ -89,8 +96,8 @@ fn measure(texts: &[String], budget: f64) -> Row {
             }
         }));
     }
-    let [port, rust, copy] = [ports, rusts, copies].map(|times| low_decile(times) / calls as f64);
-    Row { bytes, port, rust, copy }
+    let [port, second, rust, copy] = [ports, seconds, rusts, copies].map(|times| low_decile(times) / calls as f64);
+    Row { bytes, port, second, rust, copy }
 }
 
 /// The low decile of the seconds that `run` takes, in runs of `budget` seconds together, five at least; a short one is run several times for a sample.
@@ -201,7 +208,10 @@ fn main() {
         played(seconds, &word);
         return;
     }
-    println!("{:10} {:>8} {:>10} {:>10} {:>7} {:>8} {:>9} {:>8} {:>8}", "text", "bytes", "port ns/B", "Rust ns/B", "ratio", "to plain", "copy ns/B", "port ×10", "Rust ×10");
+    println!(
+        "{:10} {:>8} {:>10} {:>10} {:>10} {:>7} {:>8} {:>9} {:>8} {:>8}",
+        "text", "bytes", "port ns/B", "2.1 ns/B", "Rust ns/B", "ratio", "to plain", "copy ns/B", "port ×10", "Rust ×10"
+    );
     // What a byte of the plain tune takes at the usual size, beside which the others are dear or cheap.
     let plain = measure(&TEXTS[0].texts(), seconds);
     // By ratio or cost: the text. Of texts that are read, of those passed over; the dearest.
@@ -221,9 +231,10 @@ fn main() {
             let (own, rust) = (row.each(row.port), row.each(row.rust));
             let dear = own / plain.each(plain.port);
             println!(
-                "{:10} {:8} {own:10.1} {rust:10.1} {:7.2} {dear:8.2} {:9.2} {:>8} {:>8}",
+                "{:10} {:8} {own:10.1} {:10.1} {rust:10.1} {:7.2} {dear:8.2} {:9.2} {:>8} {:>8}",
                 name,
                 row.bytes,
+                row.each(row.second),
                 row.ratio(),
                 row.each(row.copy),
                 grows(|r| r.port),
