@@ -206,9 +206,17 @@ fn inline_key(edition: Edition, line: &[u8], a: usize, b: usize) -> Field
     requires { ⌜ (a ≤ b) × (b ≤ length (now line)) ⌝ }
     ensures { λ r. ⌜ tokenAs r ≡ keyToken edition (between (now (line .entry)) a b) ⌝ }
 {
-    match read_key(edition, line, a, b) {
-        KeyField::Reads(key) => Field::Key(key),
-        KeyField::Refused(n) => Field::Refused(n),
+    match edition {
+        Edition::First => {
+            if has_middle(line, a, b) {
+                return Field::Refused(10);
+            }
+            Field::Key(field_keys::parse_key(line, a, b))
+        }
+        Edition::Second => match field_modal::modal_field(line, a, b) {
+            KeyField::Reads(key) => Field::Key(key),
+            KeyField::Refused(n) => Field::Refused(n),
+        },
     }
 }
 
