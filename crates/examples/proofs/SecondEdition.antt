@@ -117,6 +117,11 @@ unfolding all
 beyond-met First = refl
 beyond-met Second = refl
 
+-- a byte above 127 (6) is told of the whole line before that
+pub high-byte-first : (verdictOf Second (ascii "K:G#" ++ (195 ∷ 169 ∷ [])) ≡ refusal 6 1) × (verdictOf Second (ascii "K:C\n[K:G#]A" ++ (195 ∷ 169 ∷ [])) ≡ refusal 6 2)
+unfolding all
+high-byte-first = (refl, refl)
+
 -- TUPLETS: actual, normal and boundary of each note
 abbrev groupOf : ℕ × Note → List ℕ
 groupOf x = x .1 .group .actual ∷ x .1 .group .normal ∷ x .1 .group .boundary ∷ []
