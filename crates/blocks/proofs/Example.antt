@@ -158,10 +158,10 @@ high = ascii "V:1\n" ∷ ascii "(5ABcde|{f}g2|a\n" ∷ ascii "w: one | two | thr
 abbrev low : List TextLine
 low = ascii "V:2 % low\n" ∷ ascii "[K:G mix]{A}B c|(7DEFGABc|d\n" ∷ ascii "w: oh hm | _ ah\n" ∷ []
 
-abbrev again : List TextLine
-again = ascii "V:1\n" ∷ ascii "A{B}c|d|]\n" ∷ ascii "w: | last\n" ∷ []
+abbrev closing : List TextLine
+closing = ascii "V:1\n" ∷ ascii "A{B}c|d|]\n" ∷ ascii "w: | last\n" ∷ []
 
-modal-blocks : blocks modal ≡ high ∷ low ∷ again ∷ []
+modal-blocks : blocks modal ≡ high ∷ low ∷ closing ∷ []
 unfolding all
 modal-blocks = refl
 
@@ -178,27 +178,27 @@ modal-low-first = ascii "V:1\nV:2\nM:3/4\nK:Edor\nV:2 % low\n[K:G mix]{A}B c|(7D
 abbrev modal-low-last : List ℕ
 modal-low-last = ascii "V:1\nV:2\nM:3/4\nK:Edor\nV:1\n(5ABcde|{f}g2|a\nw: one | two | three\nV:1\nA{B}c|d|]\nw: | last\nV:2 % low\n[K:G mix]{A}B c|(7DEFGABc|d\nw: oh hm | _ ah\n"
 
-low-first : (ed : Edition) → Swaps (reader ed) (high ∷ low ∷ again ∷ []) (low ∷ high ∷ again ∷ [])
+low-first : (ed : Edition) → Swaps (reader ed) (high ∷ low ∷ closing ∷ []) (low ∷ high ∷ closing ∷ [])
 unfolding all
 low-first ed = swap refl
 
-low-last : (ed : Edition) → Swaps (reader ed) (high ∷ low ∷ again ∷ []) (high ∷ again ∷ low ∷ [])
+low-last : (ed : Edition) → Swaps (reader ed) (high ∷ low ∷ closing ∷ []) (high ∷ closing ∷ low ∷ [])
 unfolding all
 low-last ed = later (swap refl)
 
-low-first-text : rebuilt modal (low ∷ high ∷ again ∷ []) ≡ modal-low-first
+low-first-text : rebuilt modal (low ∷ high ∷ closing ∷ []) ≡ modal-low-first
 unfolding all
 low-first-text = refl
 
-low-last-text : rebuilt modal (high ∷ again ∷ low ∷ []) ≡ modal-low-last
+low-last-text : rebuilt modal (high ∷ closing ∷ low ∷ []) ≡ modal-low-last
 unfolding all
 low-last-text = refl
 
 pub low-first-same : (ed : Edition) → parseAbc ed modal-low-first 1000 14000 ≡ parseAbc ed modal 1000 14000
-low-first-same ed = exchange ed modal 1000 14000 (modal-meant ed) (high ∷ low ∷ again ∷ []) (low ∷ high ∷ again ∷ []) modal-blocks (low-first ed) modal-low-first low-first-text
+low-first-same ed = exchange ed modal 1000 14000 (modal-meant ed) (high ∷ low ∷ closing ∷ []) (low ∷ high ∷ closing ∷ []) modal-blocks (low-first ed) modal-low-first low-first-text
 
 pub low-last-same : (ed : Edition) → parseAbc ed modal-low-last 1000 14000 ≡ parseAbc ed modal 1000 14000
-low-last-same ed = exchange ed modal 1000 14000 (modal-meant ed) (high ∷ low ∷ again ∷ []) (high ∷ again ∷ low ∷ []) modal-blocks (low-last ed) modal-low-last low-last-text
+low-last-same ed = exchange ed modal 1000 14000 (modal-meant ed) (high ∷ low ∷ closing ∷ []) (high ∷ closing ∷ low ∷ []) modal-blocks (low-last ed) modal-low-last low-last-text
 
 -- each voice's part without the other's blocks
 high-text : (ed : Edition) → onlyPart ed modal 0 ≡ ascii "V:1\nV:2\nM:3/4\nK:Edor\nV:1\n(5ABcde|{f}g2|a\nw: one | two | three\nV:1\nA{B}c|d|]\nw: | last\n"
