@@ -1,4 +1,4 @@
--- THE DEMAND AT WORK on two texts, through the whole reader: nothing that it asks is beyond reach. The suppositions are computed, both halves are the theorem's.
+-- THE DEMAND AT WORK on three texts in both editions, through the whole reader: nothing that it asks is beyond reach. The suppositions are computed, both halves are the theorem's.
 use Prim.Native.Nat.{ℕ}
 use mathlib.Core.Path.{_≡_, refl, sym, ap, subst, _∙_}
 use mathlib.Core.Logic.{⊎-elim}
@@ -7,12 +7,17 @@ use mathlib.Core.Option.{Option, none, some}
 use mathlib.Core.List.{List, [], _∷_, map}
 use Rattle.laws.specs.Lists.{elem}
 use Rattle.standard.specs.Bytes.{ascii}
+use Rattle.standard.specs.Pitches.{Pitch}
 use Rattle.editions.specs.declared.Edition.{Edition}
 use Rattle.editions.specs.declared.Edition.the-variants.{First, Second}
 use Rattle.reader.specs.Text.{textLines}
 use Rattle.reader.specs.Steps.{TextLine, refuse, on, itemsOf}
 use Rattle.reader.specs.Scan.{Item, voiceDeclared, reset, lyricLine, Out, scan}
+use Rattle.reader.specs.State.{Note}
+use Rattle.reader.specs.Lyrics.{Syllable}
 use Rattle.reader.specs.Part.{Part, emptyPart}
+use Rattle.reader.specs.Codes.{bit}
+use Rattle.reader.specs.Records.{notesOf, pitchesOf, lyrics}
 use Rattle.reader.specs.Tally.{Counts, countsOf}
 use Rattle.reader.specs.Answer.{parseAbc}
 use Rattle.reader.specs.All.{all}
@@ -142,6 +147,142 @@ tune-parts : (ed : Edition) → map counted (partIn (parseAbc ed tune 600 12000 
 unfolding all
 tune-parts First = refl
 tune-parts Second = refl
+
+-- WHAT THE SECOND EDITION READS OTHERWISE, in blocks that move: a mode in the header, which holds for both voices, and inline; `(5` and `(7`; graces; lyric bars
+abbrev modal : List ℕ
+modal = ascii "V:1\nV:2\nM:3/4\nK:Edor\nV:1\n(5ABcde|{f}g2|a\nw: one | two | three\nV:2 % low\n[K:G mix]{A}B c|(7DEFGABc|d\nw: oh hm | _ ah\nV:1\nA{B}c|d|]\nw: | last\n"
+
+abbrev high : List TextLine
+high = ascii "V:1\n" ∷ ascii "(5ABcde|{f}g2|a\n" ∷ ascii "w: one | two | three\n" ∷ []
+
+abbrev low : List TextLine
+low = ascii "V:2 % low\n" ∷ ascii "[K:G mix]{A}B c|(7DEFGABc|d\n" ∷ ascii "w: oh hm | _ ah\n" ∷ []
+
+abbrev closing : List TextLine
+closing = ascii "V:1\n" ∷ ascii "A{B}c|d|]\n" ∷ ascii "w: | last\n" ∷ []
+
+modal-blocks : blocks modal ≡ high ∷ low ∷ closing ∷ []
+unfolding all
+modal-blocks = refl
+
+-- with a reading store of 1,000 bytes and a scratch store of 14,000
+modal-meant : (ed : Edition) → Hypotheses ed modal 1000 14000
+unfolding all
+modal-meant First = meant-test First 2 modal 1000 14000 tt refl refl refl refl refl
+modal-meant Second = meant-test Second 2 modal 1000 14000 tt refl refl refl refl refl
+
+-- voice 2's block first, or last
+abbrev modal-low-first : List ℕ
+modal-low-first = ascii "V:1\nV:2\nM:3/4\nK:Edor\nV:2 % low\n[K:G mix]{A}B c|(7DEFGABc|d\nw: oh hm | _ ah\nV:1\n(5ABcde|{f}g2|a\nw: one | two | three\nV:1\nA{B}c|d|]\nw: | last\n"
+
+abbrev modal-low-last : List ℕ
+modal-low-last = ascii "V:1\nV:2\nM:3/4\nK:Edor\nV:1\n(5ABcde|{f}g2|a\nw: one | two | three\nV:1\nA{B}c|d|]\nw: | last\nV:2 % low\n[K:G mix]{A}B c|(7DEFGABc|d\nw: oh hm | _ ah\n"
+
+low-first : (ed : Edition) → Swaps (reader ed) (high ∷ low ∷ closing ∷ []) (low ∷ high ∷ closing ∷ [])
+unfolding all
+low-first ed = swap refl
+
+low-last : (ed : Edition) → Swaps (reader ed) (high ∷ low ∷ closing ∷ []) (high ∷ closing ∷ low ∷ [])
+unfolding all
+low-last ed = later (swap refl)
+
+low-first-text : rebuilt modal (low ∷ high ∷ closing ∷ []) ≡ modal-low-first
+unfolding all
+low-first-text = refl
+
+low-last-text : rebuilt modal (high ∷ closing ∷ low ∷ []) ≡ modal-low-last
+unfolding all
+low-last-text = refl
+
+pub low-first-same : (ed : Edition) → parseAbc ed modal-low-first 1000 14000 ≡ parseAbc ed modal 1000 14000
+low-first-same ed = exchange ed modal 1000 14000 (modal-meant ed) (high ∷ low ∷ closing ∷ []) (low ∷ high ∷ closing ∷ []) modal-blocks (low-first ed) modal-low-first low-first-text
+
+pub low-last-same : (ed : Edition) → parseAbc ed modal-low-last 1000 14000 ≡ parseAbc ed modal 1000 14000
+low-last-same ed = exchange ed modal 1000 14000 (modal-meant ed) (high ∷ low ∷ closing ∷ []) (high ∷ closing ∷ low ∷ []) modal-blocks (low-last ed) modal-low-last low-last-text
+
+-- each voice's part without the other's blocks
+high-text : (ed : Edition) → onlyPart ed modal 0 ≡ ascii "V:1\nV:2\nM:3/4\nK:Edor\nV:1\n(5ABcde|{f}g2|a\nw: one | two | three\nV:1\nA{B}c|d|]\nw: | last\n"
+unfolding all
+high-text First = refl
+high-text Second = refl
+
+high-read : (ed : Edition) → Accepted (parseAbc ed (ascii "V:1\nV:2\nM:3/4\nK:Edor\nV:1\n(5ABcde|{f}g2|a\nw: one | two | three\nV:1\nA{B}c|d|]\nw: | last\n") 900 13000)
+unfolding all
+high-read First = tt
+high-read Second = tt
+
+pub high-alone :
+    (ed : Edition) → partIn (parseAbc ed modal 1000 14000 .verdict) 0
+    ≡ partIn (parseAbc ed (ascii "V:1\nV:2\nM:3/4\nK:Edor\nV:1\n(5ABcde|{f}g2|a\nw: one | two | three\nV:1\nA{B}c|d|]\nw: | last\n") 900 13000 .verdict) 0
+high-alone ed = lone ed modal 1000 14000 (modal-meant ed) 0 _ (high-text ed) 900 13000 (high-read ed)
+
+low-text : (ed : Edition) → onlyPart ed modal 1 ≡ ascii "V:1\nV:2\nM:3/4\nK:Edor\nV:2 % low\n[K:G mix]{A}B c|(7DEFGABc|d\nw: oh hm | _ ah\n"
+unfolding all
+low-text First = refl
+low-text Second = refl
+
+low-read : (ed : Edition) → Accepted (parseAbc ed (ascii "V:1\nV:2\nM:3/4\nK:Edor\nV:2 % low\n[K:G mix]{A}B c|(7DEFGABc|d\nw: oh hm | _ ah\n") 900 13000)
+unfolding all
+low-read First = tt
+low-read Second = tt
+
+pub low-alone :
+    (ed : Edition) → partIn (parseAbc ed modal 1000 14000 .verdict) 1
+    ≡ partIn (parseAbc ed (ascii "V:1\nV:2\nM:3/4\nK:Edor\nV:2 % low\n[K:G mix]{A}B c|(7DEFGABc|d\nw: oh hm | _ ah\n") 900 13000 .verdict) 1
+low-alone ed = lone ed modal 1000 14000 (modal-meant ed) 1 _ (low-text ed) 900 13000 (low-read ed)
+
+-- what the parts are, each text read by itself: how a pitch is altered (128 added), the normal of each note's tuplet, and each syllable with its note and its extend
+abbrev syllableOf : ℕ × Syllable → List ℕ
+syllableOf x = x .0 ∷ bit (x .1 .extend) 1 ∷ x .1 .text
+
+abbrev heard : Option Part → List (List ℕ)
+heard none = []
+heard (some p) = map (λ (x : Pitch). x .alter) (pitchesOf p) ∷ map (λ (x : ℕ × Note). x .1 .group .normal) (notesOf p) ∷ map syllableOf (lyrics p)
+
+abbrev bothHeard : Edition → List ℕ → List (List (List ℕ))
+bothHeard ed text = let v = parseAbc ed text 1000 14000 .verdict in heard (partIn v 0) ∷ heard (partIn v 1) ∷ []
+
+-- in the first edition voice 1 is in C major, `(5` goes in 4 and `(7` in 6, graces are sung, and bars are passed over
+abbrev modalParts : Edition → List (List (List ℕ))
+modalParts First =
+    (
+    (128 ∷ 128 ∷ 128 ∷ 128 ∷ 128 ∷ 128 ∷ 128 ∷ 128 ∷ 128 ∷ 128 ∷ 128 ∷ 128 ∷ [])
+    ∷ (4 ∷ 4 ∷ 4 ∷ 4 ∷ 4 ∷ 0 ∷ 0 ∷ 0 ∷ 0 ∷ 0 ∷ 0 ∷ 0 ∷ [])
+    ∷ (0 ∷ 0 ∷ ascii "one")
+    ∷ (1 ∷ 0 ∷ ascii "two")
+    ∷ (2 ∷ 0 ∷ ascii "three")
+    ∷ (8 ∷ 0 ∷ ascii "last")
+    ∷ [])
+    ∷ (
+    (128 ∷ 128 ∷ 128 ∷ 128 ∷ 128 ∷ 128 ∷ 128 ∷ 128 ∷ 128 ∷ 128 ∷ 128 ∷ [])
+    ∷ (0 ∷ 0 ∷ 0 ∷ 6 ∷ 6 ∷ 6 ∷ 6 ∷ 6 ∷ 6 ∷ 6 ∷ 0 ∷ [])
+    ∷ (0 ∷ 0 ∷ ascii "oh")
+    ∷ (1 ∷ 1 ∷ ascii "hm")
+    ∷ (3 ∷ 0 ∷ ascii "ah")
+    ∷ [])
+    ∷ []
+modalParts Second =
+    (
+    (128 ∷ 128 ∷ 129 ∷ 128 ∷ 128 ∷ 129 ∷ 128 ∷ 128 ∷ 128 ∷ 128 ∷ 129 ∷ 128 ∷ [])
+    ∷ (3 ∷ 3 ∷ 3 ∷ 3 ∷ 3 ∷ 0 ∷ 0 ∷ 0 ∷ 0 ∷ 0 ∷ 0 ∷ 0 ∷ [])
+    ∷ (0 ∷ 0 ∷ ascii "one")
+    ∷ (6 ∷ 0 ∷ ascii "two")
+    ∷ (7 ∷ 0 ∷ ascii "three")
+    ∷ (11 ∷ 0 ∷ ascii "last")
+    ∷ [])
+    ∷ (
+    (128 ∷ 128 ∷ 128 ∷ 128 ∷ 128 ∷ 128 ∷ 128 ∷ 128 ∷ 128 ∷ 128 ∷ 128 ∷ [])
+    ∷ (0 ∷ 0 ∷ 0 ∷ 3 ∷ 3 ∷ 3 ∷ 3 ∷ 3 ∷ 3 ∷ 3 ∷ 0 ∷ [])
+    ∷ (1 ∷ 0 ∷ ascii "oh")
+    ∷ (2 ∷ 1 ∷ ascii "hm")
+    ∷ (4 ∷ 0 ∷ ascii "ah")
+    ∷ [])
+    ∷ []
+
+pub modal-parts : (ed : Edition) → map (bothHeard ed) (modal ∷ modal-low-first ∷ modal-low-last ∷ []) ≡ modalParts ed ∷ modalParts ed ∷ modalParts ed ∷ []
+unfolding all
+modal-parts First = refl
+modal-parts Second = refl
 
 -- A VOICE WITH A LYRIC LINE AND NO MUSIC LINE: the condition, read literally, asks nothing of it
 abbrev pub hymn : List ℕ

@@ -1,5 +1,5 @@
--- NONE OF THE SUPPOSITIONS CAN BE LEFT OUT: for each a text and an order of its blocks for which all the others hold, and whose answers differ. Computed, through the whole
--- reader; where both texts are accepted the Rust answers unlike too.
+-- NONE OF THE SUPPOSITIONS CAN BE LEFT OUT, IN EITHER EDITION: for each a text and an order of its blocks for which all the others hold, and whose answers differ. Computed, through the
+-- whole reader, in both editions; where both texts are accepted the Rust answers unlike too.
 use Prim.Native.Nat.{ℕ}
 use mathlib.Core.Path.{_≡_, refl, sym, ap, subst, _∙_}
 use mathlib.Core.Bool.{true, false}

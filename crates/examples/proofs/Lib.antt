@@ -2,10 +2,12 @@ pub mod Bars
 pub mod Tunes
 pub mod Refusals
 pub mod SecondEdition
+pub mod SecondTunes
 pub mod PassLists
 pub mod Tally
 pub mod Stores
 pub mod Limits
 pub mod KeyNames
 pub mod KeySpellings
+pub mod Modes
 pub mod Charged

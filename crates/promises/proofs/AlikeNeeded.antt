@@ -1,9 +1,10 @@
 -- THE TESTS OF specs/Alike CAN BE MET, AND NONE CAN BE LEFT OUT: texts that pass them all, and for each test texts that fail it alone and whose outcomes differ. Computed, through the
 -- whole reader.
 use Prim.Native.Nat.{ℕ}
+use Prim.Native.String.{String}
 use mathlib.Core.Path.{_≡_, refl, ap, _∙_}
 use mathlib.Core.Bool.{Bool, true, false}
-use mathlib.Core.List.{List, map}
+use mathlib.Core.List.{List, [], _∷_, _++_, map}
 use Rattle.laws.specs.Lists.{all, eqText}
 use Rattle.laws.proofs.Bools.{both-true}
 use Rattle.laws.proofs.Lists.{eqText-same}
@@ -61,6 +62,26 @@ own-alike = alike-test (ascii "V:1\nV:2\nK:G\nV:1\nK:D\nF\nV:2\nF\n") refl
 pub refused-alike : Alike (ascii "(5A\nK:C\nX:2\n")
 unfolding computed
 refused-alike = alike-test (ascii "(5A\nK:C\nX:2\n") refl
+
+-- and the thirty names of the first edition's keys in all usual spellings pass the test of keys (crates/examples/proofs/KeySpellings.antt says as what keys they are read)
+abbrev majors : List String
+majors = "Cb" ∷ "Gb" ∷ "Db" ∷ "Ab" ∷ "Eb" ∷ "Bb" ∷ "F" ∷ "C" ∷ "G" ∷ "D" ∷ "A" ∷ "E" ∷ "B" ∷ "F#" ∷ "C#" ∷ []
+
+abbrev minors : List String
+minors = "Ab" ∷ "Eb" ∷ "Bb" ∷ "F" ∷ "C" ∷ "G" ∷ "D" ∷ "A" ∷ "E" ∷ "B" ∷ "F#" ∷ "C#" ∷ "G#" ∷ "D#" ∷ "A#" ∷ []
+
+-- every name with every mode behind it
+abbrev eachAlike : List String → List String → Bool
+eachAlike modes names = all (λ (m : String). all (λ (n : String). keyAlike (ascii "K:" ++ ascii n ++ ascii m)) names) modes
+
+pub names-alike : (eachAlike ("" ∷ "maj" ∷ "major" ∷ " maj" ∷ " major" ∷ " Major" ∷ []) majors ≡ true) × (eachAlike ("m" ∷ "min" ∷ "minor" ∷ " m" ∷ " min" ∷ " minor" ∷ " Minor" ∷ []) minors ≡ true)
+unfolding computed
+names-alike = (refl, refl)
+
+-- a capital M alone does not
+pub capital-m-unlike : eachAlike ("M" ∷ []) ("G" ∷ []) ≡ false
+unfolding computed
+capital-m-unlike = refl
 
 -- NONE CAN BE LEFT OUT
 -- two outcomes of a text that differ; stores of 300 and 12,000 bytes
