@@ -7,7 +7,7 @@ use mathlib.Core.List.{List, [], _∷_, _++_}
 use native.Mathlib.Nat.{not-suc-le-zero}
 use native.Mathlib.Omega.{arith}
 use lib.Dec.{eqb, leb}
-use lib.ListN.{length}
+use lib.ListN.{length, drop}
 use borrow.Author.Tests.{eqb-true, le-leb, lt-leb, leb-true}
 use Rattle.laws.specs.Lists.{all, isNil, countWhile}
 use Rattle.laws.proofs.Bools.{by-test, both-true, and-left, and-right, or-none, and-no-right, eqb-same}
@@ -43,6 +43,11 @@ digit-solid c d =
 pub count-while-front : (p : ℕ → Bool) (d t : List ℕ) → all p d ≡ true → countWhile p t ≡ 0 → countWhile p (d ++ t) ≡ length d
 count-while-front p [] t a h = h
 count-while-front p (c ∷ d) t a h = count-while-yes p c (d ++ t) (and-left (p c) (all p d) a) ∙ ap suc (count-while-front p d t (and-right (p c) (all p d) a) h)
+
+-- what stands behind d and a byte
+pub drop-behind : (d : List ℕ) (x : ℕ) (t : List ℕ) → drop (suc (length d)) (d ++ (x ∷ t)) ≡ t
+drop-behind [] x t = refl
+drop-behind (c ∷ d) x t = drop-behind d x t
 
 -- what digits write, if it is at most top
 pub digits-by : (top : ℕ) (d : List ℕ) → 0 < length d → all isDigit d ≡ true → digits top d ≡ cond (leb (decimal 0 d) top) (some (decimal 0 d)) none

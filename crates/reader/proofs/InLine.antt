@@ -12,8 +12,9 @@ use native.Mathlib.Omega.{arith}
 use Rattle.laws.specs.Lists.{onFirst, all, countWhile}
 use Rattle.standard.specs.Bytes.{is}
 use Rattle.reader.specs.Pitches.{chordOf}
+use Rattle.editions.specs.declared.Edition.{Edition}
 use Rattle.reader.specs.Sounds.{chordTaken, chordAt}
-use Rattle.reader.proofs.Digits.{count-while-front}
+use Rattle.reader.proofs.Digits.{count-while-front, drop-behind}
 use Rattle.standard.specs.Lengths.{Value, dotted, halved}
 use Rattle.reader.specs.Token.{Token, broken, Taken}
 use Rattle.reader.specs.State.{Note, Half, PartState, voiceNow, setVoice, voiceIn, onOpen}
@@ -44,17 +45,13 @@ unfolding onToken onBroken
 broken-half up k s x xs e = ap (λ (v : List Note). onBroken up k v s .line .half) e
 
 -- CHORDS (4.17): the length of a chord is the one that stands behind its `]`
-drop-behind : (d : List ℕ) (x : ℕ) (t : List ℕ) → drop (suc (length d)) (d ++ (x ∷ t)) ≡ t
-drop-behind [] x t = refl
-drop-behind (c ∷ d) x t = drop-behind d x t
-
 shorter : (d : List ℕ) (x : ℕ) (t : List ℕ) → length d < length (d ++ (x ∷ t))
 shorter [] x t = omega arith
 shorter (c ∷ d) x t = omega (arith, shorter d x t)
 
-pub chord-meets : (body t : List ℕ) → all (λ c. not (is "]" c)) body ≡ true → chordAt (body ++ (93 ∷ t)) ≡ chordTaken (2 + length body) t (chordOf 0 none (body ++ (93 ∷ t)))
+pub chord-meets : (ed : Edition) (body t : List ℕ) → all (λ c. not (is "]" c)) body ≡ true → chordAt ed (body ++ (93 ∷ t)) ≡ chordTaken ed (2 + length body) t (chordOf 0 none (body ++ (93 ∷ t)))
 unfolding chordAt
-chord-meets body t h =
+chord-meets ed body t h =
     let r : List ℕ = body ++ (93 ∷ t) in
     let n : countWhile (λ c. not (is "]" c)) r ≡ length body = count-while-front (λ c. not (is "]" c)) body (93 ∷ t) h refl in
     rw n (rw (lt-ltb (length body) (length r) (shorter body 93 t), drop-behind body 93 t))

@@ -1,3 +1,4 @@
+pub mod LengthLaws
 pub mod TokenLaws
 pub mod TokenBounds
 pub mod WordLaws

@@ -19,18 +19,20 @@ use Rattle.standard.specs.Tuplets.{usualNormal}
 use Rattle.standard.specs.Passes.{pass, passes, passesOf}
 use Rattle.standard.specs.Lyrics.{Word, syllable, single, syllableText, syllables, syllabicOf}
 use Rattle.editions.specs.declared.Edition.{Edition}
+use Rattle.editions.specs.declared.Edition.the-variants.{Second}
 use Rattle.reader.specs.Text.{isSpace}
 use Rattle.reader.specs.Pieces.{pieces, words, separator, fieldWords}
 use Rattle.reader.specs.Fields.{firstWord, identifier}
 use Rattle.reader.specs.Lengths as lengths
-use Rattle.reader.specs.Lengths.{Length, number, denominator, lengthOf}
+use Rattle.reader.specs.Lengths.{Length, number, slashes, lengthOver, lengthOf}
 use Rattle.reader.specs.Pitches.{Scope, remembered, orKey, soundBy, soundOf, scopeBy, scopeAfter}
 use Rattle.reader.specs.Token.{taken, tuplet, volta}
 use Rattle.reader.specs.Tuplets.{normalFor, counted, withCount, withNormal, withActual, tupletOf, tupletToken}
 use Rattle.reader.specs.PassesInTurn.{passNumber, itemOf, lastPass, inTurn, passList}
 use Rattle.reader.specs.PassesInTurn as lists
 use Rattle.reader.specs.Lyrics.{wordOf, orSkip}
-use Rattle.reader.proofs.Digits.{digit-not, count-while-front, digits-some, pieces-digits}
+use Rattle.reader.proofs.Digits.{digit-not, count-while-front, drop-behind, digits-some, pieces-digits}
+use Rattle.reader.proofs.LengthLaws.{no-slash, lone-slash, length-by, over-many}
 use Rattle.reader.proofs.Standard.{positive-meets, part-meets}
 
 -- LENGTHS (4.3). A length is written as a numerator or none, and a slash with a denominator or none behind it, or no slash: `A` is A1, `A/` is A/2
@@ -57,41 +59,46 @@ unfolding number
 denominator-meets [] t h = refl
 denominator-meets (c ∷ d) t h = number-meets 2 c d t h
 
--- the length at the front of s, where n digits stand and b says whether a slash is behind them
-abbrev from : Bool → ℕ → List ℕ → Length
-from b n s = elim b [ true ↦ denominator (number 1 n s) n (drop (suc n) s) | false ↦ record { num = number 1 n s; den = 1; used = n } ]
-
-from-is : (s : List ℕ) → lengthOf s ≡ from (is "/" (first (drop (countWhile isDigit s) s))) (countWhile isDigit s) s
-unfolding lengthOf
-from-is s = refl
-
-from-at : (d t : List ℕ) → all isDigit d ≡ true → countWhile isDigit t ≡ 0 → lengthOf (d ++ t) ≡ from (is "/" (first t)) (length d) (d ++ t)
-from-at d t a z =
-    from-is (d ++ t) ∙ ap (λ (n : ℕ). from (is "/" (first (drop n (d ++ t)))) n (d ++ t)) (count-while-front isDigit d t a z)
-    ∙ ap (λ (r : List ℕ). from (is "/" (first r)) (length d) (d ++ t)) (drop-at d t (length d) refl)
+-- digits d, and t behind them with k slashes that count
+length-at : (ed : Edition) (d t : List ℕ) (k : ℕ) → all isDigit d ≡ true → countWhile isDigit t ≡ 0 → slashes ed t ≡ k
+    → lengthOf ed (d ++ t) ≡ lengthOver (number 1 (length d) (d ++ t)) (length d) k (drop (length d + k) (d ++ t))
+length-at ed d t k a z e =
+    let n : countWhile isDigit (d ++ t) ≡ length d = count-while-front isDigit d t a z in
+    let r : drop (countWhile isDigit (d ++ t)) (d ++ t) ≡ t = ap (λ (m : ℕ). drop m (d ++ t)) n ∙ drop-at d t (length d) refl in
+    length-by ed (d ++ t) k (ap (slashes ed) r ∙ e) ∙ ap (λ (m : ℕ). lengthOver (number 1 m (d ++ t)) m k (drop (m + k) (d ++ t))) n
 
 -- without a slash
-pub length-meets : (d s : List ℕ) → all isDigit d ≡ true → numeratorOf d < 2 ^ 32 → countWhile isDigit s ≡ 0 → is "/" (first s) ≡ false
-    → lengthOf (d ++ s) ≡ record { num = numeratorOf d; den = 1; used = length d }
-length-meets d s a h z n =
-    from-at d s a z ∙ ap (λ (b : Bool). from b (length d) (d ++ s)) n
-    ∙ ap {B = Length} (λ (m : ℕ). record { num = m; den = 1; used = length d }) (numerator-meets d s h)
-
-drop-behind : (d : List ℕ) (x : ℕ) (t : List ℕ) → drop (suc (length d)) (d ++ (x ∷ t)) ≡ t
-drop-behind [] x t = refl
-drop-behind (c ∷ d) x t = drop-behind d x t
+pub length-meets : (ed : Edition) (d s : List ℕ) → all isDigit d ≡ true → numeratorOf d < 2 ^ 32 → countWhile isDigit s ≡ 0 → is "/" (first s) ≡ false
+    → lengthOf ed (d ++ s) ≡ record { num = numeratorOf d; den = 1; used = length d }
+unfolding lengthOver
+length-meets ed d s a h z n =
+    length-at ed d s 0 a z (no-slash ed s n) ∙ ap {B = Length} (λ (m : ℕ). record { num = m; den = 1; used = length d }) (numerator-meets d s h)
 
 -- with one
-pub length-over-meets : (d e s : List ℕ) → all isDigit d ≡ true → all isDigit e ≡ true → numeratorOf d < 2 ^ 32 → denominatorOf e < 2 ^ 32 → countWhile isDigit s ≡ 0
-    → lengthOf (d ++ (47 ∷ (e ++ s))) ≡ record { num = numeratorOf d; den = denominatorOf e; used = length d + 1 + length e }
-unfolding denominator
-length-over-meets d e s a b h k z =
+pub length-over-meets : (ed : Edition) (d e s : List ℕ) → all isDigit d ≡ true → all isDigit e ≡ true → numeratorOf d < 2 ^ 32 → denominatorOf e < 2 ^ 32 → countWhile isDigit s ≡ 0 → is "/" (first (e ++ s)) ≡ false
+    → lengthOf ed (d ++ (47 ∷ (e ++ s))) ≡ record { num = numeratorOf d; den = denominatorOf e; used = length d + 1 + length e }
+unfolding lengthOver
+length-over-meets ed d e s a b h k z w =
     let t : List ℕ = 47 ∷ (e ++ s) in
-    from-at d t a refl
-    ∙ ap (λ (m : ℕ). denominator m (length d) (drop (suc (length d)) (d ++ t))) (numerator-meets d t h)
-    ∙ ap (λ (r : List ℕ). denominator (numeratorOf d) (length d) r) (drop-behind d 47 (e ++ s))
+    let j : length d + 1 ≡ suc (length d) = omega arith in
+    length-at ed d t 1 a refl (lone-slash ed t refl w)
+    ∙ ap (λ (m : ℕ). lengthOver m (length d) 1 (drop (length d + 1) (d ++ t))) (numerator-meets d t h)
+    ∙ ap (λ (r : List ℕ). lengthOver (numeratorOf d) (length d) 1 r) (ap (λ (m : ℕ). drop m (d ++ t)) j ∙ drop-behind d 47 (e ++ s))
     ∙ ap {B = Length} (λ (n : ℕ). record { num = numeratorOf d; den = number 2 n (e ++ s); used = length d + 1 + n }) (count-while-front isDigit e s b z)
     ∙ ap {B = Length} (λ (m : ℕ). record { num = numeratorOf d; den = m; used = length d + 1 + length e }) (denominator-meets e s k)
+
+-- with two or more, in the second edition; whatever stands behind them but another slash
+slash-front : (e s : List ℕ) → all (is "/") e ≡ true → 0 < length e → countWhile isDigit (e ++ s) ≡ 0
+slash-front [] s a h = absurd (omega (arith, h))
+slash-front (c ∷ e) s a h = let q : c ≡ 47 = eqb-true c 47 (and-left (is "/" c) (all (is "/") e) a) in ap (λ (x : ℕ). countWhile isDigit (x ∷ (e ++ s))) q
+
+pub length-halved-meets : (d e s : List ℕ) → all isDigit d ≡ true → all (is "/") e ≡ true → 2 ≤ length e → numeratorOf d < 2 ^ 32 → countWhile (is "/") s ≡ 0
+    → lengthOf Second (d ++ (e ++ s)) ≡ record { num = numeratorOf d; den = 2 ^ length e; used = length d + length e }
+unfolding slashes
+length-halved-meets d e s a b k h z =
+    length-at Second d (e ++ s) (length e) a (slash-front e s b (omega (arith, k))) (count-while-front (is "/") e s b z)
+    ∙ over-many (number 1 (length d) (d ++ (e ++ s))) (length d) (length e) (drop (length d + length e) (d ++ (e ++ s))) k
+    ∙ ap {B = Length} (λ (m : ℕ). record { num = m; den = 2 ^ length e; used = length d + length e }) (numerator-meets d (e ++ s) h)
 
 -- TUPLETS (4.13): `(p` has the default q, and r is p; `(p:q` has r = p
 pub tuplet-p-meets : (ed : Edition) (a s : List ℕ) → 0 < length a → all isDigit a ≡ true → 2 ≤ decimal 0 a → decimal 0 a ≤ 255 → countWhile isDigit s ≡ 0 → is ":" (first s) ≡ false

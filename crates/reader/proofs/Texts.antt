@@ -17,9 +17,10 @@ use Rattle.standard.specs.Notes as notes
 use Rattle.standard.specs.Notes.{NoteKind}
 use Rattle.standard.specs.Lyrics as lyric-words
 use Rattle.standard.specs.Lyrics.{Word, skip, hold, syllable, syllableText, syllables, syllabicOf}
-use Rattle.standard.specs.Texts.{Number, isFieldLine, MeterText, common, cut, over, UnitText, one-over, LengthText, times, half, times-half, times-part, restOf, TupletText, actual, actual-normal, actual-normal-count, ChordText, WordText, hyphened, Piece, star, held, plain, divided, VoiceText, alone, then}
+use Rattle.standard.specs.Texts.{Number, isFieldLine, MeterText, common, cut, over, UnitText, one-over, LengthText, times, half, times-half, times-part, HalvedText, halved, times-halved, restOf, TupletText, actual, actual-normal, actual-normal-count, ChordText, WordText, hyphened, Piece, star, held, plain, divided, VoiceText, alone, then}
 use Rattle.standard.specs.Texts as texts
 use Rattle.editions.specs.declared.Edition.{Edition}
+use Rattle.editions.specs.declared.Edition.the-variants.{Second}
 use Rattle.reader.specs.Pieces.{pieces, words, separator}
 use Rattle.reader.specs.Fields.{meterOf, unitOf, unitInline, identifier}
 use Rattle.reader.specs.Lengths.{Length, lengthOf}
@@ -31,8 +32,9 @@ use Rattle.reader.specs.Tokens.{tokenOf}
 use Rattle.reader.specs.Lines.{isField}
 use Rattle.reader.specs.Lyrics.{wordOf, orSkip}
 use Rattle.reader.specs.All.{all as everything}
+use Rattle.reader.proofs.Digits.{digit-not}
 use Rattle.reader.proofs.Standard.{meter-meets, unit-meets, unit-inline-meets, normal-meets, tuplet-meets}
-use Rattle.reader.proofs.MoreStandard.{numeratorOf, denominatorOf, length-meets, length-over-meets, tuplet-p-meets, tuplet-pq-meets, word-meets, pieces-one, pieces-first, identifier-meets, identifier-alone}
+use Rattle.reader.proofs.MoreStandard.{numeratorOf, denominatorOf, length-meets, length-over-meets, length-halved-meets, tuplet-p-meets, tuplet-pq-meets, word-meets, pieces-one, pieces-first, identifier-meets, identifier-alone}
 use Rattle.reader.proofs.InLine.{chord-meets}
 
 -- FIELDS (3.0)
@@ -71,43 +73,62 @@ abbrev lengthAs : ℕ → ℕ → ℕ → Length
 lengthAs n m k = record { num = n; den = m; used = k }
 
 -- with a slash: n is what d says, m what e says
-slashed : (d e s t : List ℕ) (n m : ℕ) → t ≡ d ++ (47 ∷ e) → all isDigit d ≡ true → all isDigit e ≡ true → numeratorOf d ≡ n → denominatorOf e ≡ m → n < 2 ^ 32 → m < 2 ^ 32 → countWhile isDigit s ≡ 0
-    → lengthOf (t ++ s) ≡ lengthAs n m (length t)
-slashed d e s t n m q a b x y h k z =
+slashed : (ed : Edition) (d e s t : List ℕ) (n m : ℕ) → t ≡ d ++ (47 ∷ e) → all isDigit d ≡ true → all isDigit e ≡ true → numeratorOf d ≡ n → denominatorOf e ≡ m → n < 2 ^ 32 → m < 2 ^ 32 → countWhile isDigit s ≡ 0
+    → is "/" (first (e ++ s)) ≡ false → lengthOf ed (t ++ s) ≡ lengthAs n m (length t)
+slashed ed d e s t n m q a b x y h k z w =
     let c : length d + 1 + length e ≡ length (d ++ (47 ∷ e)) = sym (length-append d (47 ∷ e) ∙ (let w : length d + suc (length e) ≡ length d + 1 + length e = omega arith in w)) in
-    ap (λ (l : List ℕ). lengthOf (l ++ s)) q
-    ∙ ap lengthOf (append-assoc d (47 ∷ e) s)
-    ∙ length-over-meets d e s a b (omega (arith, h, x)) (omega (arith, k, y)) z
+    ap (λ (l : List ℕ). lengthOf ed (l ++ s)) q
+    ∙ ap (lengthOf ed) (append-assoc d (47 ∷ e) s)
+    ∙ length-over-meets ed d e s a b (omega (arith, h, x)) (omega (arith, k, y)) z w
     ∙ (λ i. lengthAs (x i) (y i) (c i))
     ∙ ap (λ (l : List ℕ). lengthAs n m (length l)) (sym q)
 
-pub length-text-meets : (t s : List ℕ) (n m : ℕ) → LengthText t n m → n < 2 ^ 32 → m < 2 ^ 32 → countWhile isDigit s ≡ 0 → is "/" (first s) ≡ false → lengthOf (t ++ s) ≡ lengthAs n m (length t)
-length-text-meets t s n m (texts.unit q) h k z w = ap (λ (l : List ℕ). lengthOf (l ++ s)) q ∙ length-meets [] s refl (omega arith) z w ∙ ap (λ (l : List ℕ). lengthAs 1 1 (length l)) (sym q)
-length-text-meets t s n m (times x) h k z w =
-    length-meets t s (x .all-digits) (omega (arith, h, numerator-is t n x)) z w ∙ ap (λ (i : ℕ). lengthAs i 1 (length t)) (numerator-is t n x)
-length-text-meets t s n m (half q) h k z w = slashed [] [] s t 1 2 q refl refl refl refl h k z
-length-text-meets t s n m (texts.part e q y) h k z w = slashed [] e s t 1 m q refl (y .all-digits) refl (denominator-is e m y) h k z
-length-text-meets t s n m (times-half d q x) h k z w = slashed d [] s t n 2 q (x .all-digits) refl (numerator-is d n x) refl h k z
-length-text-meets t s n m (times-part d e q x y) h k z w = slashed d e s t n m q (x .all-digits) (y .all-digits) (numerator-is d n x) (denominator-is e m y) h k z
+-- no slash begins a number
+number-first : (e s : List ℕ) (m : ℕ) → Number e m → is "/" (first (e ++ s)) ≡ false
+number-first [] s m y = absurd (not-suc-le-zero (y .some-digit))
+number-first (c ∷ e) s m y = digit-not c 47 (and-left (isDigit c) (all isDigit e) (y .all-digits)) refl
+
+pub length-text-meets : (ed : Edition) (t s : List ℕ) (n m : ℕ) → LengthText t n m → n < 2 ^ 32 → m < 2 ^ 32 → countWhile isDigit s ≡ 0 → is "/" (first s) ≡ false → lengthOf ed (t ++ s) ≡ lengthAs n m (length t)
+length-text-meets ed t s n m (texts.unit q) h k z w = ap (λ (l : List ℕ). lengthOf ed (l ++ s)) q ∙ length-meets ed [] s refl (omega arith) z w ∙ ap (λ (l : List ℕ). lengthAs 1 1 (length l)) (sym q)
+length-text-meets ed t s n m (times x) h k z w =
+    length-meets ed t s (x .all-digits) (omega (arith, h, numerator-is t n x)) z w ∙ ap (λ (i : ℕ). lengthAs i 1 (length t)) (numerator-is t n x)
+length-text-meets ed t s n m (half q) h k z w = slashed ed [] [] s t 1 2 q refl refl refl refl h k z w
+length-text-meets ed t s n m (texts.part e q y) h k z w = slashed ed [] e s t 1 m q refl (y .all-digits) refl (denominator-is e m y) h k z (number-first e s m y)
+length-text-meets ed t s n m (times-half d q x) h k z w = slashed ed d [] s t n 2 q (x .all-digits) refl (numerator-is d n x) refl h k z w
+length-text-meets ed t s n m (times-part d e q x y) h k z w = slashed ed d e s t n m q (x .all-digits) (y .all-digits) (numerator-is d n x) (denominator-is e m y) h k z (number-first e s m y)
+
+-- SLASHES ALONE (4.3), two or more, in the second edition: before what is no slash
+halves : (d e s t : List ℕ) (n : ℕ) → t ≡ d ++ e → all isDigit d ≡ true → numeratorOf d ≡ n → all (is "/") e ≡ true → 2 ≤ length e → n < 2 ^ 32 → countWhile (is "/") s ≡ 0
+    → lengthOf Second (t ++ s) ≡ lengthAs n (2 ^ length e) (length t)
+halves d e s t n q a x b k h z =
+    ap (λ (l : List ℕ). lengthOf Second (l ++ s)) q
+    ∙ ap (lengthOf Second) (append-assoc d e s)
+    ∙ length-halved-meets d e s a b k (omega (arith, h, x)) z
+    ∙ (λ i. lengthAs (x i) (2 ^ length e) (sym (length-append d e) i))
+    ∙ ap (λ (l : List ℕ). lengthAs n (2 ^ length e) (length l)) (sym q)
+
+pub halved-text-meets : (t s : List ℕ) (n m : ℕ) → HalvedText t n m → n < 2 ^ 32 → countWhile (is "/") s ≡ 0 → lengthOf Second (t ++ s) ≡ lengthAs n m (length t)
+halved-text-meets t s n m (halved b k) h z = halves [] t s t 1 refl refl refl b k h z
+halved-text-meets t s n m (times-halved d e q x b k) h z = halves d e s t n q (x .all-digits) (numerator-is d n x) b k h z
 
 -- RESTS (4.5), each with the length behind it
-at-z : (ed : Edition) (s : List ℕ) → tokenOf ed (122 ∷ s) ≡ restAs notes.rest s
+at-z : (ed : Edition) (s : List ℕ) → tokenOf ed (122 ∷ s) ≡ restAs ed notes.rest s
 unfolding everything
 at-z ed s = refl
 
-at-x : (ed : Edition) (s : List ℕ) → tokenOf ed (120 ∷ s) ≡ restAs notes.invisibleRest s
+at-x : (ed : Edition) (s : List ℕ) → tokenOf ed (120 ∷ s) ≡ restAs ed notes.invisibleRest s
 unfolding everything
 at-x ed s = refl
 
-at-Z : (ed : Edition) (s : List ℕ) → tokenOf ed (90 ∷ s) ≡ restAs notes.barRest s
+at-Z : (ed : Edition) (s : List ℕ) → tokenOf ed (90 ∷ s) ≡ restAs ed notes.barRest s
 unfolding everything
 at-Z ed s = refl
 
-at-X : (ed : Edition) (s : List ℕ) → tokenOf ed (88 ∷ s) ≡ restAs notes.invisibleBarRest s
+at-X : (ed : Edition) (s : List ℕ) → tokenOf ed (88 ∷ s) ≡ restAs ed notes.invisibleBarRest s
 unfolding everything
 at-X ed s = refl
 
-pub rest-meets : (ed : Edition) (c : ℕ) (s : List ℕ) (k : NoteKind) → restOf c ≡ some k → tokenOf ed (c ∷ s) ≡ restAs k s
+pub rest-meets : (ed : Edition) (c : ℕ) (s : List ℕ) (k : NoteKind) → restOf c ≡ some k → tokenOf ed (c ∷ s) ≡ restAs ed k s
 unfolding restOf
 rest-meets ed c s k h =
     by-test (is "z" c) (λ e. this 122 (eqb-true c 122 e) notes.rest refl (at-z ed s))
@@ -123,8 +144,8 @@ rest-meets ed c s k h =
     no-kind : none ≡ some k → ⊥
     no-kind e = let z : _≡_ {A = ℕ} 0 1 = cc in omega (arith, z)
 
-    this : (b : ℕ) → c ≡ b → (j : NoteKind) → restOf b ≡ some j → tokenOf ed (b ∷ s) ≡ restAs j s → tokenOf ed (c ∷ s) ≡ restAs k s
-    this b e j r q = ap (λ (x : ℕ). tokenOf ed (x ∷ s)) e ∙ q ∙ ap (λ (x : NoteKind). restAs x s) (ap kind-of (sym r ∙ ap restOf (sym e) ∙ h))
+    this : (b : ℕ) → c ≡ b → (j : NoteKind) → restOf b ≡ some j → tokenOf ed (b ∷ s) ≡ restAs ed j s → tokenOf ed (c ∷ s) ≡ restAs ed k s
+    this b e j r q = ap (λ (x : ℕ). tokenOf ed (x ∷ s)) e ∙ q ∙ ap (λ (x : NoteKind). restAs ed x s) (ap kind-of (sym r ∙ ap restOf (sym e) ∙ h))
 
 -- TUPLETS (4.13): 2 to 255 in the time of 1 to 255, for 1 to 2^64 - 1 notes, before what is no digit and no colon
 abbrev tupletAs : ℕ → ℕ → ℕ → ℕ → Option Taken
@@ -154,8 +175,8 @@ tuplet-text-meets ed t s a b c (actual-normal-count d e f q x y v) la ha lb hb l
     ∙ (λ i. some (taken (tuplet (record { actual = x .says i; normal = y .says i; count = v .says i })) (n i)))
 
 -- CHORDS (4.17): one note with the length behind the `]`
-pub chord-text-meets : (s inside behind : List ℕ) → ChordText s inside behind → chordAt s ≡ chordTaken (2 + length inside) behind (chordOf 0 none s)
-chord-text-meets s inside behind (texts.chord i b h q) = ap chordAt q ∙ chord-meets i b h ∙ ap (λ (l : List ℕ). chordTaken (2 + length i) b (chordOf 0 none l)) (sym q)
+pub chord-text-meets : (ed : Edition) (s inside behind : List ℕ) → ChordText s inside behind → chordAt ed s ≡ chordTaken ed (2 + length inside) behind (chordOf 0 none s)
+chord-text-meets ed s inside behind (texts.chord i b h q) = ap (chordAt ed) q ∙ chord-meets ed i b h ∙ ap (λ (l : List ℕ). chordTaken ed (2 + length i) b (chordOf 0 none l)) (sym q)
 
 -- WORDS OF LYRICS (5.1)
 last-next : (x y : ℕ) (t : List ℕ) → last (x ∷ (y ∷ t)) ≡ last (y ∷ t)

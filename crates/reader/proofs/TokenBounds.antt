@@ -17,7 +17,7 @@ use Rattle.standard.specs.Bytes.{is, isDigit, first}
 use Rattle.standard.specs.Bars.{Symbol, barSymbols, symbolAt}
 use Rattle.standard.specs.Pitches.{Accidental, Written, isLetter}
 use Rattle.editions.specs.declared.Edition.{Edition}
-use Rattle.reader.specs.Lengths.{lengthOf, denominator}
+use Rattle.reader.specs.Lengths.{lengthOf}
 use Rattle.reader.specs.Pitches.{octaveFrom, octaveOf, Before, signs, accidentalOf, isQuarter, chordOf}
 use Rattle.reader.specs.Token.{Token, Taken}
 use Rattle.reader.specs.Tuplets.{positive, normalFor, partOr, counted, withCount, withNormal, withActual, tupletOf, orSlur}
@@ -26,20 +26,12 @@ use Rattle.reader.specs.PassLists.{Listed, listed, faulty, isPassByte, l
 use Rattle.reader.specs.Inline.{isInline, inlineAt}
 use Rattle.reader.specs.Sounds.{behind, chordTaken, chordAt, restAs, noteAs, noteAfter, noteOf}
 use Rattle.reader.specs.Tokens.{closedBy, brokenOf, bracketOf, Class, white, ampersand, quote, more, less, paren, braceOpen, braceClose, bang, plus, bars, bracket, pitched, none-of-these, resting, classOf, tokenAs, tokenOf}
+use Rattle.reader.proofs.LengthLaws.{length-in, with-length}
 
 -- a first byte that is not 0 is there
 there : (s : List ℕ) (k : ℕ) → eqb (first s) (suc k) ≡ true → 0 < length s
 there [] k e = let z : _≡_ {A = ℕ} 0 (suc k) = eqb-true 0 (suc k) e in omega arith
 there (c ∷ s) k e = omega arith
-
--- a length
-pub length-in : (s : List ℕ) → lengthOf s .used ≤ length s
-unfolding lengthOf denominator
-length-in s =
-    let n = countWhile isDigit s in
-    by-test (is "/" (first (drop n s)))
-    (λ e. rw (e, lengthOf) (omega (arith, there (drop n s) 46 e, length-drop n s, count-while-le isDigit (drop (suc n) s), length-drop (suc n) s)))
-    (λ e. rw (e, lengthOf) (count-while-le isDigit s))
 
 -- ties and slur ends
 pub behind-in : (s : List ℕ) → behind s .used ≤ length s
@@ -97,27 +89,28 @@ accidental-in c s =
     (λ f. rw (f, accidentalOf) (by-test (is "=" c) (λ g. rw (g, accidentalOf) (omega arith)) (λ g. rw (g, accidentalOf) (omega arith))))))
 
 -- a note from its letter on
-noteAs-in : (a : Before) (c : ℕ) (s : List ℕ) → noteAs a c s .used ≤ a .used + suc (length s)
+noteAs-in : (ed : Edition) (a : Before) (c : ℕ) (s : List ℕ) → noteAs ed a c s .used ≤ a .used + suc (length s)
 unfolding noteAs
-noteAs-in a c s =
+noteAs-in ed a c s =
     let o = octaveOf c s .used in
-    let l = lengthOf (drop o s) .used in
+    let l = lengthOf ed (drop o s) .used in
     by-test (octaveOf c s .fine)
-    (λ e. rw (e, noteAs) (omega (arith, octave-in c s, length-in (drop o s), length-drop o s, behind-in (drop (o + l) s), length-drop (o + l) s)))
+    (λ e. rw (e, noteAs) (with-length (λ t. t .used ≤ a .used + suc (length s)) ed _ (drop o s) _ (λ m. omega arith)
+    (λ m. omega (arith, octave-in c s, length-in ed (drop o s), length-drop o s, behind-in (drop (o + l) s), length-drop (o + l) s))))
     (λ e. rw (e, noteAs) (omega arith))
 
 -- a note behind its accidental
-noteAfter-in : (a : Before) (r : List ℕ) → noteAfter a r .used ≤ a .used + length r
+noteAfter-in : (ed : Edition) (a : Before) (r : List ℕ) → noteAfter ed a r .used ≤ a .used + length r
 unfolding noteAfter
-noteAfter-in a [] = omega arith
-noteAfter-in a (c ∷ r) = by-test (isLetter c) (λ e. rw (e, noteAfter) (noteAs-in a c r)) (λ e. rw (e, noteAfter) (omega arith))
+noteAfter-in ed a [] = omega arith
+noteAfter-in ed a (c ∷ r) = by-test (isLetter c) (λ e. rw (e, noteAfter) (noteAs-in ed a c r)) (λ e. rw (e, noteAfter) (omega arith))
 
 -- a note
-note-in : (c : ℕ) (s : List ℕ) → noteOf (c ∷ s) .used ≤ suc (length s)
+note-in : (ed : Edition) (c : ℕ) (s : List ℕ) → noteOf ed (c ∷ s) .used ≤ suc (length s)
 unfolding noteOf
-note-in c s =
+note-in ed c s =
     let a = accidentalOf (c ∷ s) in
-    omega (arith, noteAfter-in a (drop (a .used) (c ∷ s)), length-drop (a .used) (c ∷ s), accidental-in c s)
+    omega (arith, noteAfter-in ed a (drop (a .used) (c ∷ s)), length-drop (a .used) (c ∷ s), accidental-in c s)
 
 -- tuplets: n bytes are read, s is left
 unfoldable Within : ℕ → Option Taken → Type 0
@@ -200,20 +193,21 @@ volta-in n s (faulty k) h = omega arith
 volta-in n s (listed ps) h = omega arith
 
 -- a chord by its pitches
-chord-in : (n : ℕ) (s : List ℕ) (o : Option (List Written)) → chordTaken n s o .used ≤ n + length s
+chord-in : (ed : Edition) (n : ℕ) (s : List ℕ) (o : Option (List Written)) → chordTaken ed n s o .used ≤ n + length s
 unfolding chordTaken
-chord-in n s none = omega arith
-chord-in n s (some []) = omega (arith, length-in s)
-chord-in n s (some (p ∷ ps)) = omega (arith, length-in s, behind-in (drop (lengthOf s .used) s), length-drop (lengthOf s .used) s)
+chord-in ed n s none = omega arith
+chord-in ed n s (some []) = with-length (λ t. t .used ≤ n + length s) ed _ s _ (λ m. omega arith) (λ m. omega (arith, length-in ed s))
+chord-in ed n s (some (p ∷ ps)) =
+    with-length (λ t. t .used ≤ n + length s) ed _ s _ (λ m. omega arith) (λ m. omega (arith, length-in ed s, behind-in (drop (lengthOf ed s .used) s), length-drop (lengthOf ed s .used) s))
 
 -- a chord
-chordAt-in : (s : List ℕ) → chordAt s .used ≤ suc (length s)
+chordAt-in : (ed : Edition) (s : List ℕ) → chordAt ed s .used ≤ suc (length s)
 unfolding chordAt
-chordAt-in s =
+chordAt-in ed s =
     let n = countWhile (λ c. not (is "]" c)) s in
     by-test (ltb n (length s))
-    (λ e. rw (e, chordAt) (omega (arith, chord-in (2 + n) (drop (suc n) s) (chordOf 0 none s), length-drop (suc n) s, ltb-true n (length s) e)))
-    (λ e. rw (e, chordAt) (omega (arith, chord-in (1 + n) (drop (suc n) s) (chordOf 0 none s), length-drop (suc n) s, count-while-le (λ c. not (is "]" c)) s)))
+    (λ e. rw (e, chordAt) (omega (arith, chord-in ed (2 + n) (drop (suc n) s) (chordOf 0 none s), length-drop (suc n) s, ltb-true n (length s) e)))
+    (λ e. rw (e, chordAt) (omega (arith, chord-in ed (1 + n) (drop (suc n) s) (chordOf 0 none s), length-drop (suc n) s, count-while-le (λ c. not (is "]" c)) s)))
 
 -- an inline field has its `]`
 inline-in : (s : List ℕ) → isInline s ≡ true → ltb (countWhile (λ c. not (is "]" c)) s) (length s) ≡ true
@@ -231,7 +225,7 @@ bracket-in ed s =
     (λ e. rw (e, bracketOf) (volta-in (countWhile isPassByte s) s (listOf (take (countWhile isPassByte s) s)) (count-while-le isPassByte s)))
     (λ e. rw (e, bracketOf) (by-test (isInline s)
     (λ f. rw (f, bracketOf) (omega (arith, ltb-true n (length s) (inline-in s f))))
-    (λ f. rw (f, bracketOf) (chordAt-in s))))
+    (λ f. rw (f, bracketOf) (chordAt-in ed s))))
 
 -- a quote or decoration
 closed-in : (p : ℕ → Bool) (t : Token) (s : List ℕ) (other : Taken) → other .used ≤ suc (length s) → closedBy p t s other .used ≤ suc (length s)
@@ -260,9 +254,9 @@ as-in ed bang c s = closed-in (is "!") _ s _ (omega arith)
 as-in ed plus c s = closed-in (is "+") _ s _ (omega arith)
 as-in ed bars c s = barline-in c s
 as-in ed bracket c s = bracket-in ed s
-as-in ed pitched c s = note-in c s
+as-in ed pitched c s = note-in ed c s
 as-in ed none-of-these c s = omega arith
-as-in ed (resting k) c s = omega (arith, length-in s)
+as-in ed (resting k) c s = with-length (λ t. t .used ≤ suc (length s)) ed _ s _ (λ m. omega arith) (λ m. omega (arith, length-in ed s))
 
 -- a token takes at most the bytes that are there
 pub takes-what-is-there : (ed : Edition) (c : ℕ) (s : List ℕ) → tokenOf ed (c ∷ s) .used ≤ length (c ∷ s)

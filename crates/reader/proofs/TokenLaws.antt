@@ -23,6 +23,7 @@ use Rattle.reader.specs.PassLists.{Listed, listed, faulty, isPassByte, l
 use Rattle.reader.specs.Inline.{isInline, inlineAt}
 use Rattle.reader.specs.Sounds.{chordTaken, chordAt, restAs, noteAs, noteAfter, noteOf}
 use Rattle.reader.specs.Tokens.{closedBy, brokenOf, bracketOf, Class, white, ampersand, quote, more, less, paren, braceOpen, braceClose, bang, plus, bars, bracket, pitched, none-of-these, resting, classOf, tokenAs, tokenOf, tokens}
+use Rattle.reader.proofs.LengthLaws.{with-length}
 
 -- A TOKEN TAKES A BYTE AT LEAST
 -- a quote or decoration
@@ -117,11 +118,11 @@ volta-takes n s (faulty k) = omega arith
 volta-takes n s (listed ps) = omega arith
 
 -- a chord by its pitches
-chord-takes : (n : ℕ) (s : List ℕ) (o : Option (List Written)) → 0 < n → 0 < chordTaken n s o .used
+chord-takes : (ed : Edition) (n : ℕ) (s : List ℕ) (o : Option (List Written)) → 0 < n → 0 < chordTaken ed n s o .used
 unfolding chordTaken
-chord-takes n s none h = omega arith
-chord-takes n s (some []) h = omega arith
-chord-takes n s (some (p ∷ ps)) h = omega arith
+chord-takes ed n s none h = omega arith
+chord-takes ed n s (some []) h = with-length (λ t. 0 < t .used) ed _ s _ (λ m. omega arith) (λ m. omega arith)
+chord-takes ed n s (some (p ∷ ps)) h = with-length (λ t. 0 < t .used) ed _ s _ (λ m. omega arith) (λ m. omega arith)
 
 -- its brackets
 one-or-two : (b : Bool) (n : ℕ) → 0 < cond b (2 + n) (1 + n)
@@ -129,11 +130,11 @@ one-or-two true n = omega arith
 one-or-two false n = omega arith
 
 -- a chord
-chordAt-takes : (s : List ℕ) → 0 < chordAt s .used
+chordAt-takes : (ed : Edition) (s : List ℕ) → 0 < chordAt ed s .used
 unfolding chordAt
-chordAt-takes s =
+chordAt-takes ed s =
     let n = countWhile (λ c. not (is "]" c)) s in
-    chord-takes (cond (ltb n (length s)) (2 + n) (1 + n)) (drop (suc n) s) (chordOf 0 none s) (one-or-two (ltb n (length s)) n)
+    chord-takes ed (cond (ltb n (length s)) (2 + n) (1 + n)) (drop (suc n) s) (chordOf 0 none s) (one-or-two (ltb n (length s)) n)
 
 -- what a `[` begins
 bracket-takes : (ed : Edition) (s : List ℕ) → 0 < bracketOf ed s .used
@@ -141,28 +142,30 @@ unfolding bracketOf voltaOf inlineAt
 bracket-takes ed s =
     by-test (isDigit (first s))
     (λ e. rw (e, bracketOf) (volta-takes (countWhile isPassByte s) s (listOf (take (countWhile isPassByte s) s))))
-    (λ e. rw (e, bracketOf) (by-test (isInline s) (λ f. rw (f, bracketOf) (omega arith)) (λ f. rw (f, bracketOf) (chordAt-takes s))))
+    (λ e. rw (e, bracketOf) (by-test (isInline s) (λ f. rw (f, bracketOf) (omega arith)) (λ f. rw (f, bracketOf) (chordAt-takes ed s))))
 
 -- a note from its letter on
-noteAs-takes : (a : Before) (c : ℕ) (s : List ℕ) → 0 < noteAs a c s .used
+noteAs-takes : (ed : Edition) (a : Before) (c : ℕ) (s : List ℕ) → 0 < noteAs ed a c s .used
 unfolding noteAs
-noteAs-takes a c s = by-test (octaveOf c s .fine) (λ e. rw (e, noteAs) (omega arith)) (λ e. rw (e, noteAs) (omega arith))
+noteAs-takes ed a c s =
+    by-test (octaveOf c s .fine) (λ e. rw (e, noteAs) (with-length (λ t. 0 < t .used) ed _ (drop (octaveOf c s .used) s) _ (λ m. omega arith) (λ m. omega arith)))
+    (λ e. rw (e, noteAs) (omega arith))
 
 -- a note behind its accidental
-noteAfter-takes : (a : Before) (c : ℕ) (s : List ℕ) → 0 < noteAfter a (c ∷ s) .used
+noteAfter-takes : (ed : Edition) (a : Before) (c : ℕ) (s : List ℕ) → 0 < noteAfter ed a (c ∷ s) .used
 unfolding noteAfter
-noteAfter-takes a c s = by-test (isLetter c) (λ e. rw (e, noteAfter) (noteAs-takes a c s)) (λ e. rw (e, noteAfter) (omega arith))
+noteAfter-takes ed a c s = by-test (isLetter c) (λ e. rw (e, noteAfter) (noteAs-takes ed a c s)) (λ e. rw (e, noteAfter) (omega arith))
 
 -- the same, where that may be nothing
-note-takes-at : (a : Before) (s : List ℕ) (r : List ℕ) → drop (a .used) s ≡ r → 0 < length s → 0 < noteAfter a r .used
+note-takes-at : (ed : Edition) (a : Before) (s : List ℕ) (r : List ℕ) → drop (a .used) s ≡ r → 0 < length s → 0 < noteAfter ed a r .used
 unfolding noteAfter
-note-takes-at a s [] e h = omega (arith, ap length e, length-drop (a .used) s)
-note-takes-at a s (c ∷ r) e h = noteAfter-takes a c r
+note-takes-at ed a s [] e h = omega (arith, ap length e, length-drop (a .used) s)
+note-takes-at ed a s (c ∷ r) e h = noteAfter-takes ed a c r
 
 -- a note
-note-takes : (c : ℕ) (s : List ℕ) → 0 < noteOf (c ∷ s) .used
+note-takes : (ed : Edition) (c : ℕ) (s : List ℕ) → 0 < noteOf ed (c ∷ s) .used
 unfolding noteOf
-note-takes c s = note-takes-at (accidentalOf (c ∷ s)) (c ∷ s) (drop (accidentalOf (c ∷ s) .used) (c ∷ s)) refl (omega arith)
+note-takes ed c s = note-takes-at ed (accidentalOf (c ∷ s)) (c ∷ s) (drop (accidentalOf (c ∷ s) .used) (c ∷ s)) refl (omega arith)
 
 -- a token of any class
 pub as-takes : (ed : Edition) (k : Class) (c : ℕ) (s : List ℕ) → 0 < tokenAs ed k (c ∷ s) .used
@@ -179,9 +182,9 @@ as-takes ed bang c s = closed-takes (is "!") _ s _ (omega arith)
 as-takes ed plus c s = closed-takes (is "+") _ s _ (omega arith)
 as-takes ed bars c s = barline-takes (c ∷ s)
 as-takes ed bracket c s = bracket-takes ed s
-as-takes ed pitched c s = note-takes c s
+as-takes ed pitched c s = note-takes ed c s
 as-takes ed none-of-these c s = omega arith
-as-takes ed (resting k) c s = omega arith
+as-takes ed (resting k) c s = with-length (λ t. 0 < t .used) ed _ s _ (λ m. omega arith) (λ m. omega arith)
 
 -- every token takes at least a byte
 pub takes-a-byte : (ed : Edition) (c : ℕ) (s : List ℕ) → 0 < tokenOf ed (c ∷ s) .used

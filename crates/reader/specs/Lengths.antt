@@ -1,4 +1,4 @@
--- A LENGTH in a music line, and the written value that it gets (document 01, "Length"; ABC 2.1, 4.3).
+-- A LENGTH in a music line, and the written value that it gets (document 01, "Length"; document 02, T-04; ABC 2.1, 4.3).
 use Prim.Native.Nat.{ℕ, zero, suc, _+_, _*_, _^_}
 use mathlib.Core.Bool.{Bool, true, false, cond, _&&_}
 use mathlib.Core.List.{List, [], _∷_}
@@ -7,6 +7,8 @@ use lib.ListN.{take, drop}
 use Rattle.laws.specs.Lists.{countWhile}
 use Rattle.standard.specs.Bytes.{is, isDigit, first, decimal}
 use Rattle.standard.specs.Lengths.{Fraction, lengthFraction, Value, ticks, forty}
+use Rattle.editions.specs.declared.Edition.{Edition}
+use Rattle.editions.specs.declared.Edition.the-variants.{First, Second}
 
 -- a length as written: numerator, denominator, and the bytes it takes
 pub record Length : Type 0 where
@@ -19,15 +21,28 @@ unfoldable pub number : ℕ → ℕ → List ℕ → ℕ
 number d zero s = d
 number d (suc n) s = let v = decimal 0 (take (suc n) s) in cond (ltb v (2 ^ 32)) v d
 
--- after the slash: digits, or nothing, which reads 2 (ABC 2.1, 4.3: A/ is A/2). 000 skips a second slash: the one place where slashes count
-unfoldable pub denominator : ℕ → ℕ → List ℕ → Length
-denominator num used s = let n = countWhile isDigit s in record { num = num; den = number 2 n s; used = used + 1 + n }
+-- THE SLASHES behind the numerator that count. The first edition: "the later slashes are still skipped"; the second: all "in a row"
+unfoldable pub slashes : Edition → List ℕ → ℕ
+slashes First s = cond (is "/" (first s)) 1 0
+slashes Second s = countWhile (is "/") s
 
--- a length at the front
-unfoldable pub lengthOf : List ℕ → Length
-lengthOf s =
+-- a numerator of n bytes with k slashes behind it; s stands behind them. One slash: digits, or nothing, which reads 2 (ABC 2.1, 4.3: A/ is A/2).
+-- "two or more slashes in a row halve once each, digits behind them or not"
+unfoldable pub lengthOver : ℕ → ℕ → ℕ → List ℕ → Length
+lengthOver num n zero s = record { num = num; den = 1; used = n }
+lengthOver num n (suc zero) s = let m = countWhile isDigit s in record { num = num; den = number 2 m s; used = n + 1 + m }
+lengthOver num n (suc (suc k)) s = record { num = num; den = 2 ^ suc (suc k); used = n + suc (suc k) }
+
+-- a length at the front. What slashes and digits stand behind it is skipped, as every byte of that class
+unfoldable pub lengthOf : Edition → List ℕ → Length
+lengthOf ed s =
     let n = countWhile isDigit s in
-    elim (is "/" (first (drop n s))) [ true ↦ denominator (number 1 n s) n (drop (suc n) s) | false ↦ record { num = number 1 n s; den = 1; used = n } ]
+    let k = slashes ed (drop n s) in
+    lengthOver (number 1 n s) n k (drop (n + k) s)
+
+-- refusal 22: "more than 31"
+unfoldable pub manySlashes : Edition → List ℕ → Bool
+manySlashes ed s = ltb 31 (slashes ed (drop (countWhile isDigit s) s))
 
 -- a plain quarter, a plain longa
 abbrev pub quarterNote : Value

@@ -33,7 +33,7 @@ brokenOf up n s = elim (ltb 255 n) [ true ↦ taken (refused 13) (length s) | fa
 
 -- `[`: first a digit, then a field, then a chord (000's order of tests); s stands behind it
 unfoldable pub bracketOf : Edition → List ℕ → Taken
-bracketOf ed s = elim (isDigit (first s)) [ true ↦ voltaOf s | false ↦ elim (isInline s) [ true ↦ inlineAt ed s | false ↦ chordAt s ] ]
+bracketOf ed s = elim (isDigit (first s)) [ true ↦ voltaOf s | false ↦ elim (isInline s) [ true ↦ inlineAt ed s | false ↦ chordAt ed s ] ]
 
 -- THE CLASS OF A BYTE ("A table of 128 letter classes starts with every entry at "skipped"")
 pub data Class : Type 0 where
@@ -89,9 +89,9 @@ tokenAs ed bang s = closedBy (is "!") decoration (drop 1 s) (taken skipped 1)
 tokenAs ed plus s = closedBy (is "+") decoration (drop 1 s) (taken skipped 1)
 tokenAs ed bars s = barlineOf s
 tokenAs ed bracket s = bracketOf ed (drop 1 s)
-tokenAs ed pitched s = noteOf s
+tokenAs ed pitched s = noteOf ed s
 tokenAs ed none-of-these s = taken skipped 1
-tokenAs ed (resting k) s = restAs k (drop 1 s)
+tokenAs ed (resting k) s = restAs ed k (drop 1 s)
 
 -- THE TOKEN at the front
 unfoldable pub tokenOf : Edition → List ℕ → Taken

@@ -1,6 +1,6 @@
 -- HOW THINGS ARE WRITTEN (ABC 2.1), where the definitions of this crate say only what they mean: fields (3.0), meters (3.1.6), unit lengths (3.1.7), note lengths (4.3), rests (4.5),
 -- lists of passes (4.10), tuplets (4.13), chords (4.17), words of lyrics (5.1), voices (7.1). s is the text of one; what it says stands behind it.
-use Prim.Native.Nat.{ℕ, _<_, _≤_}
+use Prim.Native.Nat.{ℕ, _^_, _<_, _≤_}
 use mathlib.Core.Path.{_≡_}
 use mathlib.Core.Bool.{Bool, true, false, not, _&&_, _||_}
 use mathlib.Core.Option.{Option, none, some}
@@ -51,6 +51,11 @@ pub data LengthText (s : List ℕ) : ℕ → ℕ → Type 0 where
   part : {m : ℕ} (e : List ℕ) → s ≡ 47 ∷ e → Number e m → LengthText s 1 m
   times-half : {n : ℕ} (d : List ℕ) → s ≡ d ++ (47 ∷ []) → Number d n → LengthText s n 2
   times-part : {n m : ℕ} (d e : List ℕ) → s ≡ d ++ (47 ∷ e) → Number d n → Number e m → LengthText s n m
+
+-- 4.3: slashes alone halve once each, so `//` quarters: n/m of the unit with two of them or more (e)
+pub data HalvedText (s : List ℕ) : ℕ → ℕ → Type 0 where
+  halved : all (is "/") s ≡ true → 2 ≤ length s → HalvedText s 1 (2 ^ length s)
+  times-halved : {n : ℕ} (d e : List ℕ) → s ≡ d ++ e → Number d n → all (is "/") e ≡ true → 2 ≤ length e → HalvedText s n (2 ^ length e)
 
 -- 4.5: the letters of the rests
 unfoldable pub restOf : ℕ → Option NoteKind
