@@ -1,6 +1,6 @@
 -- LENGTHS BY THEIR SLASHES (document 02, T-04): none, one, or two and more; where both editions read the same length; and what holds of every token with a length.
 use Prim.Native.Nat.{ℕ, zero, suc, _+_, _^_, _≤_, _<_}
-use mathlib.Core.Path.{_≡_, refl, sym, ap, _∙_}
+use mathlib.Core.Path.{_≡_, refl, sym, ap, subst, _∙_}
 use mathlib.Core.Bool.{Bool, true, false, cond, not, _&&_}
 use mathlib.Core.List.{List, [], _∷_}
 use native.Mathlib.Omega.{arith}
@@ -46,6 +46,11 @@ pub length-by : (ed : Edition) (s : List ℕ) (k : ℕ) → slashes ed (drop (co
 unfolding lengthOf
 length-by ed s k e = rw e
 
+-- and 22 by the same
+pub many-by : (ed : Edition) (s : List ℕ) (k : ℕ) → slashes ed (drop (countWhile isDigit s) s) ≡ k → manySlashes ed s ≡ ltb 31 k
+unfolding manySlashes
+many-by ed s k e = rw e
+
 -- two slashes and more
 pub over-many : (num n k : ℕ) (s : List ℕ) → 2 ≤ k → lengthOver num n k s ≡ record { num = num; den = 2 ^ k; used = n + k }
 unfolding lengthOver
@@ -87,11 +92,19 @@ pub same-many : (s : List ℕ) → twoSlashes (drop (countWhile isDigit s) s) �
 unfolding manySlashes
 same-many s h = ap (λ (k : ℕ). ltb 31 k) (same-slashes (drop (countWhile isDigit s) s) h)
 
--- A TOKEN WITH A LENGTH: what holds of refusal 22 and of the token with its length holds of it
+-- A TOKEN WITH A LENGTH: refusal 22, or the token with its length
+pub with-many : (ed : Edition) (end : ℕ) (s : List ℕ) (f : Length → Taken) → manySlashes ed s ≡ true → withLength ed end s f ≡ taken (refused 22) end
+unfolding withLength
+with-many ed end s f m = rw (m, withLength)
+
+pub with-few : (ed : Edition) (end : ℕ) (s : List ℕ) (f : Length → Taken) → manySlashes ed s ≡ false → withLength ed end s f ≡ f (lengthOf ed s)
+unfolding withLength
+with-few ed end s f m = rw (m, withLength)
+
+-- what holds of both holds of it
 pub with-length : (P : Taken → Type 0) (ed : Edition) (end : ℕ) (s : List ℕ) (f : Length → Taken) → (manySlashes ed s ≡ true → P (taken (refused 22) end)) → (manySlashes ed s ≡ false → P (f (lengthOf ed s)))
     → P (withLength ed end s f)
-unfolding withLength
-with-length P ed end s f a b = by-test (manySlashes ed s) (λ e. rw (e, withLength) (a e)) (λ e. rw (e, withLength) (b e))
+with-length P ed end s f a b = by-test (manySlashes ed s) (λ e. subst P (sym (with-many ed end s f e)) (a e)) (λ e. subst P (sym (with-few ed end s f e)) (b e))
 
 -- and in both editions it is the same where the length is
 pub with-same-length : (end : ℕ) (s : List ℕ) (f : Length → Taken) → twoSlashes (drop (countWhile isDigit s) s) ≡ false → withLength First end s f ≡ withLength Second end s f

@@ -52,8 +52,8 @@ noteAs ed a c s =
     let o = octaveOf c s in
     elim (o .fine) [
       | true ↦ withLength ed (a .used + 1 + length s) (drop (o .used) s) (λ l.
-        let b = behind (drop (o .used + l .used) s) in
-        taken (note (record { step = stepOf c; octave = o .octave; sign = a .sign }) l b) (a .used + 1 + o .used + l .used + b .used))
+          let b = behind (drop (o .used + l .used) s) in
+          taken (note (record { step = stepOf c; octave = o .octave; sign = a .sign }) l b) (a .used + 1 + o .used + l .used + b .used))
       | false ↦ taken (refused 12) (a .used + 1 + length s)
     ]
 

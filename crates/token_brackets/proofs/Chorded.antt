@@ -1,7 +1,7 @@
 -- Chords, by position.
 use Prim.Native.Nat.{ℕ, suc, _+_, _-_, _≤_, _<_}
-use mathlib.Core.Path.{_≡_, sym, ap, _∙_}
-use mathlib.Core.Bool.{cond, not}
+use mathlib.Core.Path.{_≡_, sym, ap, subst, _∙_}
+use mathlib.Core.Bool.{true, cond, not}
 use mathlib.Core.Option.{Option, none, some}
 use mathlib.Core.List.{List, [], _∷_}
 use native.Mathlib.Omega.{arith}
@@ -15,11 +15,15 @@ use Rattle.laws.proofs.Bools.{by-test}
 use Rattle.laws.proofs.Spans.{count-while-le}
 use Rattle.standard.specs.Pitches.{Written}
 use Rattle.standard.specs.Notes as standard
-use Rattle.reader.specs.Lengths.{Length, lengthOf}
+use Rattle.editions.specs.declared.Edition.{Edition}
+use Rattle.reader.specs.Lengths.{Length, lengthOf, manySlashes}
 use Rattle.reader.specs.Pitches.{chordOf}
-use Rattle.reader.specs.Sounds.{behind, chordTaken, chordAt}
-use Rattle.token_lengths.specs.declared.Suffix.{Suffix}
-use Rattle.token_lengths.specs.Values.{suffixAt}
+use Rattle.reader.specs.Token.{Taken}
+use Rattle.reader.specs.Sounds.{behind, withLength, chordTaken, chordAt}
+use Rattle.reader.proofs.LengthLaws.{with-many, with-few}
+use Rattle.token_suffixes.specs.declared.Suffix.the-variants as suffix
+use Rattle.token_suffixes.specs.Suffixes.{suffixAt}
+use Rattle.token_suffixes.proofs.Suffixes.{was-refused, WasRead, was-read}
 use Rattle.text_runs.specs.declared.Behind as runs
 use Rattle.text_runs.specs.Behind.{behindFor}
 use Rattle.token_pitches.specs.Chords.{closedAt, chordFor}
@@ -27,7 +31,7 @@ use Rattle.token_pitches.specs.declared.Chord.the-variants as answer
 use Rattle.token_lexemes.specs.Lexemes.{lexemeFor, cutFor}
 use Rattle.token_lexemes.specs.declared.Lexeme.the-variants.{Chord, Nothing, Refused}
 
-module _ (line : List ℕ) (at close : ℕ) (h : at < length line) (k : close ≡ endOf (λ c. not (eqb c 93)) line (at + 1)) where
+module _ (ed : Edition) (line : List ℕ) (at close : ℕ) (h : at < length line) (k : close ≡ endOf (λ c. not (eqb c 93)) line (at + 1)) where
   -- the bytes before the `]`, and those of the chord
   inner : ℕ
   inner = countWhile (λ c. not (eqb c 93)) (drop (at + 1) line)
@@ -69,7 +73,7 @@ module _ (line : List ℕ) (at close : ℕ) (h : at < length line) (k : close �
       let m : length (drop (at + 1) line) ≤ suc inner = omega (arith, place, left) in
       rw e (drop-of-length-le (drop (at + 1) line) m ∙ sym (drop-of-length-le line l)))
 
-  chord-is : chordAt (drop (at + 1) line) ≡ chordTaken whole (drop (closedAt line close) line) (chordOf 0 none (drop (at + 1) line))
+  chord-is : chordAt ed (drop (at + 1) line) ≡ chordTaken ed whole (drop (closedAt line close) line) (chordOf 0 none (drop (at + 1) line))
   unfolding chordAt whole inner
   chord-is = rw rest
 
@@ -80,61 +84,86 @@ module _ (line : List ℕ) (at close : ℕ) (h : at < length line) (k : close �
       (λ e. rw e (omega (arith, ltb-true close (length line) e)))
       (λ e. rw e (omega (arith, place, left, bound)))
 
+  -- what a refusal takes: what is left of the line
+  whole-line : length line ≡ at + (whole + length (drop (closedAt line close) line))
+  whole-line = omega (arith, after, length-drop (closedAt line close) line, in-line)
+
   -- refusal 12
   refused-by : (o : Option (List Written)) → chordFor (closedAt line close) o ≡ answer.Refused
-      → record { lexeme = Refused 12; next = length line } ≡ cutFor at (chordTaken whole (drop (closedAt line close) line) o)
+      → record { lexeme = Refused 12; next = length line } ≡ cutFor at (chordTaken ed whole (drop (closedAt line close) line) o)
   unfolding chordFor chordTaken lexemeFor
-  refused-by none e =
-      let n : length line ≡ at + (whole + length (drop (closedAt line close) line)) = omega (arith, after, length-drop (closedAt line close) line, in-line) in
-      ap (λ x. record { lexeme = Refused 12; next = x }) n
+  refused-by none e = ap (λ x. record { lexeme = Refused 12; next = x }) whole-line
   refused-by (some ps) e = let z : _≡_ {A = ℕ} 0 1 = cc in absurd (omega arith)
 
-  pub chord-refused : chordFor (closedAt line close) (chordOf 0 none (drop (at + 1) line)) ≡ answer.Refused → record { lexeme = Refused 12; next = length line } ≡ cutFor at (chordAt (drop (at + 1) line))
+  pub chord-refused : chordFor (closedAt line close) (chordOf 0 none (drop (at + 1) line)) ≡ answer.Refused → record { lexeme = Refused 12; next = length line } ≡ cutFor at (chordAt ed (drop (at + 1) line))
   chord-refused e = refused-by (chordOf 0 none (drop (at + 1) line)) e ∙ ap (cutFor at) (sym chord-is)
 
-  -- its length
-  module _ (next : ℕ) (len : Suffix) (el : len ≡ suffixAt line next) where
-    empty-by : (o : Option (List Written)) → chordFor (closedAt line close) o ≡ answer.Read 0 next
-        → record { lexeme = Nothing; next = len .next } ≡ cutFor at (chordTaken whole (drop (closedAt line close) line) o)
-    unfolding chordFor chordTaken lexemeFor suffixAt
-    empty-by none e = let z : _≡_ {A = ℕ} 0 1 = cc in absurd (omega arith)
-    empty-by (some []) e =
-        let m : next ≡ closedAt line close = cc in
-        let n : len .next ≡ at + (whole + lengthOf (drop (closedAt line close) line) .used) =
-        ap (λ (x : Suffix). x .next) el ∙ ap (λ i. i + lengthOf (drop i line) .used) m ∙ ap (λ i. i + lengthOf (drop (closedAt line close) line) .used) after
-        ∙ add (lengthOf (drop (closedAt line close) line) .used) in
-        ap (λ x. record { lexeme = Nothing; next = x }) n
-      where
-        add : (u : ℕ) → at + whole + u ≡ at + (whole + u)
-        add u = omega arith
-    empty-by (some (p ∷ ps)) e = let z : _≡_ {A = ℕ} (suc (length ps)) 0 = cc in absurd (omega arith)
+  -- its length begins where the chord ends
+  module _ (count next : ℕ) where
+    began-by : (o : Option (List Written)) → chordFor (closedAt line close) o ≡ answer.Read count next → next ≡ closedAt line close
+    unfolding chordFor
+    began-by none e = let z : _≡_ {A = ℕ} 0 1 = cc in absurd (omega arith)
+    began-by (some ps) e = cc
 
-    pub chord-empty : chordFor (closedAt line close) (chordOf 0 none (drop (at + 1) line)) ≡ answer.Read 0 next → record { lexeme = Nothing; next = len .next } ≡ cutFor at (chordAt (drop (at + 1) line))
-    chord-empty e = empty-by (chordOf 0 none (drop (at + 1) line)) e ∙ ap (cutFor at) (sym chord-is)
+    -- refusal 22
+    many-cut : (f : Length → Taken) → manySlashes ed (drop (closedAt line close) line) ≡ true
+        → record { lexeme = Refused 22; next = length line } ≡ cutFor at (withLength ed (whole + length (drop (closedAt line close) line)) (drop (closedAt line close) line) f)
+    unfolding lexemeFor
+    many-cut f m = ap (λ x. record { lexeme = Refused 22; next = x }) whole-line ∙ ap (cutFor at) (sym (with-many ed (whole + length (drop (closedAt line close) line)) (drop (closedAt line close) line) f m))
 
-    module _ (count : ℕ) (some-count : count ≡ 0 → ⊥) (b : runs.Behind) (eb : b ≡ behindFor (len .next) (behind (drop (len .next) line))) where
-      full-by : (o : Option (List Written)) → chordFor (closedAt line close) o ≡ answer.Read count next
-          → record { lexeme = Chord (at + 1) count (len .num) (len .den) (b .tie) (b .slur); next = b .next } ≡ cutFor at (chordTaken whole (drop (closedAt line close) line) o)
-      unfolding chordFor chordTaken lexemeFor suffixAt
-      full-by none e = let z : _≡_ {A = ℕ} 0 1 = cc in absurd (omega arith)
-      full-by (some []) e = let z : count ≡ 0 = cc in absurd (some-count z)
-      full-by (some (p ∷ ps)) e =
+    many-by : manySlashes ed (drop (closedAt line close) line) ≡ true → (o : Option (List Written)) → chordFor (closedAt line close) o ≡ answer.Read count next
+        → record { lexeme = Refused 22; next = length line } ≡ cutFor at (chordTaken ed whole (drop (closedAt line close) line) o)
+    unfolding chordFor chordTaken
+    many-by m none e = let z : _≡_ {A = ℕ} 0 1 = cc in absurd (omega arith)
+    many-by m (some []) e = many-cut _ m
+    many-by m (some (p ∷ ps)) e = many-cut _ m
+
+    pub chord-many : chordFor (closedAt line close) (chordOf 0 none (drop (at + 1) line)) ≡ answer.Read count next → suffixAt ed line next ≡ suffix.Refused
+        → record { lexeme = Refused 22; next = length line } ≡ cutFor at (chordAt ed (drop (at + 1) line))
+    chord-many e es =
+        let o = chordOf 0 none (drop (at + 1) line) in
+        many-by (ap (λ i. manySlashes ed (drop i line)) (sym (began-by o e)) ∙ was-refused ed line next es) o e ∙ ap (cutFor at) (sym chord-is)
+
+    -- the length that was read, from where the chord ends
+    module _ (num den end : ℕ) (es : suffixAt ed line next ≡ suffix.Read num den end) where
+      begun : next ≡ closedAt line close → WasRead ed line (closedAt line close) num den end
+      begun m = subst (λ i. WasRead ed line i num den end) m (was-read ed line next num den end es)
+
+      empty-by : (o : Option (List Written)) → chordFor (closedAt line close) o ≡ answer.Read count next → count ≡ 0
+          → record { lexeme = Nothing; next = end } ≡ cutFor at (chordTaken ed whole (drop (closedAt line close) line) o)
+      unfolding chordFor chordTaken lexemeFor
+      empty-by none e z = let z : _≡_ {A = ℕ} 0 1 = cc in absurd (omega arith)
+      empty-by (some []) e z =
           let s = drop (closedAt line close) line in
-          let m : next ≡ closedAt line close = cc in
-          let q : count ≡ length (p ∷ ps) = cc in
-          let l = lengthOf s in
-          let g : lengthOf (drop next line) ≡ l = ap (λ i. lengthOf (drop i line)) m in
-          let len-num : len .num ≡ l .num = ap (λ (x : Suffix). x .num) el ∙ ap (λ (x : Length). x .num) g in
-          let len-den : len .den ≡ l .den = ap (λ (x : Suffix). x .den) el ∙ ap (λ (x : Length). x .den) g in
-          let len-next : len .next ≡ closedAt line close + l .used = ap (λ (x : Suffix). x .next) el ∙ ap (λ (x : Length). next + x .used) g ∙ ap (λ i. i + l .used) m in
-          let v : drop (len .next) line ≡ drop (l .used) s = ap (λ i. drop i line) len-next ∙ sym (drop-drop (l .used) (closedAt line close) line) in
-          let w : behind (drop (len .next) line) ≡ behind (drop (l .used) s) = ap behind v in
-          let b-tie : b .tie ≡ behind (drop (l .used) s) .tie = ap (λ (x : runs.Behind). x .tie) eb ∙ ap (λ (x : standard.Behind). x .tie) w in
-          let b-slur : b .slur ≡ behind (drop (l .used) s) .slur = ap (λ (x : runs.Behind). x .slur) eb ∙ ap (λ (x : standard.Behind). x .slur) w in
-          let b-next : b .next ≡ len .next + behind (drop (l .used) s) .used = ap (λ (x : runs.Behind). x .next) eb ∙ ap (λ (x : standard.Behind). len .next + x .used) w in
-          let u : b .next ≡ at + (whole + l .used + behind (drop (l .used) s) .used) = omega (arith, after) in
-          λ j. record { lexeme = Chord (at + 1) (q j) (len-num j) (len-den j) (b-tie j) (b-slur j); next = u j }
+          let l = begun (began-by (some []) e) in
+          let n : end ≡ at + (whole + lengthOf ed s .used) = omega (arith, l .next-is, after) in
+          ap (λ x. record { lexeme = Nothing; next = x }) n ∙ ap (cutFor at) (sym (with-few ed (whole + length s) s _ (l .few)))
+      empty-by (some (p ∷ ps)) e z = let y : _≡_ {A = ℕ} (suc (length ps)) 0 = cc in absurd (omega arith)
 
-      pub chord-full : chordFor (closedAt line close) (chordOf 0 none (drop (at + 1) line)) ≡ answer.Read count next
-          → record { lexeme = Chord (at + 1) count (len .num) (len .den) (b .tie) (b .slur); next = b .next } ≡ cutFor at (chordAt (drop (at + 1) line))
-      chord-full e = full-by (chordOf 0 none (drop (at + 1) line)) e ∙ ap (cutFor at) (sym chord-is)
+      pub chord-empty : chordFor (closedAt line close) (chordOf 0 none (drop (at + 1) line)) ≡ answer.Read count next → count ≡ 0
+          → record { lexeme = Nothing; next = end } ≡ cutFor at (chordAt ed (drop (at + 1) line))
+      chord-empty e z = empty-by (chordOf 0 none (drop (at + 1) line)) e z ∙ ap (cutFor at) (sym chord-is)
+
+      module _ (some-count : count ≡ 0 → ⊥) (b : runs.Behind) (eb : b ≡ behindFor end (behind (drop end line))) where
+        full-by : (o : Option (List Written)) → chordFor (closedAt line close) o ≡ answer.Read count next
+            → record { lexeme = Chord (at + 1) count num den (b .tie) (b .slur); next = b .next } ≡ cutFor at (chordTaken ed whole (drop (closedAt line close) line) o)
+        unfolding chordFor chordTaken lexemeFor
+        full-by none e = let z : _≡_ {A = ℕ} 0 1 = cc in absurd (omega arith)
+        full-by (some []) e = let z : count ≡ 0 = cc in absurd (some-count z)
+        full-by (some (p ∷ ps)) e =
+            let s = drop (closedAt line close) line in
+            let q : count ≡ length (p ∷ ps) = cc in
+            let r = begun (began-by (some (p ∷ ps)) e) in
+            let l = lengthOf ed s in
+            let v : drop end line ≡ drop (l .used) s = ap (λ i. drop i line) (r .next-is) ∙ sym (drop-drop (l .used) (closedAt line close) line) in
+            let w : behind (drop end line) ≡ behind (drop (l .used) s) = ap behind v in
+            let b-tie : b .tie ≡ behind (drop (l .used) s) .tie = ap (λ (x : runs.Behind). x .tie) eb ∙ ap (λ (x : standard.Behind). x .tie) w in
+            let b-slur : b .slur ≡ behind (drop (l .used) s) .slur = ap (λ (x : runs.Behind). x .slur) eb ∙ ap (λ (x : standard.Behind). x .slur) w in
+            let b-next : b .next ≡ end + behind (drop (l .used) s) .used = ap (λ (x : runs.Behind). x .next) eb ∙ ap (λ (x : standard.Behind). end + x .used) w in
+            let u : b .next ≡ at + (whole + l .used + behind (drop (l .used) s) .used) = omega (arith, after, b-next, r .next-is) in
+            (λ j. record { lexeme = Chord (at + 1) (q j) (r .num-is j) (r .den-is j) (b-tie j) (b-slur j); next = u j })
+            ∙ ap (cutFor at) (sym (with-few ed (whole + length s) s _ (r .few)))
+
+        pub chord-full : chordFor (closedAt line close) (chordOf 0 none (drop (at + 1) line)) ≡ answer.Read count next
+            → record { lexeme = Chord (at + 1) count num den (b .tie) (b .slur); next = b .next } ≡ cutFor at (chordAt ed (drop (at + 1) line))
+        chord-full e = full-by (chordOf 0 none (drop (at + 1) line)) e ∙ ap (cutFor at) (sym chord-is)

@@ -55,6 +55,6 @@ module _ (ed : Edition) (line : List ℕ) (at : ℕ) where
           rw behind (rw (ap isDigit (first-at line (at + 1)) ∙ d, bracketOf) (rw (i, n, m)))
 
     -- a chord
-    pub is-chord : isInline (drop (at + 1) line) ≡ false → chordAt (drop (at + 1) line) ≡ tokenAs ed bracket (drop at line)
+    pub is-chord : isInline (drop (at + 1) line) ≡ false → chordAt ed (drop (at + 1) line) ≡ tokenAs ed bracket (drop at line)
     unfolding tokenAs bracketOf
     is-chord i = rw behind (rw (ap isDigit (first-at line (at + 1)) ∙ d, bracketOf) (rw i))

@@ -30,10 +30,10 @@ fn is_inline(line: &[u8], from: usize, close: usize) -> bool
     text_runs::find(line, from, close, b':') < close
 }
 
-// The chord whose `[` stands at `at`, with its length and what stands behind it. An empty one takes its length, no more.
-fn chord(line: &[u8], at: usize, close: usize) -> Cut
+// The chord whose `[` stands at `at`, with its length and what stands behind it, or refusal 12 or 22. An empty one takes its length, no more.
+fn chord(edition: Edition, line: &[u8], at: usize, close: usize) -> Cut
     requires { ⌜ (at < length (now line)) × (close ≡ endOf (λ c. not (eqb c 93)) (now line) (at + 1)) ⌝ }
-    ensures { λ r. ⌜ r ≡ cutFor at (chordAt (drop (at + 1) (now (line .entry)))) ⌝ }
+    ensures { λ r. ⌜ r ≡ cutFor at (chordAt edition (drop (at + 1) (now (line .entry)))) ⌝ }
 {
     let token_pitches::Chord::Read { count, next } = token_pitches::parse_abc_chord(
         line,
@@ -45,8 +45,17 @@ fn chord(line: &[u8], at: usize, close: usize) -> Cut
             next: line.len(),
         };
     };
-    let length = token_lengths::parse_duration_suffix(line, next);
-    let after_length = length.next;
+    let token_suffixes::Suffix::Read {
+        num,
+        den,
+        next: after_length,
+    } = token_suffixes::parse_duration_suffix(edition, line, next)
+    else {
+        return Cut {
+            lexeme: Lexeme::Refused(22),
+            next: line.len(),
+        };
+    };
     if count == 0 {
         return Cut {
             lexeme: Lexeme::Nothing,
@@ -58,8 +67,8 @@ fn chord(line: &[u8], at: usize, close: usize) -> Cut
         lexeme: Lexeme::Chord {
             place: at + 1,
             count,
-            num: length.num,
-            den: length.den,
+            num,
+            den,
             tie: behind.tie,
             slur: behind.slur,
         },
@@ -115,5 +124,5 @@ pub fn bracket(edition: Edition, line: &[u8], at: usize) -> Cut
     if is_inline(line, from, close) {
         return inline_field(edition, line, at, close);
     }
-    chord(line, at, close)
+    chord(edition, line, at, close)
 }

@@ -1,4 +1,3 @@
-pub mod Suffixes
 pub mod Sizes
 pub mod Searches
 pub mod Common

@@ -1,15 +1,9 @@
 -- Lengths as the code has them, and what they mean.
-use Prim.Native.Nat.{ℕ, zero, suc, _+_, _*_}
+use Prim.Native.Nat.{ℕ, zero, suc, _*_}
 use mathlib.Core.Bool.{Bool, true, false, cond}
 use mathlib.Core.List.{List, [], _∷_}
 use lib.Dec.{ltb, eqb}
-use lib.ListN.{drop}
-use Rattle.laws.specs.Lists.{countWhile}
-use Rattle.standard.specs.Bytes.{isDigit}
 use Rattle.standard.specs.Lengths.{Fraction, Value, ticks, dotted, halved}
-use Rattle.reader.specs.Lengths.{number, lengthOf}
-use Rattle.token_lengths.specs.declared.Number.{Number}
-use Rattle.token_lengths.specs.declared.Suffix.{Suffix}
 use Rattle.token_lengths.specs.declared.Length.{Length}
 use Rattle.token_lengths.specs.declared.Length.the-variants.{Written, WholeBar}
 use Rattle.token_lengths.specs.declared.Best.{Best}
@@ -27,14 +21,6 @@ asValue (WholeBar d) = written 10 d
 -- a written value as a length
 abbrev pub lengthAs : Value → Length
 lengthAs w = Written (w .value) (w .dots)
-
--- the number at a position, and the position after its digits
-unfoldable pub numberOr : ℕ → List ℕ → ℕ → Number
-numberOr other line at = record { value = number other (countWhile isDigit (drop at line)) (drop at line); next = at + countWhile isDigit (drop at line) }
-
--- the length at a position, and the position after it
-unfoldable pub suffixAt : List ℕ → ℕ → Suffix
-suffixAt line at = let l = lengthOf (drop at line) in record { num = l .num; den = l .den; next = at + l .used }
 
 -- num / parts of a whole note
 abbrev pub fraction : ℕ → ℕ → Fraction

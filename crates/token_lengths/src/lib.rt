@@ -1,22 +1,9 @@
-// Lengths of notes: the suffix that writes one, the written value that it gets, and broken rhythm.
+// Lengths of notes: the written value that a fraction of the unit gets, and broken rhythm.
 ghost use mathlib.Core.Path.{_≡_};
 ghost use Prim.Native.Nat.{_+_, _*_, _<_, _≤_, _^_, min, max};
 ghost use Rattle.standard.specs.Lengths.{lengthFraction, ticks};
 ghost use Rattle.reader.specs.Lengths.{writtenAs};
-ghost use Rattle.token_lengths.specs.Values.{numberOr, suffixAt, written, lengthAs, fraction, commonOf, longerOf, brokenLength, asValue};
-
-// A numerator or denominator, and the position after it.
-struct Number {
-    value: u32,
-    next: usize,
-}
-
-// A length as written, a fraction of the unit, and the position after it.
-pub struct Suffix {
-    pub num: u32,
-    pub den: u32,
-    pub next: usize,
-}
+ghost use Rattle.token_lengths.specs.Values.{written, lengthAs, fraction, commonOf, longerOf, brokenLength, asValue};
 
 // A length as read: a written value, 0 (longa) to 9 (128th), with its dots; or the whole bar, with its dots.
 pub enum Length {
@@ -28,57 +15,6 @@ pub enum Length {
 enum Best {
     Nothing,
     Found(u8, u8, u64),
-}
-
-// The number of 32 bits at `at`; `other` where there is none, or it is past 32 bits. Most have one digit, or none.
-fn number_or(line: &[u8], at: usize, other: u32) -> Number
-    ensures { λ r. ⌜ r ≡ numberOr other (now (line .entry)) at ⌝ }
-{
-    let first = text_bytes::byte_at(line, at);
-    if !text_bytes::is_digit(first) {
-        return Number {
-            value: other,
-            next: at,
-        };
-    }
-    if !text_bytes::is_digit(text_bytes::byte_at(line, at + 1)) {
-        return Number {
-            value: (first - 48) as u32,
-            next: at + 1,
-        };
-    }
-    let read = text_numbers::read_number(line, at, 4294967295);
-    let digits = read.digits;
-    let next = read.next;
-    match digits {
-        text_numbers::Digits::Value(v) => Number {
-            value: v as u32,
-            next,
-        },
-        text_numbers::Digits::Nothing => Number { value: other, next },
-        text_numbers::Digits::Past => Number { value: other, next },
-    }
-}
-
-// The length suffix at `at`: digits, then a slash and digits. A second slash is left where it is.
-pub fn parse_duration_suffix(line: &[u8], at: usize) -> Suffix
-    ensures { λ r. ⌜ r ≡ suffixAt (now (line .entry)) at ⌝ }
-{
-    let num = number_or(line, at, 1);
-    let slash = num.next;
-    if text_bytes::byte_at(line, slash) != b'/' {
-        return Suffix {
-            num: num.value,
-            den: 1,
-            next: slash,
-        };
-    }
-    let den = number_or(line, slash + 1, 2);
-    Suffix {
-        num: num.value,
-        den: den.value,
-        next: den.next,
-    }
 }
 
 fn at_least_one(x: u32) -> u32

@@ -1,10 +1,12 @@
 -- The definitions' tokens as the code has them.
 use Prim.Native.Nat.{ℕ, suc, _+_}
-use mathlib.Core.Bool.{Bool, _&&_, _||_}
+use mathlib.Core.Bool.{Bool, true, false, _&&_, _||_}
+use mathlib.Core.List.{List}
 use lib.Dec.{ltb}
 use lib.ListN.{length, getD}
 use Rattle.reader.specs.Text.{within}
-use Rattle.reader.specs.Lengths.{Length}
+use Rattle.editions.specs.declared.Edition.{Edition}
+use Rattle.reader.specs.Lengths.{lengthOf, manySlashes}
 use Rattle.reader.specs.Token.{Token, space, overlay, quoted, broken, tuplet, slur, graceOpen, graceClose, decoration, barline, volta, unit, meter, key, field, chord, rest, note, nothing, skipped, refused, Taken}
 use Rattle.reader.specs.Barlines.{leftOf}
 use Rattle.reader.specs.Codes.{kindCode}
@@ -51,6 +53,10 @@ lexemeFor at (refused n) = Refused n
 abbrev pub cutFor : ℕ → Taken → Cut
 cutFor at t = record { lexeme = lexemeFor at (t .token); next = at + t .used }
 
--- a rest by the number of its kind
-abbrev pub restFor : ℕ → ℕ → Length → Cut
-restFor at kind l = record { lexeme = Rest kind (l .num) (l .den); next = at + suc (l .used) }
+-- a rest by the number of its kind, with the length at the front of s; or refusal 22
+unfoldable pub restFor : Edition → ℕ → ℕ → List ℕ → Cut
+restFor ed at kind s =
+    elim (manySlashes ed s) [
+      | true ↦ record { lexeme = Refused 22; next = at + suc (length s) }
+      | false ↦ record { lexeme = Rest kind (lengthOf ed s .num) (lengthOf ed s .den); next = at + suc (lengthOf ed s .used) }
+    ]

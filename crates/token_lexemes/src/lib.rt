@@ -4,7 +4,6 @@ ghost use Prim.Native.Nat.{suc, _+_, _<_};
 ghost use lib.Dec.{eqb};
 ghost use lib.ListN.{length, drop, getD};
 ghost use Rattle.laws.specs.Lists.{countWhile};
-ghost use Rattle.reader.specs.Lengths.{lengthOf};
 ghost use Rattle.reader.specs.Token.{decoration, skipped, taken};
 ghost use Rattle.reader.specs.PassLists.{voltaOf};
 ghost use Rattle.reader.specs.Sounds.{noteAs, noteOf};
@@ -210,19 +209,24 @@ pub fn volta(line: &[u8], at: usize) -> Cut
     }
 }
 
-// A rest and its length.
-pub fn rest(line: &[u8], at: usize, kind: u8) -> Cut
+// A rest and its length, or refusal 22.
+pub fn rest(edition: Edition, line: &[u8], at: usize, kind: u8) -> Cut
     requires { ⌜ at < length (now line) ⌝ }
-    ensures { λ r. ⌜ r ≡ restFor at kind (lengthOf (drop (at + 1) (now (line .entry)))) ⌝ }
+    ensures { λ r. ⌜ r ≡ restFor edition at kind (drop (at + 1) (now (line .entry))) ⌝ }
 {
-    let length = token_lengths::parse_duration_suffix(line, at + 1);
+    let token_suffixes::Suffix::Read { num, den, next } = token_suffixes::parse_duration_suffix(
+        edition,
+        line,
+        at + 1,
+    ) else {
+        return Cut {
+            lexeme: Lexeme::Refused(22),
+            next: line.len(),
+        };
+    };
     Cut {
-        lexeme: Lexeme::Rest {
-            kind,
-            num: length.num,
-            den: length.den,
-        },
-        next: length.next,
+        lexeme: Lexeme::Rest { kind, num, den },
+        next,
     }
 }
 
@@ -243,10 +247,10 @@ pub fn is_short(b: u8, next: u8) -> bool
     false
 }
 
-// A note from its letter on, which stands at `at`, with the accidental before it; or refusal 12. Most are a letter alone.
-fn note_from_letter(line: &[u8], at: usize, sign: Sign) -> Cut
+// A note from its letter on, which stands at `at`, with the accidental before it; or refusal 12 or 22. Most are a letter alone.
+fn note_from_letter(edition: Edition, line: &[u8], at: usize, sign: Sign) -> Cut
     requires { ⌜ at < length (now line) ⌝ }
-    ensures { λ r. ⌜ r ≡ cutFor at (noteAs (record { sign = signOf sign; used = 0 }) (getD (now (line .entry)) at 0) (drop (at + 1) (now (line .entry)))) ⌝ }
+    ensures { λ r. ⌜ r ≡ cutFor at (noteAs edition (record { sign = signOf sign; used = 0 }) (getD (now (line .entry)) at 0) (drop (at + 1) (now (line .entry)))) ⌝ }
 {
     let letter = token_pitches::abc_note_char(line[at]);
     if is_plain(text_bytes::byte_at(line, at + 1)) {
@@ -275,8 +279,17 @@ fn note_from_letter(line: &[u8], at: usize, sign: Sign) -> Cut
             next: line.len(),
         };
     };
-    let length = token_lengths::parse_duration_suffix(line, after_octave);
-    let after_length = length.next;
+    let token_suffixes::Suffix::Read {
+        num,
+        den,
+        next: after_length,
+    } = token_suffixes::parse_duration_suffix(edition, line, after_octave)
+    else {
+        return Cut {
+            lexeme: Lexeme::Refused(22),
+            next: line.len(),
+        };
+    };
     let behind = text_runs::apply_abc_note_annotations(line, after_length);
     Cut {
         lexeme: Lexeme::Note {
@@ -285,8 +298,8 @@ fn note_from_letter(line: &[u8], at: usize, sign: Sign) -> Cut
                 octave,
                 sign,
             },
-            num: length.num,
-            den: length.den,
+            num,
+            den,
             tie: behind.tie,
             slur: behind.slur,
         },
@@ -295,9 +308,9 @@ fn note_from_letter(line: &[u8], at: usize, sign: Sign) -> Cut
 }
 
 // A note with its accidentals, which take the byte behind them even if that is no letter.
-pub fn note(line: &[u8], at: usize) -> Cut
+pub fn note(edition: Edition, line: &[u8], at: usize) -> Cut
     requires { ⌜ at < length (now line) ⌝ }
-    ensures { λ r. ⌜ r ≡ cutFor at (noteOf (drop at (now (line .entry)))) ⌝ }
+    ensures { λ r. ⌜ r ≡ cutFor at (noteOf edition (drop at (now (line .entry)))) ⌝ }
 {
     let before = token_pitches::accidental_before(line, at);
     let sign = before.sign;
@@ -309,7 +322,7 @@ pub fn note(line: &[u8], at: usize) -> Cut
         };
     }
     if token_pitches::is_letter(line[place]) {
-        return note_from_letter(line, place, sign);
+        return note_from_letter(edition, line, place, sign);
     }
     Cut {
         lexeme: Lexeme::Nothing,

@@ -25,6 +25,7 @@ use Rattle.reader.specs.Inline.{unitToken, keyToken, fieldToken, isInline, inli
 use Rattle.reader.specs.Sounds.{chordTaken, chordAt, restAs, noteAs, noteAfter, noteOf}
 use Rattle.reader.specs.Tokens.{closedBy, brokenOf, bracketOf, Class, white, ampersand, quote, more, less, paren, braceOpen, braceClose, bang, plus, bars, bracket, pitched, none-of-these, resting, classOf, tokenAs, tokenOf}
 use Rattle.reader.specs.Keys.{keyOf}
+use Rattle.reader.proofs.LengthLaws.{with-length}
 use Rattle.token_lexemes.proofs.Ratio.{Form, form}
 use Rattle.standard.specs.Notes.{Behind}
 use Rattle.standard.specs.Keys.{Key}
@@ -97,23 +98,27 @@ field-none ed s =
     (λ f. rw f (by-test (is "M" (first s)) (λ g. rw g) (λ g. rw g (by-test (is "K" (first s)) (λ h. rw h (unless-none (keyOf ed (drop 2 s)) (keyRefusal ed (drop 2 s)))) (λ h. rw h)))))))
     (λ e. rw (e, fieldToken))
 
-note-none : (a : Before) (s : List ℕ) → pitchesIn (noteAfter a s .token) ≡ none
+note-none : (ed : Edition) (a : Before) (s : List ℕ) → pitchesIn (noteAfter ed a s .token) ≡ none
 unfolding noteAfter noteAs pitchesIn
-note-none a [] = refl
-note-none a (c ∷ s) =
+note-none ed a [] = refl
+note-none ed a (c ∷ s) =
     by-test (isLetter c)
-    (λ e. rw (e, noteAfter) (by-test (octaveOf c s .fine) (λ f. rw (f, noteAs)) (λ f. rw (f, noteAs))))
+    (λ e. rw (e, noteAfter) (by-test (octaveOf c s .fine)
+    (λ f. rw (f, noteAs) (with-length (λ t. pitchesIn (t .token) ≡ none) ed (a .used + 1 + length s) (drop (octaveOf c s .used) s) _ (λ m. refl) (λ m. refl)))
+    (λ f. rw (f, noteAs))))
     (λ e. rw (e, noteAfter))
-
-chord-some : (n : ℕ) (s : List ℕ) (o : Option (List Written)) (ps : List Written) → pitchesIn (chordTaken n s o .token) ≡ some ps → o ≡ some ps
-unfolding chordTaken pitchesIn
-chord-some n s none ps e = e
-chord-some n s (some []) ps e = let z : _≡_ {A = ℕ} 0 1 = cc in absurd (omega arith)
-chord-some n s (some (p ∷ qs)) ps e = e
 
 -- none is not some
 never : {P : Type 0} (t : Token) (ps : List Written) → pitchesIn t ≡ none → pitchesIn t ≡ some ps → P
 never t ps a b = let z : _≡_ {A = ℕ} 0 1 = cc in absurd (omega arith)
+
+chord-some : (ed : Edition) (n : ℕ) (s : List ℕ) (o : Option (List Written)) (ps : List Written) → pitchesIn (chordTaken ed n s o .token) ≡ some ps → o ≡ some ps
+unfolding chordTaken pitchesIn
+chord-some ed n s none ps e = e
+chord-some ed n s (some []) ps e =
+    with-length (λ t. pitchesIn (t .token) ≡ some ps → some [] ≡ some ps) ed (n + length s) s _ (λ m. never (refused 22) ps refl) (λ m. never nothing ps refl) e
+chord-some ed n s (some (p ∷ qs)) ps e =
+    with-length (λ t. pitchesIn (t .token) ≡ some ps → some (p ∷ qs) ≡ some ps) ed (n + length s) s _ (λ m. never (refused 22) ps refl) (λ m q. q) e
 
 of-bracket : (ed : Edition) (s : List ℕ) (ps : List Written) → pitchesIn (bracketOf ed s .token) ≡ some ps → chordOf 0 none s ≡ some ps
 unfolding bracketOf voltaOf inlineAt chordAt
@@ -122,7 +127,7 @@ of-bracket ed s ps e =
     (λ d. never (voltaOf s .token) ps (volta-none (countWhile isPassByte s) s (listOf (take (countWhile isPassByte s) s))) (rw (d, bracketOf) at e))
     (λ d. by-test (isInline s)
     (λ i. never (inlineAt ed s .token) ps (field-none ed (take (countWhile (λ c. not (is "]" c)) s) s)) (rw i at (rw (d, bracketOf) at e)))
-    (λ i. chord-some _ _ (chordOf 0 none s) ps (rw i at (rw (d, bracketOf) at e))))
+    (λ i. chord-some ed _ _ (chordOf 0 none s) ps (rw i at (rw (d, bracketOf) at e))))
 
 of-class : (ed : Edition) (x : Class) (s : List ℕ) (ps : List Written) → pitchesIn (tokenAs ed x s .token) ≡ some ps → chordOf 0 none (drop 1 s) ≡ some ps
 unfolding tokenAs barlineOf noteOf restAs pitchesIn
@@ -138,9 +143,10 @@ of-class ed bang s ps e = never (closedBy (is "!") decoration (drop 1 s) (taken 
 of-class ed plus s ps e = never (closedBy (is "+") decoration (drop 1 s) (taken skipped 1) .token) ps (closed-none (is "+") decoration (drop 1 s) (taken skipped 1) refl refl) e
 of-class ed bars s ps e = never (barlineAs s (symbolAt barSymbols s) .token) ps (bar-none s (symbolAt barSymbols s)) e
 of-class ed bracket s ps e = of-bracket ed (drop 1 s) ps e
-of-class ed pitched s ps e = never (noteAfter (accidentalOf s) (drop (accidentalOf s .used) s) .token) ps (note-none (accidentalOf s) (drop (accidentalOf s .used) s)) e
+of-class ed pitched s ps e = never (noteAfter ed (accidentalOf s) (drop (accidentalOf s .used) s) .token) ps (note-none ed (accidentalOf s) (drop (accidentalOf s .used) s)) e
 of-class ed none-of-these s ps e = never skipped ps refl e
-of-class ed (resting k) s ps e = never (restAs k (drop 1 s) .token) ps refl e
+of-class ed (resting k) s ps e =
+    never (restAs ed k (drop 1 s) .token) ps (with-length (λ t. pitchesIn (t .token) ≡ none) ed (suc (length (drop 1 s))) (drop 1 s) _ (λ m. refl) (λ m. refl)) e
 
 -- THE LAW
 pub chord-pitches : (ed : Edition) (line : List ℕ) (at : ℕ) (ps : List Written) (l : Length) (b : Behind) → tokenOf ed (drop at line) .token ≡ chord ps l b → chordOf 0 none (drop (at + 1) line) ≡ some ps

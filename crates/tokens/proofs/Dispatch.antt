@@ -1,11 +1,11 @@
 -- The readers by class, and the two views of a token.
-use Prim.Native.Nat.{ℕ, _+_, _<_}
+use Prim.Native.Nat.{ℕ, suc, _+_, _<_}
 use mathlib.Core.Path.{_≡_, refl, sym, ap, _∙_}
 use mathlib.Core.Bool.{Bool, true, false, not}
 use mathlib.Core.Option.{Option}
 use mathlib.Core.List.{List}
 use lib.Dec.{eqb}
-use lib.ListN.{getD, drop}
+use lib.ListN.{length, getD, drop}
 use lib.Seq.{drop-drop}
 use borrow.Author.Tests.{eqb-false}
 use Rattle.laws.proofs.Bools.{by-test, not-true}
@@ -15,12 +15,13 @@ use Rattle.standard.specs.Notes as Notes
 use Rattle.standard.specs.Bytes.{first}
 use Rattle.standard.specs.Pitches.{Accidental}
 use Rattle.editions.specs.declared.Edition.{Edition}
-use Rattle.reader.specs.Lengths.{lengthOf, valueOf}
+use Rattle.reader.specs.Lengths.{manySlashes, valueOf}
 use Rattle.reader.specs.Codes.{kindCode}
 use Rattle.reader.specs.Pitches.{octaveOf}
 use Rattle.reader.specs.Sounds.{restAs, noteAs}
 use Rattle.reader.specs.Token.{Token, space, overlay, quoted, broken, tuplet, slur, graceOpen, graceClose, decoration, barline, volta, unit, meter, key, field, chord, rest, note, nothing, skipped, refused, Taken, taken}
 use Rattle.reader.specs.Tokens.{Class, white, ampersand, quote, more, less, paren, braceOpen, braceClose, bang, plus, bars, bracket, pitched, none-of-these, resting, classes, classIn, classOf, tokenAs, tokenOf, effectOf}
+use Rattle.reader.proofs.LengthLaws.{with-many, with-few}
 use Rattle.token_symbols.specs.Classes.{classCode}
 use Rattle.token_lexemes.specs.Lexemes.{lexemeFor, cutFor, restFor}
 use Rattle.tokens.specs.Tokens.{restLength, tokenFor, tokenisedFor, valuedFor, tokenisedIn, effectFor, effectedFor, effectIn, effectedIn}
@@ -100,10 +101,13 @@ unclassed ed line at k h e n1 n2 n3 n4 n5 n6 n7 n8 n9 n10 n11 n12 n13 n14 n15 n1
     ∙ ap (λ c. tokenAs ed (classOf c) (drop at line)) (sym (first-at line at))
 
 -- a rest
-module _ (line : List ℕ) (at : ℕ) (k : Notes.NoteKind) where
-  pub rest-cut : restFor at (kindCode k) (lengthOf (drop (at + 1) line)) ≡ cutFor at (restAs k (drop 1 (drop at line)))
-  unfolding restAs lexemeFor
-  rest-cut = rw (drop-drop 1 at line)
+pub rest-cut : (ed : Edition) (line : List ℕ) (at : ℕ) (k : Notes.NoteKind) → restFor ed at (kindCode k) (drop (at + 1) line) ≡ cutFor at (restAs ed k (drop 1 (drop at line)))
+unfolding restFor restAs lexemeFor
+rest-cut ed line at k =
+    let s = drop (at + 1) line in
+    let r : cutFor at (restAs ed k s) ≡ cutFor at (restAs ed k (drop 1 (drop at line))) = rw (drop-drop 1 at line) in
+    by-test (manySlashes ed s) (λ m. rw (m, restFor) (ap (cutFor at) (sym (with-many ed (suc (length s)) s _ m))))
+    (λ m. rw (m, restFor) (ap (cutFor at) (sym (with-few ed (suc (length s)) s _ m)))) ∙ r
 
 -- THE TWO VIEWS
 pub valued-token : (at u : ℕ) (t : Token) → valuedFor u (lexemeFor at t) ≡ tokenFor at u t
@@ -166,6 +170,12 @@ pub effected : (at : ℕ) (t : Taken) → effectedIn (cutFor at t) ≡ effectedF
 effected at t = ap (λ x. record { effect = x; next = at + t .used }) (effect-token at (t .token))
 
 -- the scan does not see a note's accidental
-pub marked : (at : ℕ) (a b : Option Accidental) (c : ℕ) (s : List ℕ) → effectedFor at (noteAs (record { sign = a; used = 0 }) c s) ≡ effectedFor at (noteAs (record { sign = b; used = 0 }) c s)
+pub marked : (ed : Edition) (at : ℕ) (a b : Option Accidental) (c : ℕ) (s : List ℕ) → effectedFor at (noteAs ed (record { sign = a; used = 0 }) c s) ≡ effectedFor at (noteAs ed (record { sign = b; used = 0 }) c s)
 unfolding noteAs effectOf effectFor
-marked at a b c s = by-test (octaveOf c s .fine) (λ f. rw (f, noteAs)) (λ f. rw (f, noteAs))
+marked ed at a b c s =
+    let r = drop (octaveOf c s .used) s in
+    by-test (octaveOf c s .fine)
+    (λ f. rw (f, noteAs)
+    (by-test (manySlashes ed r) (λ m. ap (effectedFor at) (with-many ed (0 + 1 + length s) r _ m ∙ sym (with-many ed (0 + 1 + length s) r _ m)))
+    (λ m. ap (effectedFor at) (with-few ed (0 + 1 + length s) r _ m) ∙ ap (effectedFor at) (sym (with-few ed (0 + 1 + length s) r _ m)))))
+    (λ f. rw (f, noteAs))

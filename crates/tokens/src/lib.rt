@@ -124,11 +124,11 @@ fn lexeme_at(edition: Edition, line: &[u8], at: usize, class: u8) -> Cut
         token_symbols::PLUS => token_lexemes::decoration(line, at, b'+'),
         token_symbols::BARS => token_lexemes::bar_line(line, at),
         token_symbols::BRACKET => token_brackets::bracket(edition, line, at),
-        token_symbols::REST => token_lexemes::rest(line, at, 1),
-        token_symbols::INVISIBLE_REST => token_lexemes::rest(line, at, 2),
-        token_symbols::BAR_REST => token_lexemes::rest(line, at, 3),
-        token_symbols::INVISIBLE_BAR_REST => token_lexemes::rest(line, at, 4),
-        token_symbols::PITCHED => token_lexemes::note(line, at),
+        token_symbols::REST => token_lexemes::rest(edition, line, at, 1),
+        token_symbols::INVISIBLE_REST => token_lexemes::rest(edition, line, at, 2),
+        token_symbols::BAR_REST => token_lexemes::rest(edition, line, at, 3),
+        token_symbols::INVISIBLE_BAR_REST => token_lexemes::rest(edition, line, at, 4),
+        token_symbols::PITCHED => token_lexemes::note(edition, line, at),
         _ => Cut {
             lexeme: Lexeme::Skipped,
             next: at + 1,
@@ -252,7 +252,7 @@ pub fn token_at(
 {
     let class = token_symbols::class_of(classes, line[at]);
     if class == token_symbols::PITCHED {
-        return tokenise(token_lexemes::note(line, at), unit);
+        return tokenise(token_lexemes::note(edition, line, at), unit);
     }
     if class == token_symbols::WHITE {
         return Tokenised {
@@ -323,9 +323,9 @@ fn effect_of(lexeme: Lexeme) -> Effect
 }
 
 // What the scan wants of a note from its letter on, which stands at `at`: its end alone is sought, and most lengths have one byte.
-fn letter_effect(line: &[u8], at: usize) -> Effected
+fn letter_effect(edition: Edition, line: &[u8], at: usize) -> Effected
     requires { ⌜ at < length (now line) ⌝ }
-    ensures { λ r. ⌜ r ≡ effectedFor at (noteAs (record { sign = none; used = 0 }) (getD (now (line .entry)) at 0) (drop (at + 1) (now (line .entry)))) ⌝ }
+    ensures { λ r. ⌜ r ≡ effectedFor at (noteAs edition (record { sign = none; used = 0 }) (getD (now (line .entry)) at 0) (drop (at + 1) (now (line .entry)))) ⌝ }
 {
     let behind = text_bytes::byte_at(line, at + 1);
     if token_lexemes::is_plain(behind) {
@@ -351,8 +351,17 @@ fn letter_effect(line: &[u8], at: usize) -> Effected
             next: line.len(),
         };
     };
-    let length = token_lengths::parse_duration_suffix(line, after_octave);
-    let after_length = length.next;
+    let token_suffixes::Suffix::Read {
+        num: _,
+        den: _,
+        next: after_length,
+    } = token_suffixes::parse_duration_suffix(edition, line, after_octave)
+    else {
+        return Effected {
+            effect: Effect::Refuses(22),
+            next: line.len(),
+        };
+    };
     let annotations = text_runs::apply_abc_note_annotations(line, after_length);
     Effected {
         effect: Effect::Counts,
@@ -361,9 +370,9 @@ fn letter_effect(line: &[u8], at: usize) -> Effected
 }
 
 // What the scan wants of a note with its accidentals.
-fn note_effect(line: &[u8], at: usize) -> Effected
+fn note_effect(edition: Edition, line: &[u8], at: usize) -> Effected
     requires { ⌜ at < length (now line) ⌝ }
-    ensures { λ r. ⌜ r ≡ effectedFor at (noteOf (drop at (now (line .entry)))) ⌝ }
+    ensures { λ r. ⌜ r ≡ effectedFor at (noteOf edition (drop at (now (line .entry)))) ⌝ }
 {
     let before = token_pitches::accidental_before(line, at);
     let place = before.next;
@@ -374,7 +383,7 @@ fn note_effect(line: &[u8], at: usize) -> Effected
         };
     }
     if token_pitches::is_letter(line[place]) {
-        return letter_effect(line, place);
+        return letter_effect(edition, line, place);
     }
     Effected {
         effect: Effect::NoEffect,
@@ -389,7 +398,7 @@ pub fn effect_at(edition: Edition, line: &[u8], at: usize, classes: &[u8; 128]) 
 {
     let class = token_symbols::class_of(classes, line[at]);
     if class == token_symbols::PITCHED {
-        return note_effect(line, at);
+        return note_effect(edition, line, at);
     }
     if class == token_symbols::WHITE {
         return Effected {

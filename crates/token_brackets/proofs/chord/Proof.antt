@@ -5,7 +5,7 @@ use native.Mathlib.Omega.{arith}
 use Prim.Native.Nat.{_+_}
 use lib.Dec.{eqb}
 use Rattle.laws.proofs.Spans.{end-le}
-use Rattle.token_brackets.proofs.Chorded.{chord-refused, chord-empty, chord-full}
+use Rattle.token_brackets.proofs.Chorded.{chord-refused, chord-many, chord-empty, chord-full}
 use borrow.Author.Needs.{needs}
 use Rattle.token_brackets.proofs.chord.Statement.{statement}
 use Rattle.token_brackets.proofs.chord.Tie as tie
@@ -18,21 +18,36 @@ parse-abc-chord-requires c κs =
 returns : tie.Need-returns
 returns c =
     let s = c .before .before .before .before in
-    chord-refused (s .args .line .now) (s .args .at) (s .args .close) (s .pre .0) (s .pre .1) (sym (c .before .before .parse-abc-chord .ensures) ∙ c .enum-told .given .1)
+    chord-refused (s .args .edition) (s .args .line .now) (s .args .at) (s .args .close) (s .pre .0) (s .pre .1) (sym (c .before .before .parse-abc-chord .ensures) ∙ c .enum-told .given .1)
 
 returns-2 : tie.Need-returns-2
 returns-2 c =
-    let k = c .before .before .before in
+    let p = c .before .before in
+    let k = p .before .before in
     let s = k .before .before .before .before in
-    chord-empty (s .args .line .now) (s .args .at) (s .args .close) (s .pre .0) (s .pre .1) (k .count .given .0 .1 .0) (c .before .parse-duration-suffix .result) (c .before .parse-duration-suffix .ensures)
-    (rw (c .if1 .taken) at (sym (k .before .before .parse-abc-chord .ensures) ∙ k .count .given .1))
+    let g = k .count .given in
+    chord-many (s .args .edition) (s .args .line .now) (s .args .at) (s .args .close) (s .pre .0) (s .pre .1) (g .0 .0) (g .0 .1 .0) (sym (k .before .before .parse-abc-chord .ensures) ∙ g .1)
+    (sym (p .parse-duration-suffix .ensures) ∙ c .enum-told2 .given .1)
 
 returns-3 : tie.Need-returns-3
 returns-3 c =
-    let k = c .before .before .before .before in
+    let p = c .before .before .before .before in
+    let k = p .before .before in
     let s = k .before .before .before .before in
-    chord-full (s .args .line .now) (s .args .at) (s .args .close) (s .pre .0) (s .pre .1) (k .count .given .0 .1 .0) (c .before .before .parse-duration-suffix .result) (c .before .before .parse-duration-suffix .ensures)
-    (k .count .given .0 .0) (c .before .if1 .left) (c .apply-abc-note-annotations .result) (c .apply-abc-note-annotations .ensures) (sym (k .before .before .parse-abc-chord .ensures) ∙ k .count .given .1)
+    let g = k .count .given in
+    let l = c .before .before .num .given in
+    chord-empty (s .args .edition) (s .args .line .now) (s .args .at) (s .args .close) (s .pre .0) (s .pre .1) (g .0 .0) (g .0 .1 .0) (l .0 .0) (l .0 .1 .0) (l .0 .1 .1 .0)
+    (sym (p .parse-duration-suffix .ensures) ∙ l .1) (sym (k .before .before .parse-abc-chord .ensures) ∙ g .1) (c .if1 .taken)
+
+returns-4 : tie.Need-returns-4
+returns-4 c =
+    let p = c .before .before .before .before .before in
+    let k = p .before .before in
+    let s = k .before .before .before .before in
+    let g = k .count .given in
+    let l = c .before .before .before .num .given in
+    chord-full (s .args .edition) (s .args .line .now) (s .args .at) (s .args .close) (s .pre .0) (s .pre .1) (g .0 .0) (g .0 .1 .0) (l .0 .0) (l .0 .1 .0) (l .0 .1 .1 .0)
+    (sym (p .parse-duration-suffix .ensures) ∙ l .1) (c .before .if1 .left) (c .apply-abc-note-annotations .result) (c .apply-abc-note-annotations .ensures) (sym (k .before .before .parse-abc-chord .ensures) ∙ g .1)
 
 pub chord-spec : {M : Type 1} → statement M
 chord-spec =
@@ -44,7 +59,10 @@ chord-spec =
     (λ c. search needs)
     returns
     (λ c κs. search needs)
+    (λ c. search needs)
+    (λ c. search needs)
     returns-2
+    returns-3
     (λ c κs. search needs)
     (λ c. search needs)
-    returns-3)
+    returns-4)

@@ -9,21 +9,21 @@ returns : tie.Need-returns
 returns c =
     let b = c .before in
     let a = b .before .before .args in
-    note-ends (a .line .now) (a .at) (b .accidental-before .result) (b .accidental-before .ensures) (c .if1 .taken)
+    note-ends (a .edition) (a .line .now) (a .at) (b .accidental-before .result) (b .accidental-before .ensures) (c .if1 .taken)
 
 returns-2 : tie.Need-returns-2
 returns-2 c =
     let e = c .before .before .before .before in
     let b = e .before in
     let a = b .before .before .args in
-    c .note-from-letter .ensures ∙ note-letter (a .line .now) (a .at) (b .accidental-before .result) (b .accidental-before .ensures) (e .if1 .left) (sym (c .before .before .is-letter .ensures) ∙ c .before .if2 .taken)
+    c .note-from-letter .ensures ∙ note-letter (a .edition) (a .line .now) (a .at) (b .accidental-before .result) (b .accidental-before .ensures) (e .if1 .left) (sym (c .before .before .is-letter .ensures) ∙ c .before .if2 .taken)
 
 returns-3 : tie.Need-returns-3
 returns-3 c =
     let e = c .before .before .before in
     let b = e .before in
     let a = b .before .before .args in
-    note-other (a .line .now) (a .at) (b .accidental-before .result) (b .accidental-before .ensures) (e .if1 .left) (sym (c .before .is-letter .ensures) ∙ c .if2 .left)
+    note-other (a .edition) (a .line .now) (a .at) (b .accidental-before .result) (b .accidental-before .ensures) (e .if1 .left) (sym (c .before .is-letter .ensures) ∙ c .if2 .left)
 
 pub note-spec : {M : Type 1} → statement M
 note-spec =

@@ -1,20 +1,22 @@
 -- `token_lexemes::rest` meets its contract.
-use Prim.Native.Nat.{suc, _+_}
-use mathlib.Core.Path.{_≡_}
-use native.Mathlib.Omega.{arith}
-use lib.ListN.{drop}
-use Rattle.reader.specs.Lengths.{lengthOf}
-use Rattle.token_lengths.specs.Values.{suffixAt}
+use mathlib.Core.Path.{sym, _∙_}
+use Rattle.token_lexemes.proofs.Sounding.{rest-many, rest-in}
 use borrow.Author.Needs.{needs}
 use Rattle.token_lexemes.proofs.rest.Statement.{statement}
 use Rattle.token_lexemes.proofs.rest.Tie as tie
 
 returns : tie.Need-returns
-unfolding suffixAt
 returns c =
-    let a = c .before .before .args in
-    let n : a .at + 1 + lengthOf (drop (a .at + 1) (a .line .now)) .used ≡ a .at + suc (lengthOf (drop (a .at + 1) (a .line .now)) .used) = omega arith in
-    rw (c .parse-duration-suffix .ensures, n)
+    let s = c .before .before .before .before in
+    let a = s .args in
+    rest-many (a .edition) (a .line .now) (a .at) (a .kind) (s .pre) (sym (c .before .before .parse-duration-suffix .ensures) ∙ c .enum-told .given .1)
+
+returns-2 : tie.Need-returns-2
+returns-2 c =
+    let s = c .before .before .before .before .before in
+    let a = s .args in
+    let g = c .before .num .given in
+    rest-in (a .edition) (a .line .now) (a .at) (a .kind) (s .pre) (g .0 .0) (g .0 .1 .0) (g .0 .1 .1 .0) (sym (c .before .before .before .parse-duration-suffix .ensures) ∙ g .1)
 
 pub rest-spec : {M : Type 1} → statement M
-rest-spec = tie.close (tie.spec (λ c. search needs) (λ c κs. search needs) returns)
+rest-spec = tie.close (tie.spec (λ c. search needs) (λ c κs. search needs) (λ c. search needs) (λ c. search needs) returns returns-2)

@@ -92,25 +92,25 @@ returns-13 : tie.Need-returns-13
 unfolding byCode tokenAs kindCode
 returns-13 c =
     let k = c .before .before .before in
-    c .rest .ensures ∙ rest-cut (k .args .line .now) (k .args .at) Notes.rest ∙ ap (cutFor (k .args .at)) (sym (by-class k 13 (c .before .match .keys13)))
+    c .rest .ensures ∙ rest-cut (k .args .edition) (k .args .line .now) (k .args .at) Notes.rest ∙ ap (cutFor (k .args .at)) (sym (by-class k 13 (c .before .match .keys13)))
 
 returns-14 : tie.Need-returns-14
 unfolding byCode tokenAs kindCode
 returns-14 c =
     let k = c .before .before .before in
-    c .rest2 .ensures ∙ rest-cut (k .args .line .now) (k .args .at) Notes.invisibleRest ∙ ap (cutFor (k .args .at)) (sym (by-class k 14 (c .before .match .keys14)))
+    c .rest2 .ensures ∙ rest-cut (k .args .edition) (k .args .line .now) (k .args .at) Notes.invisibleRest ∙ ap (cutFor (k .args .at)) (sym (by-class k 14 (c .before .match .keys14)))
 
 returns-15 : tie.Need-returns-15
 unfolding byCode tokenAs kindCode
 returns-15 c =
     let k = c .before .before .before in
-    c .rest3 .ensures ∙ rest-cut (k .args .line .now) (k .args .at) Notes.barRest ∙ ap (cutFor (k .args .at)) (sym (by-class k 15 (c .before .match .keys15)))
+    c .rest3 .ensures ∙ rest-cut (k .args .edition) (k .args .line .now) (k .args .at) Notes.barRest ∙ ap (cutFor (k .args .at)) (sym (by-class k 15 (c .before .match .keys15)))
 
 returns-16 : tie.Need-returns-16
 unfolding byCode tokenAs kindCode
 returns-16 c =
     let k = c .before .before .before in
-    c .rest4 .ensures ∙ rest-cut (k .args .line .now) (k .args .at) Notes.invisibleBarRest ∙ ap (cutFor (k .args .at)) (sym (by-class k 16 (c .before .match .keys16)))
+    c .rest4 .ensures ∙ rest-cut (k .args .edition) (k .args .line .now) (k .args .at) Notes.invisibleBarRest ∙ ap (cutFor (k .args .at)) (sym (by-class k 16 (c .before .match .keys16)))
 
 returns-17 : tie.Need-returns-17
 unfolding byCode tokenAs

@@ -17,7 +17,7 @@ unfolding effectIn
 returns c =
     let b = c .before in
     let a = b .before .before .args in
-    ap effectedIn (note-ends (a .line .now) (a .at) (b .accidental-before .result) (b .accidental-before .ensures) (c .if1 .taken)) ∙ effected (a .at) (noteOf (drop (a .at) (a .line .now)))
+    ap effectedIn (note-ends (a .edition) (a .line .now) (a .at) (b .accidental-before .result) (b .accidental-before .ensures) (c .if1 .taken)) ∙ effected (a .at) (noteOf (a .edition) (drop (a .at) (a .line .now)))
 
 returns-2 : tie.Need-returns-2
 returns-2 c =
@@ -28,10 +28,10 @@ returns-2 c =
     let place = before .next in
     let line = a .line .now in
     c .letter-effect .ensures
-    ∙ marked place none (signOf (before .sign)) (getD line place 0) (drop (place + 1) line)
-    ∙ sym (effected place (noteAs (record { sign = signOf (before .sign); used = 0 }) (getD line place 0) (drop (place + 1) line)))
-    ∙ ap effectedIn (note-letter line (a .at) before (b .accidental-before .ensures) (e .if1 .left) (sym (c .before .before .is-letter .ensures) ∙ c .before .if2 .taken))
-    ∙ effected (a .at) (noteOf (drop (a .at) line))
+    ∙ marked (a .edition) place none (signOf (before .sign)) (getD line place 0) (drop (place + 1) line)
+    ∙ sym (effected place (noteAs (a .edition) (record { sign = signOf (before .sign); used = 0 }) (getD line place 0) (drop (place + 1) line)))
+    ∙ ap effectedIn (note-letter (a .edition) line (a .at) before (b .accidental-before .ensures) (e .if1 .left) (sym (c .before .before .is-letter .ensures) ∙ c .before .if2 .taken))
+    ∙ effected (a .at) (noteOf (a .edition) (drop (a .at) line))
 
 returns-3 : tie.Need-returns-3
 unfolding effectIn
@@ -39,8 +39,8 @@ returns-3 c =
     let e = c .before .before .before in
     let b = e .before in
     let a = b .before .before .args in
-    ap effectedIn (note-other (a .line .now) (a .at) (b .accidental-before .result) (b .accidental-before .ensures) (e .if1 .left) (sym (c .before .is-letter .ensures) ∙ c .if2 .left))
-    ∙ effected (a .at) (noteOf (drop (a .at) (a .line .now)))
+    ap effectedIn (note-other (a .edition) (a .line .now) (a .at) (b .accidental-before .result) (b .accidental-before .ensures) (e .if1 .left) (sym (c .before .is-letter .ensures) ∙ c .if2 .left))
+    ∙ effected (a .at) (noteOf (a .edition) (drop (a .at) (a .line .now)))
 
 pub note-effect-spec : {M : Type 1} → statement M
 note-effect-spec =

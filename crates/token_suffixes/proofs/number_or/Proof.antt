@@ -1,4 +1,4 @@
--- `token_lengths::number_or` meets its contract.
+-- `token_suffixes::number_or` meets its contract.
 use mathlib.Core.Path.{_≡_, refl, sym, ap, _∙_}
 use mathlib.Core.Bool.{true, false}
 use Prim.Native.Nat.{_+_, _-_, _≤_, _<_, _^_}
@@ -8,10 +8,10 @@ use Rattle.laws.proofs.Bools.{not-true, not-false}
 use Rattle.laws.proofs.Spans.{run-within}
 use Rattle.standard.specs.Bytes.{isDigit}
 use Rattle.reader.proofs.Digits.{digit-low}
-use Rattle.token_lengths.proofs.Suffixes.{number-none, number-one, number-at, number-small}
+use Rattle.token_suffixes.proofs.Suffixes.{number-none, number-one, number-at, number-small}
 use borrow.Author.Needs.{needs}
-use Rattle.token_lengths.proofs.number_or.Statement.{statement}
-use Rattle.token_lengths.proofs.number_or.Tie as tie
+use Rattle.token_suffixes.proofs.number_or.Statement.{statement}
+use Rattle.token_suffixes.proofs.number_or.Tie as tie
 
 -- no digit
 returns : tie.Need-returns
