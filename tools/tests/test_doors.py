@@ -17,6 +17,7 @@ FILES = {
     'passes': 'crates/reader/specs/PassLists.antt',
     'tokens': 'crates/reader/specs/Tokens.antt',
     'sounds': 'crates/reader/specs/Sounds.antt',
+    'lengths': 'crates/reader/specs/Lengths.antt',
     'notes': 'crates/standard/specs/Notes.antt',
     'packed': 'crates/abc/specs/Packed.antt',
     'bound': 'crates/bounds/proofs/Reading.antt',
@@ -114,6 +115,7 @@ def specified(t):
     facts['most lines'], facts['most notes'], facts['most voices'] = [number(t['scan'], r'\n%s = (\d+)\n' % name) for name in ('mostLines', 'mostNotes', 'mostVoices')]
     facts['longest line'] = number(t['lines'], r'ltb (\d+) \(length l\)\) \(refused 5\)')
     facts['last pass'] = number(t['passes'], r'\nisPass n = leb 1 n && leb n (\d+)\n')
+    facts['most slashes'] = number(t['lengths'], r'\nmanySlashes ed s = ltb (\d+) \(slashes ')
     shape, out, falls = [number(t['passes'], pattern) for pattern in (
         r'\ntested none = faulty (\d+)\n', r'elim \(all isPass \(numbersIn is\)\) \[\s*\| false ↦ faulty (\d+)\n', r'elim \(rise \(numbersIn is\)\) \[ false ↦ faulty (\d+) \|')]
     facts['refusals of a pass list'] = {shape: 'passes', out: 'passrange', falls: 'passorder'}
@@ -266,7 +268,7 @@ def differences(t):
     for name in ('measure', 'note', 'pitch', 'lyric'):
         same('a %s is as long as its pieces' % name, spec['end of a ' + name], spec['width of a ' + name])
     for limit, words in ((spec['most bytes'], '{:,}'), (spec['most lines'], '{:,}'), (spec['longest line'], '{:,}'), (spec['most voices'] + 1, 'a {}rd voice'),
-                         (spec['most notes'] + 1, 'the {:,}st note'), (spec['last pass'], '1 to {}')):
+                         (spec['most notes'] + 1, 'the {:,}st note'), (spec['last pass'], '1 to {}'), (spec['most slashes'], 'more than {} slashes in a row')):
         for name in ('header', 'refusals'):
             if words.format(limit) not in t[name]:
                 out.append('%s does not say %s' % (FILES[name], words.format(limit)))
@@ -285,22 +287,24 @@ def differences(t):
 SPOILED = [
     ('records', 'noteWidth = 12', 'noteWidth = 13'), ('records', 'm .left) ∷ barlineCode (m .right)', 'm .right) ∷ barlineCode (m .left)'),
     ('records', 'bit (f .slurStart) 4', 'bit (f .slurStart) 64'), ('codes', 'kindCode barRest = 3', 'kindCode barRest = 5'), ('answer', '32 * (n + 256)', '32 * (n + 128)'),
-    ('answer', 'mostBytes = 67108864', 'mostBytes = 67108865'), ('scan', 'mostVoices = 32', 'mostVoices = 16'), ('answer', 'refusedWith 16 0', 'refusedWith 22 0'),
+    ('answer', 'mostBytes = 67108864', 'mostBytes = 67108865'), ('scan', 'mostVoices = 32', 'mostVoices = 16'), ('answer', 'refusedWith 16 0', 'refusedWith 23 0'),
     ('passes', 'leb n 32', 'leb n 33'), ('passes', 'tested none = faulty 14', 'tested none = faulty 18'),
     ('passes', '| false ↦ faulty 17', '| false ↦ faulty 18'), ('bound', '→ 23 * length text ≤ rl', '→ 24 * length text ≤ rl'), ('packed', 'numberUnit = 4294967296', 'numberUnit = 65536'),
-    ('header', 'ABC_PITCH_BYTES 5', 'ABC_PITCH_BYTES 6'), ('header', '#define ABC_MIDDLE 10', '#define ABC_MIDDLE 22'),
+    ('header', 'ABC_PITCH_BYTES 5', 'ABC_PITCH_BYTES 6'), ('header', '#define ABC_MIDDLE 10', '#define ABC_MIDDLE 23'),
     ('header', 'ABC_BAR_DOUBLE, ABC_BAR_FINAL', 'ABC_BAR_FINAL, ABC_BAR_DOUBLE'), ('header', 'ABC_GRACE = 16', 'ABC_GRACE = 64'), ('header', '10,000th', '1,000th'),
-    ('header', 'ABC_VERSION_MINOR 4', 'ABC_VERSION_MINOR 5'), ('header', 'ABC_PASS_RANGE 17', 'ABC_PASS_RANGE 14'), ('rust', '67_108_864', '67_108_863'), ('rust', 'saturating_mul(23)', 'saturating_mul(22)'),
+    ('header', 'ABC_VERSION_MINOR 5', 'ABC_VERSION_MINOR 6'), ('header', 'ABC_PASS_RANGE 17', 'ABC_PASS_RANGE 14'), ('rust', '67_108_864', '67_108_863'), ('rust', 'saturating_mul(23)', 'saturating_mul(22)'),
     ('rust', 'answer >> 32', 'answer >> 33'), ('views', 'const LYRIC: usize = 11', 'const LYRIC: usize = 12'), ('views', 'self.byte(3) & 8', 'self.byte(3) & 4'),
     ('views', 'verse: record[4]', 'verse: record[5]'), ('views', '2 Minor "', '3 Minor "'), ('views', 'Barline::of(self.record[17])', 'Barline::of(self.record[16])'),
     ('refusals', '            9 => Self::TooManyVoices { line }', '            9 => Self::Middle { line }'), ('refusals', '17 => Self::PassRange', '17 => Self::PassOrder'),
     ('refusals', 'Self::PassOrder { .. } => 18', 'Self::PassOrder { .. } => 17'), ('refusals', '1,048,576', '1,048,575'),
-    ('cargo', 'version = "0.4.0"', 'version = "0.4.1"'), ('packed', '\nversion = ', '\nversion = 9'), ('c', 'ABC_NOTE_BYTES', '12'),
+    ('cargo', 'version = "0.5.0"', 'version = "0.5.1"'), ('packed', '\nversion = ', '\nversion = 9'), ('c', 'ABC_NOTE_BYTES', '12'),
     ('c played', 'ABC_LIST_BYTES', 'list_bytes'), ('c played', 'ABC_LIST_SHORT', '20'), ('header', 'ABC_LIST_SHORT 20', 'ABC_LIST_SHORT 19'), ('header', '(size_t)4 * (size_t)(count)', '(size_t)8 * (size_t)(count)'),
     ('header', 'size_t reading_len, uint32_t part, uint8_t *list', 'size_t reading_len, uint8_t *list'), ('header', 'bool abc_is_whole', 'int abc_is_whole'),
     ('rust', 'count.saturating_mul(4)', 'count.saturating_mul(8)'), ('rust', 'part: u32, list: *mut u8', 'part: u64, list: *mut u8'), ('rust', 'reading_len: usize) -> bool', 'reading_len: usize) -> u8'),
     ('refusals', '19 => Self::NoSuchPart', '19 => Self::ListShort'), ('library', 'fn abc_played(reading: &[u8], part: u32', 'fn abc_played(part: u32, reading: &[u8]'),
-    ('library', 'fn abc_is_whole', 'fn abc_whole'), ('played', '20', '22'), ('header', 'ABC_KEY_BEYOND 21', 'ABC_KEY_BEYOND 22'), ('refusals', '21 => Self::KeyBeyond', '21 => Self::Middle'), ('fields', '(some 21)', '(some 22)'),
+    ('library', 'fn abc_is_whole', 'fn abc_whole'), ('played', '20', '23'), ('header', 'ABC_KEY_BEYOND 21', 'ABC_KEY_BEYOND 23'), ('refusals', '21 => Self::KeyBeyond', '21 => Self::Middle'), ('fields', '(some 21)', '(some 23)'),
+    ('sounds', 'refused 22', 'refused 23'), ('lengths', 'ltb 31', 'ltb 32'), ('header', 'ABC_MANY_SLASHES 22', 'ABC_MANY_SLASHES 23'), ('header', '31 slashes', '32 slashes'), ('refusals', '22 => Self::ManySlashes', '22 => Self::Octave'),
+    ('refusals', 'Self::ManySlashes { .. } => 22', 'Self::ManySlashes { .. } => 21'), ('refusals', '31 slashes', '32 slashes'),
     ('library', 'fn abc_parse_2_1', 'fn abc_parse_21'),
 ]
 
@@ -324,8 +328,8 @@ class Doors(unittest.TestCase):
     def test_the_calls(self):
         self.assertEqual(set(calls(self.texts['library'])), {'abc_parse', 'abc_parse_2_1', 'abc_played', 'abc_is_whole', 'abc_version'})
 
-    def test_twenty_one_refusals(self):
-        self.assertEqual(specified(self.texts)['refused numbers'], set(range(1, 22)))
+    def test_twenty_two_refusals(self):
+        self.assertEqual(specified(self.texts)['refused numbers'], set(range(1, 23)))
 
 
 if __name__ == '__main__':

@@ -101,8 +101,8 @@ class Samples(unittest.TestCase):
         for length, _, number, value, text, reading in rows:
             self.assertEqual((int(length, 16), int(value, 16) if number == '00' else 0), (len(text) // 2, len(reading) // 2))
             self.assertLessEqual(int(length, 16), 1792)
-        # Read, refused with 10, 16, 17 and 21, and others.
-        self.assertTrue({'00', '01', '06', '0a', '10', '11', '15'} <= {row[2] for row in rows})
+        # Read, refused with 10, 16, 17, 21 and 22, and others.
+        self.assertTrue({'00', '01', '06', '0a', '10', '11', '15', '16'} <= {row[2] for row in rows})
 
     def test_lists(self):
         rows = self.rows('test_played')

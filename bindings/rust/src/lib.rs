@@ -21,7 +21,7 @@
 //! # Ok::<(), sindvaelo::Refusal>(())
 //! ```
 //!
-//! A text is read in one of two [editions](Edition): the first is acorde's reading; the second is ABC 2.1's in keys, tuplets and lyrics.
+//! A text is read in one of two [editions](Edition): the first is acorde's reading; the second is ABC 2.1's in keys, tuplets, slashes and lyrics.
 //!
 //! ```
 //! use sindvaelo::{Edition, read, read_edition};
@@ -29,6 +29,10 @@
 //! let fifths = |reading: &sindvaelo::Reading<Vec<u8>>| reading.parts().next()?.measures().next()?.key_sig().map(|key| key.fifths);
 //! assert_eq!(fifths(&read("K:Ador\nF")?), Some(0));
 //! assert_eq!(fifths(&read_edition("K:Ador\nF", Edition::Abc21)?), Some(1));
+//!
+//! let value = |reading: &sindvaelo::Reading<Vec<u8>>| Some(reading.parts().next()?.notes().next()?.duration());
+//! assert_eq!(value(&read("K:C\nA//")?), Some(sindvaelo::Duration::Sixteenth));
+//! assert_eq!(value(&read_edition("K:C\nA//", Edition::Abc21)?), Some(sindvaelo::Duration::ThirtySecond));
 //! # Ok::<(), sindvaelo::Refusal>(())
 //! ```
 //!
@@ -71,12 +75,13 @@ pub enum Edition {
     /// As acorde reads it.
     #[default]
     First,
-    /// As the first, but by ABC 2.1 in this: the header's key holds for every voice; modes are read; tuplets of 5 to 9 have its defaults, and so has an empty part behind a `:`; grace notes take no
-    /// syllable; a `|` in a lyric line goes on to the next measure. A key of more than seven sharps or flats is refused (21).
+    /// As the first, but by ABC 2.1 in this: the header's key holds for every voice; modes are read; tuplets of 5 to 9 have its defaults, and so has an empty part behind a `:`; slashes in a row
+    /// halve a length once each, so that `A//` is a quarter of the unit; grace notes take no syllable; a `|` in a lyric line goes on to the next measure. A key of more than seven sharps or flats is refused (21), and so
+    /// are more than 31 slashes that halve (22).
     Abc21,
 }
 
-/// The crate's version, as in `0.4.0`.
+/// The crate's version, as in `0.5.0`.
 pub const VERSION: &str = env!("CARGO_PKG_VERSION");
 
 /// The commit that this crate and its library were built from, for a quote to bear: `-dirty` behind it where sources differed from that commit, `-stale`

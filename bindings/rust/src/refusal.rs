@@ -89,6 +89,21 @@ pub enum Refusal {
         /// The line, from 1.
         line: u32,
     },
+    /// 22: more than 31 slashes in a row that halve the length of a note, a chord or a rest, in the second edition ([`Edition::Abc21`](crate::Edition::Abc21)).
+    ///
+    /// ```
+    /// use sindvaelo::{Edition, Refusal, read_edition};
+    ///
+    /// let slashes = |count: usize| format!("K:C\n[CE]{}", "/".repeat(count));
+    /// assert!(read_edition(slashes(31), Edition::Abc21).is_ok());
+    /// assert_eq!(read_edition(slashes(32), Edition::Abc21), Err(Refusal::ManySlashes { line: 2 }));
+    /// // Behind a slash with digits they are skipped.
+    /// assert!(read_edition(format!("K:C\n[CE]/2{}", "/".repeat(40)), Edition::Abc21).is_ok());
+    /// ```
+    ManySlashes {
+        /// The line, from 1.
+        line: u32,
+    },
     /// No number of the contract: the text is longer than the limit of a [`Reader`](crate::Reader).
     OverLimit {
         /// The reader's limit.
@@ -127,11 +142,12 @@ impl Refusal {
             19 => Self::NoSuchPart,
             20 => Self::ListShort,
             21 => Self::KeyBeyond { line },
+            22 => Self::ManySlashes { line },
             _ => Self::Other { number, line },
         }
     }
 
-    /// Its number in the contract, 1 to 21; 0 for a reader's own limit.
+    /// Its number in the contract, 1 to 22; 0 for a reader's own limit.
     pub fn number(&self) -> u8 {
         match self {
             Self::NoMusic => 1,
@@ -155,6 +171,7 @@ impl Refusal {
             Self::NoSuchPart => 19,
             Self::ListShort => 20,
             Self::KeyBeyond { .. } => 21,
+            Self::ManySlashes { .. } => 22,
             Self::OverLimit { .. } => 0,
             Self::Other { number, .. } => *number,
         }
@@ -188,6 +205,7 @@ impl Refusal {
             | Self::PassRange { line }
             | Self::PassOrder { line }
             | Self::KeyBeyond { line }
+            | Self::ManySlashes { line }
             | Self::Other { line, .. } => (*line > 0).then_some(*line),
         }
     }
@@ -224,6 +242,7 @@ impl fmt::Display for Refusal {
             Self::NoSuchPart => ": no whole reading, or no part of that number. Take the bytes of a reading as it was read, and a part from 1 to its count of parts",
             Self::ListShort => ": more measures are played than the list has room for. Lend a store twice as long, or allow more numbers",
             Self::KeyBeyond { .. } => ": a key of more than seven sharps or flats, as in K:G# or K:Fb. Name the key that sounds the same: K:Ab for K:G#, K:E for K:Fb",
+            Self::ManySlashes { .. } => ": more than 31 slashes in a row behind a note, chord or rest, where each halves its length. Take some away, or put a space before slashes that are no length",
             Self::OverLimit { .. } => unreachable!("said above"),
             Self::Other { .. } => ": this version of the crate has no name for it",
         })

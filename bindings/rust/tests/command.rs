@@ -228,6 +228,10 @@ measure 2  | .. :|
     let (out, told, status) = said(run(&["read", "--edition", "2.1", "-"], "X:1\nK:G#\nA\n"));
     assert_eq!((out.as_str(), status), ("refused 21 2\n", 1));
     assert!(told.starts_with("standard input: refused (21) at line 2: a key of more than seven sharps or flats") && told.ends_with("      1 | X:1\n>     2 | K:G#\n      3 | A\n"), "{told}");
+    let slashes = "/".repeat(32);
+    let (out, told, status) = said(run(&["read", "--edition", "2.1", "-"], &format!("K:C\nA//\nz{slashes}\n")));
+    assert_eq!((out.as_str(), status), ("refused 22 3\n", 1));
+    assert!(told.starts_with("standard input: refused (22) at line 3: more than 31 slashes in a row") && told.ends_with(&format!("      2 | A//\n>     3 | z{slashes}\n")), "{told}");
     let (out, _, _) = said(run(&["played", "--edition", "2.1", "--json", "-"], "K:G#\nA\n"));
     assert!(out.starts_with(&format!("{{\"file\":\"standard input\",{reader},\"refused\":21,\"line\":1,")), "{out}");
 }

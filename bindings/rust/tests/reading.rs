@@ -302,6 +302,51 @@ fn a_key_beyond_seven() {
     }
 }
 
+/// Slashes in a row halve once each in the second edition, behind a note, a chord and a rest alike; what stands behind them is skipped.
+#[test]
+fn slashes() {
+    use Duration::*;
+    let values = |music: &str, edition: Edition| -> Vec<(Duration, u8, bool)> {
+        let reading = read_edition(format!("K:C\n{music}"), edition).unwrap();
+        reading.parts().next().unwrap().notes().map(|note| (note.duration(), note.dot_count(), note.tie_start())).collect()
+    };
+    let plain = |value: Duration| (value, 0, false);
+    for (music, first, second) in [
+        ("A//", vec![plain(Sixteenth)], vec![plain(ThirtySecond)]),
+        ("A///B/", vec![plain(Sixteenth); 2], vec![plain(SixtyFourth), plain(Sixteenth)]),
+        ("A3//", vec![(Eighth, 1, false)], vec![(Sixteenth, 1, false)]),
+        ("A//8", vec![plain(Sixteenth)], vec![plain(ThirtySecond)]),
+        ("[CE]//z//x//", vec![plain(Sixteenth); 3], vec![plain(ThirtySecond); 3]),
+        ("A//-B", vec![plain(Sixteenth), plain(Eighth)], vec![(ThirtySecond, 0, true), plain(Eighth)]),
+    ] {
+        assert_eq!((values(music, Edition::First), values(music, Edition::Abc21)), (first, second), "{music}");
+    }
+    // Read alike: one slash, and slashes behind one with digits.
+    for music in ["A/", "A3/4", "A/4//", "A/2/2-B", "A/2////////////////////////////////////////", "Z//X//", "[]//A", "[C//E]", "\"A//\"B", "A //"] {
+        assert_eq!(values(music, Edition::First), values(music, Edition::Abc21), "{music}");
+    }
+}
+
+#[test]
+fn many_slashes() {
+    for sound in ["A", "^c'3", "[CE]", "[]", "z", "x", "Z", "X"] {
+        let text = |count: usize| format!("K:C\nA|\n{sound}{}B", "/".repeat(count));
+        assert!(read_edition(text(31), Edition::Abc21).is_ok(), "{sound}");
+        for count in [32, 33, 256, 288] {
+            assert_eq!(read_edition(text(count), Edition::Abc21), Err(Refusal::ManySlashes { line: 3 }), "{sound} {count}");
+            assert!(read(text(count)).is_ok(), "{sound} {count}");
+        }
+    }
+    let refusal = Refusal::ManySlashes { line: 3 };
+    assert_eq!((refusal.number(), refusal.line(), refusal.is_senders()), (22, Some(3), true));
+    assert_eq!(
+        refusal.to_string(),
+        "refused (22) at line 3: more than 31 slashes in a row behind a note, chord or rest, where each halves its length. Take some away, or put a space before slashes that are no length"
+    );
+    // What it advises is read.
+    assert!(read_edition(format!("K:C\nA {}", "/".repeat(40)), Edition::Abc21).is_ok());
+}
+
 #[test]
 fn a_reader_is_used_again() {
     let mut reader = Reader::new();

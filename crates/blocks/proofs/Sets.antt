@@ -223,7 +223,8 @@ leaving =
 
 all-set : (ed : Edition) → all (λ r. not (noField ed r)) setting ≡ true
 unfolding reader.all
-all-set ed = refl
+all-set First = refl
+all-set Second = refl
 
 all-leave : (ed : Edition) → all (noField ed) leaving ≡ true
 unfolding reader.all

@@ -28,6 +28,7 @@ use Rattle.reader.specs.Tuplets.{notZero, positive, orOneLess, normalFor, count
 use Rattle.reader.specs.Barlines.{barlineAs, barlineOf}
 use Rattle.reader.specs.PassLists.{listItems, numbersIn, isPass, Listed, listed, faulty, tested, isPassByte, voltaAs, voltaOf}
 use Rattle.reader.specs.PassesInTurn.{passNumber, single, range, itemOf, lastPass, inTurn, passList, listFault, orFaulty}
+use Rattle.reader.proofs.LengthLaws.{with-length}
 use Rattle.reader.proofs.PassTests.{tests-in-turn}
 use Rattle.reader.specs.Inline.{unitToken, keyToken, fieldToken, isInline, inlineAt, tokenUnless}
 use Rattle.reader.specs.Sounds.{chordTaken, chordAt, restAs, noteAs, noteAfter, noteOf}
@@ -342,35 +343,35 @@ unfolding ChordFits
 pitches-fit s ws e = subst ChordFits e (chord-fits 0 none s no-mark)
 
 -- TOKENS
-taken-fits : (n : ℕ) (s : List ℕ) (o : Option (List Written)) → ChordFits o → TokenFits (chordTaken n s o .token)
+taken-fits : (ed : Edition) (n : ℕ) (s : List ℕ) (o : Option (List Written)) → ChordFits o → TokenFits (chordTaken ed n s o .token)
 unfolding chordTaken ChordFits TokenFits
-taken-fits n s none h = tt
-taken-fits n s (some []) h = tt
-taken-fits n s (some (w ∷ ws)) h = h
+taken-fits ed n s none h = tt
+taken-fits ed n s (some []) h = with-length (λ t. TokenFits (t .token)) ed _ s _ (λ m. tt) (λ m. tt)
+taken-fits ed n s (some (w ∷ ws)) h = with-length (λ t. TokenFits (t .token)) ed _ s _ (λ m. tt) (λ m. h)
 
 -- the same from its bracket on
-chordAt-fits : (s : List ℕ) → TokenFits (chordAt s .token)
+chordAt-fits : (ed : Edition) (s : List ℕ) → TokenFits (chordAt ed s .token)
 unfolding chordAt
-chordAt-fits s = let n = countWhile (λ c. not (is "]" c)) s in taken-fits (cond (ltb n (length s)) (2 + n) (1 + n)) (drop (suc n) s) (chordOf 0 none s) (chord-fits 0 none s no-mark)
+chordAt-fits ed s = let n = countWhile (λ c. not (is "]" c)) s in taken-fits ed (cond (ltb n (length s)) (2 + n) (1 + n)) (drop (suc n) s) (chordOf 0 none s) (chord-fits 0 none s no-mark)
 
 -- a note from its letter on
-noteAs-fits : (a : Before) (c : ℕ) (s : List ℕ) → SignFits (a .sign) → TokenFits (noteAs a c s .token)
+noteAs-fits : (ed : Edition) (a : Before) (c : ℕ) (s : List ℕ) → SignFits (a .sign) → TokenFits (noteAs ed a c s .token)
 unfolding noteAs TokenFits
-noteAs-fits a c s h =
+noteAs-fits ed a c s h =
     by-test (octaveOf c s .fine)
-    (λ e. rw (e, noteAs) (record { step-fits = step-small c; octave-fits = octave-small c s e; mark-fits = h }))
+    (λ e. rw (e, noteAs) (with-length (λ t. TokenFits (t .token)) ed _ (drop (octaveOf c s .used) s) _ (λ m. tt) (λ m. record { step-fits = step-small c; octave-fits = octave-small c s e; mark-fits = h })))
     (λ e. rw (e, noteAs) tt)
 
 -- a note behind its accidental
-noteAfter-fits : (a : Before) (r : List ℕ) → SignFits (a .sign) → TokenFits (noteAfter a r .token)
+noteAfter-fits : (ed : Edition) (a : Before) (r : List ℕ) → SignFits (a .sign) → TokenFits (noteAfter ed a r .token)
 unfolding noteAfter TokenFits
-noteAfter-fits a [] h = tt
-noteAfter-fits a (c ∷ r) h = by-test (isLetter c) (λ e. rw (e, noteAfter) (noteAs-fits a c r h)) (λ e. rw (e, noteAfter) tt)
+noteAfter-fits ed a [] h = tt
+noteAfter-fits ed a (c ∷ r) h = by-test (isLetter c) (λ e. rw (e, noteAfter) (noteAs-fits ed a c r h)) (λ e. rw (e, noteAfter) tt)
 
 -- a note
-note-fits : (s : List ℕ) → TokenFits (noteOf s .token)
+note-fits : (ed : Edition) (s : List ℕ) → TokenFits (noteOf ed s .token)
 unfolding noteOf
-note-fits s = let a = accidentalOf s in noteAfter-fits a (drop (a .used) s) (accidental-fits s)
+note-fits ed s = let a = accidentalOf s in noteAfter-fits ed a (drop (a .used) s) (accidental-fits s)
 
 -- a quote or decoration
 closed-fits : (x : ℕ → Bool) (t : Token) (s : List ℕ) (other : Taken) → TokenFits t → TokenFits (other .token) → TokenFits (closedBy x t s other .token)
@@ -448,7 +449,7 @@ bracket-fits ed s =
     by-test (isDigit (first s))
     (λ e. rw (e, bracketOf) (volta-fits n s (tested (listItems xs)) (listed-fits xs)))
     (λ e. rw (e, bracketOf)
-    (by-test (isInline s) (λ f. rw (f, bracketOf) (field-fits ed (take (countWhile (λ c. not (is "]" c)) s) s))) (λ f. rw (f, bracketOf) (chordAt-fits s))))
+    (by-test (isInline s) (λ f. rw (f, bracketOf) (field-fits ed (take (countWhile (λ c. not (is "]" c)) s) s))) (λ f. rw (f, bracketOf) (chordAt-fits ed s))))
 
 -- of any class
 as-fits : (ed : Edition) (k : Class) (s : List ℕ) → TokenFits (tokenAs ed k s .token)
@@ -465,9 +466,9 @@ as-fits ed bang s = closed-fits (is "!") decoration (drop 1 s) (taken skipped 1)
 as-fits ed plus s = closed-fits (is "+") decoration (drop 1 s) (taken skipped 1) tt tt
 as-fits ed bars s = barline-fits s (symbolAt barSymbols s)
 as-fits ed bracket s = bracket-fits ed (drop 1 s)
-as-fits ed pitched s = note-fits s
+as-fits ed pitched s = note-fits ed s
 as-fits ed none-of-these s = tt
-as-fits ed (resting k) s = tt
+as-fits ed (resting k) s = with-length (λ t. TokenFits (t .token)) ed _ (drop 1 s) _ (λ m. tt) (λ m. tt)
 
 -- every token at the front of any text fits
 pub token-fits : (ed : Edition) (s : List ℕ) → TokenFits (tokenOf ed s .token)

@@ -27,6 +27,7 @@ use Rattle.reader.specs.PassLists.{isPassByte, listOf, voltaAs, voltaOf}
 use Rattle.reader.specs.Inline.{isInline, inlineAt}
 use Rattle.reader.specs.Sounds.{behind, chordTaken, chordAt, restAs, noteAs, noteAfter, noteOf}
 use Rattle.reader.specs.Tokens.{bracketOf, Class, white, ampersand, quote, more, less, paren, braceOpen, braceClose, bang, plus, bars, bracket, pitched, none-of-these, resting, classes, classIn, classOf, tokenAs, tokenOf}
+use Rattle.reader.proofs.LengthLaws.{with-length}
 use Rattle.reader.proofs.TokenLaws.{as-takes}
 use Rattle.reader.proofs.TokenBounds.{inChord, octave-in-chord, quarter-in-chord}
 use Rattle.capacity.specs.Sizes.{isBar, isRest, isSign}
@@ -178,15 +179,16 @@ module _ (ed : Edition) (p : Weights) (enough : Covered p) where
       (λ e. absurd (not-suc-le-zero (rw (count-while-no inChord c s e) at h)))
 
   -- A CHORD; its first byte is the `[`, and n bytes behind it reach to its end
-  sounds-covered : (u : ℕ) (r : List ℕ) (c : ℕ) (s : List ℕ) (n : ℕ) (o : Option (List Written)) → n < u → WeightWithin (budget (take n s)) o → CoveredBy (chordTaken u r o) (c ∷ s)
+  sounds-covered : (u : ℕ) (r : List ℕ) (c : ℕ) (s : List ℕ) (n : ℕ) (o : Option (List Written)) → n < u → WeightWithin (budget (take n s)) o → CoveredBy (chordTaken ed u r o) (c ∷ s)
   unfolding WeightWithin chordTaken weight
   sounds-covered u r c s n none h k = omega arith
-  sounds-covered u r c s n (some []) h k = omega arith
+  sounds-covered u r c s n (some []) h k = with-length (λ t. CoveredBy t (c ∷ s)) ed _ r _ (λ m. omega arith) (λ m. omega arith)
   sounds-covered u r c s n (some (w ∷ ws)) h k =
-      let l = lengthOf r in
-      omega (arith, sum-more (p .byte) (suc n) (u + l .used + behind (drop (l .used) r) .used) (c ∷ s) (omega arith), mul-suc (p .note) (length ws))
+      let l = lengthOf ed r in
+      with-length (λ t. CoveredBy t (c ∷ s)) ed _ r _ (λ m. omega arith)
+      (λ m. omega (arith, sum-more (p .byte) (suc n) (u + l .used + behind (drop (l .used) r) .used) (c ∷ s) (omega arith), mul-suc (p .note) (length ws)))
 
-  chordAt-covered : (c : ℕ) (s : List ℕ) → CoveredBy (chordAt s) (c ∷ s)
+  chordAt-covered : (c : ℕ) (s : List ℕ) → CoveredBy (chordAt ed s) (c ∷ s)
   unfolding chordAt
   chordAt-covered c s =
       let n = countWhile inChord s in
@@ -229,22 +231,23 @@ module _ (ed : Edition) (p : Weights) (enough : Covered p) where
       let q : budget (take (n + 1) l) ≡ budget (take n l) + budget (take 1 (drop n l)) = ap budget (take-add n 1 l) ∙ sum-append (p .byte) (take n l) (take 1 (drop n l)) in
       omega (arith, q, ap (λ (x : List ℕ). budget (take 1 x)) e, sum-more (p .byte) (n + 1) m l (omega arith))
 
-  noteAs-covered : (a : Before) (c : ℕ) (s l : List ℕ) → drop (a .used) l ≡ c ∷ s → isLetter c ≡ true → mark-weight (a .sign) ≤ budget (take (a .used) l) → CoveredBy (noteAs a c s) l
+  noteAs-covered : (a : Before) (c : ℕ) (s l : List ℕ) → drop (a .used) l ≡ c ∷ s → isLetter c ≡ true → mark-weight (a .sign) ≤ budget (take (a .used) l) → CoveredBy (noteAs ed a c s) l
   unfolding noteAs weight
   noteAs-covered a c s l d i h =
       let o = octaveOf c s in
-      let n = lengthOf (drop (o .used) s) in
+      let n = lengthOf ed (drop (o .used) s) in
       let b = behind (drop (o .used + n .used) s) in
       by-test (o .fine)
-      (λ e. rw (e, noteAs) (omega (arith, enough .letters c i, letter-byte (a .used) (a .used + 1 + o .used + n .used + b .used) c s l d (omega arith))))
+      (λ e. rw (e, noteAs) (with-length (λ t. CoveredBy t l) ed _ (drop (o .used) s) _ (λ m. omega arith)
+      (λ m. omega (arith, enough .letters c i, letter-byte (a .used) (a .used + 1 + o .used + n .used + b .used) c s l d (omega arith)))))
       (λ e. rw (e, noteAs) (omega arith))
 
-  noteAfter-covered : (a : Before) (r l : List ℕ) → drop (a .used) l ≡ r → mark-weight (a .sign) ≤ budget (take (a .used) l) → CoveredBy (noteAfter a r) l
+  noteAfter-covered : (a : Before) (r l : List ℕ) → drop (a .used) l ≡ r → mark-weight (a .sign) ≤ budget (take (a .used) l) → CoveredBy (noteAfter ed a r) l
   unfolding noteAfter weight
   noteAfter-covered a [] l d h = omega arith
   noteAfter-covered a (c ∷ r) l d h = by-test (isLetter c) (λ e. rw (e, noteAfter) (noteAs-covered a c r l d e h)) (λ e. rw (e, noteAfter) (omega arith))
 
-  note-covered : (c : ℕ) (s : List ℕ) → CoveredBy (noteOf (c ∷ s)) (c ∷ s)
+  note-covered : (c : ℕ) (s : List ℕ) → CoveredBy (noteOf ed (c ∷ s)) (c ∷ s)
   unfolding noteOf
   note-covered c s = let a = accidentalOf (c ∷ s) in noteAfter-covered a (drop (a .used) (c ∷ s)) (c ∷ s) refl (accidental-covered c s)
 
@@ -290,7 +293,7 @@ module _ (ed : Edition) (p : Weights) (enough : Covered p) where
   as-covered bracket c s y = bracket-covered c s
   as-covered pitched c s y = note-covered c s
   as-covered none-of-these c s y = omega arith
-  as-covered (resting k) c s y = omega (arith, enough .rests c y)
+  as-covered (resting k) c s y = with-length (λ t. CoveredBy t (c ∷ s)) ed _ s _ (λ m. omega arith) (λ m. omega (arith, enough .rests c y))
 
   -- the bytes of a token cover it
   pub token-covered : (c : ℕ) (s : List ℕ) → weight (makes (tokenOf ed (c ∷ s) .token)) ≤ budget (take (tokenOf ed (c ∷ s) .used) (c ∷ s))

@@ -1,4 +1,4 @@
--- The line after 100,000 notes: refusal 11, and which refusal is met first there (the Rust's answers). The state before it stands for the text
+-- The line after 100,000 notes: refusal 11, and which refusal is met first there (the Rust's answers), in the second edition 22 too. The state before it stands for the text
 -- "K:C" and a line of 100,000 notes; to read that text itself by computation would take too long.
 use Prim.Native.Nat.{ℕ}
 use Prim.Native.String.{String}
@@ -8,7 +8,7 @@ use mathlib.Core.List.{List, [], _∷_, _++_, map}
 use lib.ListN.{replicate}
 use Rattle.standard.specs.Bytes.{ascii}
 use Rattle.standard.specs.Keys.{plainKey}
-use Rattle.editions.specs.declared.Edition.the-variants.{First}
+use Rattle.editions.specs.declared.Edition.the-variants.{First, Second}
 use Rattle.reader.specs.Steps.{refuse, on}
 use Rattle.reader.specs.Scan.{Env, ScanState, Out, step}
 use Rattle.reader.specs.All.{all}
@@ -63,3 +63,18 @@ rows =
 pub after-the-last-note : map (λ (r : Row). met (step First full (r .line))) rows ≡ map (λ (r : Row). r .answer) rows
 unfolding all
 after-the-last-note = refl
+
+-- in the second edition a 32nd slash is met before the note counts, and its octave marks before the slashes
+abbrev slashed : List Row
+slashed =
+    row (ascii "A" ++ replicate 31 47) (11 ∷ 3 ∷ [])
+    ∷ row (ascii "A" ++ replicate 32 47) (22 ∷ 3 ∷ [])
+    ∷ row (ascii "[A]" ++ replicate 32 47) (22 ∷ 3 ∷ [])
+    ∷ row (ascii "z" ++ replicate 32 47) (22 ∷ 3 ∷ [])
+    ∷ row (ascii "AB" ++ replicate 32 47) (11 ∷ 3 ∷ [])
+    ∷ row (ascii "A" ++ replicate 133 44 ++ replicate 32 47) (12 ∷ 3 ∷ [])
+    ∷ []
+
+pub slashes-after-the-last-note : map (λ (r : Row). met (step Second full (r .line))) slashed ≡ map (λ (r : Row). r .answer) slashed
+unfolding all
+slashes-after-the-last-note = refl

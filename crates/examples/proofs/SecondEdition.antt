@@ -22,23 +22,23 @@ use Rattle.reader.specs.All.{all}
 
 -- a text, and what each edition reads
 pub record Row (A : Type 0) : Type 0 where
-  pub text : String
+  pub text : List ℕ
   pub first : A
   pub second : A
 
 abbrev row : {A : Type 0} → String → A → A → Row A
-row t a b = record { text = t; first = a; second = b }
+row t a b = record { text = ascii t; first = a; second = b }
 
-abbrev readIn : {A : Type 0} → Edition → Row A → A
+abbrev pub readIn : {A : Type 0} → Edition → Row A → A
 readIn First x = x .first
 readIn Second x = x .second
 
 -- a text's verdict in an edition
-abbrev verdictOf : Edition → List ℕ → Verdict
+abbrev pub verdictOf : Edition → List ℕ → Verdict
 verdictOf ed text = parseAbc ed text 4096 (scratchNeeded (length text)) .verdict
 
 -- a refusal: its number and line; of a reading what `f` makes of its parts
-abbrev told : (List Part → List ℕ) → Verdict → List ℕ
+abbrev pub told : (List Part → List ℕ) → Verdict → List ℕ
 told f (refusal n l) = n ∷ l ∷ []
 told f (reading ps) = f ps
 
@@ -90,7 +90,7 @@ keyFields =
     ∷ row "bass G#" (128 ∷ 1 ∷ []) (21 ∷ 1 ∷ [])
     ∷ []
 
-pub keys-read : (ed : Edition) → map (λ (x : Row (List ℕ)). told keyMarks (verdictOf ed (ascii "K:" ++ ascii (x .text) ++ ascii "\nA"))) keyFields ≡ map (readIn ed) keyFields
+pub keys-read : (ed : Edition) → map (λ (x : Row (List ℕ)). told keyMarks (verdictOf ed (ascii "K:" ++ x .text ++ ascii "\nA"))) keyFields ≡ map (readIn ed) keyFields
 unfolding all
 keys-read First = refl
 keys-read Second = refl
@@ -112,7 +112,7 @@ beyondTexts =
     ∷ row "K:C\nA|[K:Edor]A|\nK:G#m\nA" (128 ∷ 1 ∷ 128 ∷ 1 ∷ 133 ∷ 2 ∷ []) (128 ∷ 1 ∷ 130 ∷ 1 ∷ 133 ∷ 2 ∷ [])
     ∷ []
 
-pub beyond-met : (ed : Edition) → map (λ (x : Row (List ℕ)). told keyMarks (verdictOf ed (ascii (x .text)))) beyondTexts ≡ map (readIn ed) beyondTexts
+pub beyond-met : (ed : Edition) → map (λ (x : Row (List ℕ)). told keyMarks (verdictOf ed (x .text))) beyondTexts ≡ map (readIn ed) beyondTexts
 unfolding all
 beyond-met First = refl
 beyond-met Second = refl
@@ -169,7 +169,7 @@ tuplets =
     ∷ row "M:6/8\nK:C\n(5:4:2AB" (5 ∷ 4 ∷ 1 ∷ 5 ∷ 4 ∷ 2 ∷ []) (5 ∷ 4 ∷ 1 ∷ 5 ∷ 4 ∷ 2 ∷ [])
     ∷ []
 
-pub tuplets-read : (ed : Edition) → map (λ (x : Row (List ℕ)). told groups (verdictOf ed (ascii (x .text)))) tuplets ≡ map (readIn ed) tuplets
+pub tuplets-read : (ed : Edition) → map (λ (x : Row (List ℕ)). told groups (verdictOf ed (x .text))) tuplets ≡ map (readIn ed) tuplets
 unfolding all
 tuplets-read First = refl
 tuplets-read Second = refl
@@ -191,7 +191,7 @@ colons =
     ∷ row "K:C\n(:2A" (0 ∷ 0 ∷ 4 ∷ 0 ∷ 0 ∷ 0 ∷ []) (0 ∷ 0 ∷ 4 ∷ 0 ∷ 0 ∷ 0 ∷ [])
     ∷ []
 
-pub colons-read : (ed : Edition) → map (λ (x : Row (List ℕ)). told (λ (ps : List Part). concat (map (λ (p : Part). concat (map barred (p .measures))) ps)) (verdictOf ed (ascii (x .text)))) colons ≡ map (readIn ed) colons
+pub colons-read : (ed : Edition) → map (λ (x : Row (List ℕ)). told (λ (ps : List Part). concat (map (λ (p : Part). concat (map barred (p .measures))) ps)) (verdictOf ed (x .text))) colons ≡ map (readIn ed) colons
 unfolding all
 colons-read First = refl
 colons-read Second = refl
@@ -240,7 +240,7 @@ lyricTexts =
     ∷ row "K:C\nA|B\nc|d\nw:| a" (on 2 "a" ∷ []) (on 3 "a" ∷ [])
     ∷ []
 
-pub lyrics-read : (ed : Edition) → map (λ (x : Row (List (List ℕ))). toldWords (verdictOf ed (ascii (x .text)))) lyricTexts ≡ map (readIn ed) lyricTexts
+pub lyrics-read : (ed : Edition) → map (λ (x : Row (List (List ℕ))). toldWords (verdictOf ed (x .text))) lyricTexts ≡ map (readIn ed) lyricTexts
 unfolding all
 lyrics-read First = refl
 lyrics-read Second = refl
@@ -258,7 +258,7 @@ headers =
     ∷ row "V:1\nV:2\nK:Edor\nV:1\nc" (128 ∷ []) (129 ∷ [])
     ∷ []
 
-pub header-key : (ed : Edition) → map (λ (x : Row (List ℕ)). told altersOf (verdictOf ed (ascii (x .text)))) headers ≡ map (readIn ed) headers
+pub header-key : (ed : Edition) → map (λ (x : Row (List ℕ)). told altersOf (verdictOf ed (x .text))) headers ≡ map (readIn ed) headers
 unfolding all
 header-key First = refl
 header-key Second = refl

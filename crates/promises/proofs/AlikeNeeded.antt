@@ -37,9 +37,9 @@ computed = 0
 pub alike-test : (text : List ℕ) → tests text ≡ (true, true, true, true) → Alike text
 alike-test text e = record { keys = ap (λ (t : Tests). t .0) e; music = ap (λ (t : Tests). t .1) e; sung = ap (λ (t : Tests). t .2) e; header = ap (λ (t : Tests). t .3) e }
 
--- THEY CAN BE MET. One voice named before the first K line; keys with their mode as both editions read it, tuplets with q written or of 2 to 4, words without bars; in another voice a grace
+-- THEY CAN BE MET. One voice named before the first K line; keys with their mode as both editions read it, tuplets with q written or of 2 to 4, words without bars; in another voice a grace, and lengths of one slash
 abbrev pub song : List ℕ
-song = ascii "V:1\nK:F#m\n(5:4ABcde [K:Dmaj]f|(3abc\nw:one two-three * four _\nV:2\n{A}B z|\n"
+song = ascii "V:1\nK:F#m\n(5:4ABcde [K:Dmaj]f|(3abc\nw:one two-three * four _\nV:2\n{A}B/ [ce]3/2 z/|\n"
 
 pub song-alike : Alike song
 unfolding computed
@@ -108,7 +108,7 @@ pub beyond-differs : (tests beyond ≡ (false, true, true, true)) × (Differ bey
 unfolding computed
 beyond-differs = (refl, (differ beyond refl, refl))
 
--- music: an inline mode, a default, an empty part
+-- music: an inline mode, a default, an empty part; two slashes behind a note, behind its marks and a numerator, behind a chord and a rest
 abbrev pub inline-mode : List ℕ
 inline-mode = ascii "K:C\n[K:Ador]A\n"
 
@@ -129,6 +129,42 @@ empty-part = ascii "K:C\n(3:A\n"
 pub empty-part-differs : (tests empty-part ≡ (true, false, true, true)) × Differ empty-part
 unfolding computed
 empty-part-differs = (refl, differ empty-part refl)
+
+abbrev pub slashed-note : List ℕ
+slashed-note = ascii "K:C\nA//\n"
+
+pub slashed-note-differs : (tests slashed-note ≡ (true, false, true, true)) × Differ slashed-note
+unfolding computed
+slashed-note-differs = (refl, differ slashed-note refl)
+
+abbrev pub marked-note : List ℕ
+marked-note = ascii "K:C\n^A,3//\n"
+
+pub marked-note-differs : (tests marked-note ≡ (true, false, true, true)) × Differ marked-note
+unfolding computed
+marked-note-differs = (refl, differ marked-note refl)
+
+abbrev pub slashed-chord : List ℕ
+slashed-chord = ascii "K:C\n[CE]//\n"
+
+pub slashed-chord-differs : (tests slashed-chord ≡ (true, false, true, true)) × Differ slashed-chord
+unfolding computed
+slashed-chord-differs = (refl, differ slashed-chord refl)
+
+abbrev pub slashed-rest : List ℕ
+slashed-rest = ascii "K:C\nz//\n"
+
+pub slashed-rest-differs : (tests slashed-rest ≡ (true, false, true, true)) × Differ slashed-rest
+unfolding computed
+slashed-rest-differs = (refl, differ slashed-rest refl)
+
+-- 32 of them, behind a rest whose length counts for nothing
+abbrev pub many-slashes : List ℕ
+many-slashes = ascii "K:C\nZ////////////////////////////////\n"
+
+pub many-slashes-differ : (tests many-slashes ≡ (true, false, true, true)) × (Differ many-slashes × (parseAbc Second many-slashes 300 12000 .verdict ≡ refusal 22 2))
+unfolding computed
+many-slashes-differ = (refl, (differ many-slashes refl, refl))
 
 -- sung: a lyric bar, a grace with lyrics
 abbrev pub lyric-bar : List ℕ

@@ -11,20 +11,24 @@ use Rattle.laws.specs.Lists.{countWhile}
 use Rattle.laws.proofs.Bools.{by-test, both-true, never-true, not-true, and-left, and-right, and-both}
 use Rattle.standard.specs.Bytes.{is, isDigit, first}
 use Rattle.standard.specs.Keys.{Key}
+use Rattle.standard.specs.Pitches.{Written, isLetter}
 use Rattle.standard.specs.Tuplets.{defaultNormal}
 use Rattle.editions.specs.declared.Edition.the-variants.{First, Second}
 use Rattle.reader.specs.Text.{within}
 use Rattle.reader.specs.Pieces.{fieldWords}
 use Rattle.reader.specs.Keys.{isBeyond, keyOf}
 use Rattle.reader.specs.Fields.{firstMet, keyRefusal}
+use Rattle.reader.specs.Pitches.{Before, octaveOf, accidentalOf, chordOf}
 use Rattle.reader.specs.Token.{Token, Taken, taken}
 use Rattle.reader.specs.Tuplets.{positive, normalFor, partOr, tupletToken, counted, withCount, withNormal, withActual, tupletOf, orSlur}
 use Rattle.reader.specs.Inline.{tokenUnless, keyToken, fieldToken, isInline, inlineAt}
+use Rattle.reader.specs.Sounds.{chordTaken, chordAt, restAs, noteAs, noteAfter, noteOf}
 use Rattle.reader.specs.Tokens.{bracketOf, Class, white, ampersand, quote, more, less, paren, braceOpen, braceClose, bang, plus, bars, bracket, pitched, none-of-these, resting, classOf, tokenAs, tokenOf, tokens}
 use Rattle.reader.specs.Lines.{kindUnless, keyKind}
+use Rattle.reader.proofs.LengthLaws.{with-same-length}
 use Rattle.promises.specs.KeyRange.{InSeven}
-use Rattle.promises.specs.Refusals.{bracketed}
-use Rattle.promises.specs.Alike.{eqKey, sameKey, keyAlike, notEmpty, spelled, tupletAlike, inlineAlike, classAlike, tokensAlike}
+use Rattle.promises.specs.Refusals.{bracketed, afterBracket}
+use Rattle.promises.specs.Alike.{eqKey, sameKey, keyAlike, notEmpty, spelled, tupletAlike, lengthAlike, noteAlike, bracketAlike, classAlike, tokensAlike}
 use Rattle.promises.proofs.KeyFields.{as-met, first-in-seven}
 use Rattle.promises.proofs.TokenRefusals.{k-here}
 
@@ -65,11 +69,28 @@ field-alike f h =
     (λ b. by-test (is "K" (first f)) (λ k. rw (e, a, b, k, fieldToken) (same-key-token (drop 2 f) (rw (k-here f e k) at h))) (λ k. rw (e, a, b, k, fieldToken)))))
     (λ e. rw (e, fieldToken))
 
-bracket-alike : (s : List ℕ) → inlineAlike s ≡ true → bracketOf First s ≡ bracketOf Second s
-unfolding bracketOf inlineAt
+-- LENGTHS behind notes and chords
+note-alike : (a : Before) (s : List ℕ) → noteAlike s ≡ true → noteAfter First a s ≡ noteAfter Second a s
+unfolding noteAfter noteAs
+note-alike a [] h = refl
+note-alike a (c ∷ s) h =
+    by-test (isLetter c)
+    (λ l. by-test (octaveOf c s .fine) (λ o. rw (l, o, noteAfter, noteAs) (with-same-length _ (drop (octaveOf c s .used) s) _ (not-true _ (rw (l, o) at h)))) (λ o. rw (l, o, noteAfter, noteAs)))
+    (λ l. rw (l, noteAfter))
+
+chord-alike : (n : ℕ) (s : List ℕ) (o : Option (List Written)) → lengthAlike s ≡ true → chordTaken First n s o ≡ chordTaken Second n s o
+unfolding chordTaken
+chord-alike n s none h = refl
+chord-alike n s (some []) h = with-same-length _ s _ (not-true _ h)
+chord-alike n s (some (w ∷ ws)) h = with-same-length _ s _ (not-true _ h)
+
+-- what a `[` begins
+bracket-alike : (s : List ℕ) → bracketAlike s ≡ true → bracketOf First s ≡ bracketOf Second s
+unfolding bracketOf inlineAt chordAt
 bracket-alike s h =
     by-test (isDigit (first s)) (λ d. rw (d, bracketOf))
-    (λ d. by-test (isInline s) (λ e. rw (d, e, bracketOf) (ap (λ (t : Token). taken t (2 + countWhile (λ c. not (is "]" c)) s)) (field-alike (bracketed s) (rw e at h)))) (λ e. rw (d, e, bracketOf)))
+    (λ d. by-test (isInline s) (λ e. rw (d, e, bracketOf) (ap (λ (t : Token). taken t (2 + countWhile (λ c. not (is "]" c)) s)) (field-alike (bracketed s) (rw (d, e) at h))))
+    (λ e. rw (d, e, bracketOf) (chord-alike _ (afterBracket s) (chordOf 0 none s) (rw (d, e) at h))))
 
 -- TUPLETS
 not-in : (p n : ℕ) → within 5 9 p ≡ false → within 5 9 n ≡ true → eqb p n ≡ false
@@ -115,8 +136,8 @@ unfolding tupletOf
 tuplet-alike s h = actual-alike (1 + countWhile isDigit s) (drop (countWhile isDigit s) s) (positive 255 s) h
 
 -- TOKENS
-class-alike : (k : Class) (s : List ℕ) → classAlike k (drop 1 s) ≡ true → tokenAs First k s ≡ tokenAs Second k s
-unfolding tokenAs classAlike
+class-alike : (k : Class) (s : List ℕ) → classAlike k s ≡ true → tokenAs First k s ≡ tokenAs Second k s
+unfolding tokenAs restAs noteOf classAlike
 class-alike white s h = refl
 class-alike ampersand s h = refl
 class-alike quote s h = refl
@@ -129,16 +150,16 @@ class-alike bang s h = refl
 class-alike plus s h = refl
 class-alike bars s h = refl
 class-alike bracket s h = bracket-alike (drop 1 s) h
-class-alike pitched s h = refl
+class-alike pitched s h = note-alike (accidentalOf s) (drop (accidentalOf s .used) s) h
 class-alike none-of-these s h = refl
-class-alike (resting k) s h = refl
+class-alike (resting k) s h = with-same-length _ (drop 1 s) _ (not-true _ h)
 
 -- a line that passes the test has the same tokens in both editions
 pub tokens-alike : (k : ℕ) (l : List ℕ) → tokensAlike k l ≡ true → tokens First k l ≡ tokens Second k l
 unfolding tokens tokensAlike tokenOf
 tokens-alike k [] h = refl
 tokens-alike zero (c ∷ s) h =
-    let e : tokenOf First (c ∷ s) ≡ tokenOf Second (c ∷ s) = class-alike (classOf c) (c ∷ s) (and-left (classAlike (classOf c) s) _ h) in
-    ap (λ (ts : List Token). tokenOf First (c ∷ s) .token ∷ ts) (tokens-alike (pred (tokenOf First (c ∷ s) .used)) s (and-right (classAlike (classOf c) s) _ h))
+    let e : tokenOf First (c ∷ s) ≡ tokenOf Second (c ∷ s) = class-alike (classOf c) (c ∷ s) (and-left (classAlike (classOf c) (c ∷ s)) _ h) in
+    ap (λ (ts : List Token). tokenOf First (c ∷ s) .token ∷ ts) (tokens-alike (pred (tokenOf First (c ∷ s) .used)) s (and-right (classAlike (classOf c) (c ∷ s)) _ h))
     ∙ ap (λ (t : Taken). t .token ∷ tokens Second (pred (t .used)) s) e
 tokens-alike (suc k) (c ∷ s) h = tokens-alike k s h

@@ -9,7 +9,7 @@ use native.Mathlib.Omega.{arith}
 use lib.Dec.{eqb, leb, ltb}
 use lib.ListN.{length, drop}
 use borrow.Author.Tests.{eqb-true, ltb-true, ltb-false, leb-true, leb-false, lt-ltb, le-ltb, le-leb, lt-leb}
-use Rattle.laws.specs.Lists.{elem, isNil, sum}
+use Rattle.laws.specs.Lists.{any, elem, isNil, sum}
 use Rattle.laws.proofs.Bools.{by-test, both-true, and-left, and-right, or-either}
 use Rattle.standard.specs.Keys.{Key}
 use Rattle.standard.specs.Fields.{Meter}
@@ -18,17 +18,20 @@ use Rattle.editions.specs.declared.Edition.the-variants.{First}
 use Rattle.reader.specs.Text.{isUtf8, isBlank, textLines, clean, hasHigh}
 use Rattle.reader.specs.Keys.{keyOf}
 use Rattle.reader.specs.Fields.{meterOf, unitOf, identifier, middleWord, keyRefusal}
+use Rattle.reader.specs.Lengths.{manySlashes}
+use Rattle.reader.specs.Pitches.{octaveOf}
 use Rattle.reader.specs.Tokens.{Effect, counts, refuses, setsUnit, setsMeter, noEffect, effectOf, effects}
 use Rattle.reader.specs.Lines.{isV, isK, isL, isM, isX, isLyric, isField, begins, Kind, blank, refused, lyric, voice, key, meter, unit, tune, other, music, voiceKind, keyKind, fieldKind, lineKind, kindOf, kindUnless}
 use Rattle.reader.specs.Steps.{TextLine, refuse, on, first, run}
 use Rattle.reader.specs.Scan.{Items, Out, ScanState, begin, mostLines, mostVoices, mostNotes, noteCount, voicesBefore, firstRefusal, playOn, voiceOn, unitOn, act, step, scan}
 use Rattle.reader.specs.Answer.{Verdict, refusal, reading, Outcome, mostBytes, scratchNeeded, refusedWith, early, encode, measureCount, written, ended, finish, scanned, unless, parseAbc}
+use Rattle.reader.proofs.LengthLaws.{never-many}
 use Rattle.blocks.proofs.Keeps.{laws}
 use Rattle.blocks.proofs.Instance.{reader}
 use Rattle.blocks.proofs.Runs.{run-of, run-lines}
 use Rattle.blocks.specs.Demand.{IsReading}
-use Rattle.promises.specs.Refusals.{bracketed, key-inline, octave-note, octave-chord, many-more, many-less, list-shape, list-range, list-rise, Here, token, note, partsAfter, InMusic, MusicLine, Why, many-lines, long-line, high-field, high-music, second-tune, no-identifier, many-voices, middle-V, key-line, in-music, Smallest, At, KeyMeets, Begins, Reason, long-text, not-utf8, blank-text, short-scratch, at-line, no-measure, short-reading}
-use Rattle.promises.proofs.TokenRefusals.{first-why, music-meets, To14Or17Or18Or21, key-field-range, music-range}
+use Rattle.promises.specs.Refusals.{bracketed, afterBracket, key-inline, octave-note, octave-chord, many-more, many-less, list-shape, list-range, list-rise, slashes-note, slashes-chord, slashes-rest, Here, token, note, partsAfter, InMusic, MusicLine, Why, many-lines, long-line, high-field, high-music, second-tune, no-identifier, many-voices, middle-V, key-line, in-music, Smallest, At, KeyMeets, Begins, Reason, long-text, not-utf8, blank-text, short-scratch, at-line, no-measure, short-reading}
+use Rattle.promises.proofs.TokenRefusals.{first-why, music-meets, LineNumber, key-field-range, music-range}
 use Rattle.promises.proofs.KeyFields.{key-field-why, key-field-meets, first-key-field}
 
 -- a refusal is told by its number and line
@@ -541,66 +544,79 @@ pub read-meets-none : (ed : Edition) (text : List ℕ) (rl sl : ℕ) → IsReadi
 unfolding refusedWith
 read-meets-none ed text rl sl h n l r = subst (λ (w : Outcome). IsReading (w .verdict)) (under-its-condition ed text rl sl n l r) h
 
--- "a line from 1 (0 for 1, 2, 3, 15, 16 ..)": 4 to 14, 17, 18 and 21 have a line, the others none; and there is no other number
-condition-range : (ed : Edition) (s : ScanState) (l : List ℕ) (n : ℕ) → Why ed s l n → (4 ≤ n) × To14Or17Or18Or21 n
-condition-range ed s l n (many-lines h) = (omega arith, inl (omega arith))
-condition-range ed s l n (long-line h) = (omega arith, inl (omega arith))
-condition-range ed s l n (high-field f h) = (omega arith, inl (omega arith))
-condition-range ed s l n (high-music f h) = (omega arith, inl (omega arith))
-condition-range ed s l n (second-tune b x) = (omega arith, inl (omega arith))
-condition-range ed s l n (no-identifier v i) = (omega arith, inl (omega arith))
-condition-range ed s l n (many-voices v e h) = (omega arith, inl (omega arith))
-condition-range ed s l n (middle-V v m) = (omega arith, inl (omega arith))
-condition-range ed s l n (key-line v m) = let r = key-field-range ed (drop 2 l) n m in (omega (arith, r .0), r .1)
-condition-range ed s l n (in-music f q) = let r = music-range ed (s .notes) n l q in (omega (arith, r .0), r .1)
+-- "a line from 1 (0 for 1, 2, 3, 15, 16 ..)": 4 to 14, 17, 18, 21 and 22 have a line, the others none; and there is no other number
+condition-range : (ed : Edition) (s : ScanState) (l : List ℕ) (n : ℕ) → Why ed s l n → LineNumber n
+condition-range ed s l n (many-lines h) = refl
+condition-range ed s l n (long-line h) = refl
+condition-range ed s l n (high-field f h) = refl
+condition-range ed s l n (high-music f h) = refl
+condition-range ed s l n (second-tune b x) = refl
+condition-range ed s l n (no-identifier v i) = refl
+condition-range ed s l n (many-voices v e h) = refl
+condition-range ed s l n (middle-V v m) = refl
+condition-range ed s l n (key-line v m) = key-field-range ed (drop 2 l) n m .1
+condition-range ed s l n (in-music f q) = music-range ed (s .notes) n l q .1
 
 abbrev pub NumberAndLine : ℕ → ℕ → Type 0
-NumberAndLine n l = ((4 ≤ n) × (To14Or17Or18Or21 n × (1 ≤ l))) ⊎ ((l ≡ 0) × ((n ≡ 1) ⊎ ((n ≡ 2) ⊎ ((n ≡ 3) ⊎ ((n ≡ 15) ⊎ (n ≡ 16))))))
+NumberAndLine n l = (LineNumber n × (1 ≤ l)) ⊎ ((any (eqb n) (1 ∷ 2 ∷ 3 ∷ 15 ∷ 16 ∷ []) ≡ true) × (l ≡ 0))
 
 reason-line : (ed : Edition) (text : List ℕ) (rl sl n l : ℕ) → Reason ed text rl sl n l → NumberAndLine n l
-reason-line ed text rl sl n l (long-text h) = inr (refl, inr (inl refl))
-reason-line ed text rl sl n l (not-utf8 a b) = inr (refl, inr (inr (inl refl)))
-reason-line ed text rl sl n l (blank-text a b c) = inr (refl, inl refl)
-reason-line ed text rl sl n l (short-scratch a b c d) = inr (refl, inr (inr (inr (inl refl))))
-reason-line ed text rl sl n l (at-line b q) = let r = condition-range ed (q .state) (clean (q .row)) n (q .why .0) in inl (r .0, (r .1, omega (arith, q .line)))
-reason-line ed text rl sl n l (no-measure t a b e m) = inr (refl, inl refl)
-reason-line ed text rl sl n l (short-reading t a b e m h) = inr (refl, inr (inr (inr (inr refl))))
+reason-line ed text rl sl n l (long-text h) = inr (refl, refl)
+reason-line ed text rl sl n l (not-utf8 a b) = inr (refl, refl)
+reason-line ed text rl sl n l (blank-text a b c) = inr (refl, refl)
+reason-line ed text rl sl n l (short-scratch a b c d) = inr (refl, refl)
+reason-line ed text rl sl n l (at-line b q) = inl (condition-range ed (q .state) (clean (q .row)) n (q .why .0), omega (arith, q .line))
+reason-line ed text rl sl n l (no-measure t a b e m) = inr (refl, refl)
+reason-line ed text rl sl n l (short-reading t a b e m h) = inr (refl, refl)
 
 pub number-and-line : (ed : Edition) (text : List ℕ) (rl sl n l : ℕ) → parseAbc ed text rl sl .verdict ≡ refusal n l → NumberAndLine n l
 number-and-line ed text rl sl n l e = reason-line ed text rl sl n l (only-under-its-condition ed text rl sl n l e)
 
--- 21 IS GIVEN "in the second edition" ONLY
-here-not-21 : (m n : ℕ) (s : List ℕ) → Here First m s n → n ≡ 21 → ⊥
-here-not-21 m n s (token (key-inline k f i q)) e = absurd (omega (arith, first-key-field (drop 2 (bracketed (drop 1 s))) n q, e))
-here-not-21 m n s (token (octave-note c t k d l o)) e = absurd (omega (arith, e))
-here-not-21 m n s (token (octave-chord k d i o)) e = absurd (omega (arith, e))
-here-not-21 m n s (token (many-more k h)) e = absurd (omega (arith, e))
-here-not-21 m n s (token (many-less k h)) e = absurd (omega (arith, e))
-here-not-21 m n s (token (list-shape k d o)) e = absurd (omega (arith, e))
-here-not-21 m n s (token (list-range ts k d o a)) e = absurd (omega (arith, e))
-here-not-21 m n s (token (list-rise ts k d o a b)) e = absurd (omega (arith, e))
-here-not-21 m n s (note c h) e = absurd (omega (arith, e))
+-- THE NUMBERS OF THE FIRST EDITION are 1 to 18
+few-slashes : (s : List ℕ) → manySlashes First s ≡ true → ⊥
+few-slashes s h = both-true (manySlashes First s) h (never-many s)
 
-line-not-21 : (s : ScanState) (l : List ℕ) (n : ℕ) → Why First s l n → n ≡ 21 → ⊥
-line-not-21 s l n (many-lines h) e = absurd (omega (arith, e))
-line-not-21 s l n (long-line h) e = absurd (omega (arith, e))
-line-not-21 s l n (high-field f h) e = absurd (omega (arith, e))
-line-not-21 s l n (high-music f h) e = absurd (omega (arith, e))
-line-not-21 s l n (second-tune b x) e = absurd (omega (arith, e))
-line-not-21 s l n (no-identifier v i) e = absurd (omega (arith, e))
-line-not-21 s l n (many-voices v i h) e = absurd (omega (arith, e))
-line-not-21 s l n (middle-V v m) e = absurd (omega (arith, e))
-line-not-21 s l n (key-line v q) e = absurd (omega (arith, first-key-field (drop 2 l) n q, e))
-line-not-21 s l n (in-music f q) e = here-not-21 (s .notes + noteCount (map effectOf (q .before))) n (drop (q .place) l) (q .here) e
+here-numbers : (m n : ℕ) (s : List ℕ) → Here First m s n → n ≤ 18
+here-numbers m n s (token (key-inline k f i q)) = omega (arith, first-key-field (drop 2 (bracketed (drop 1 s))) n q)
+here-numbers m n s (token (octave-note c t k d l o)) = omega arith
+here-numbers m n s (token (octave-chord k d i o)) = omega arith
+here-numbers m n s (token (many-more k h)) = omega arith
+here-numbers m n s (token (many-less k h)) = omega arith
+here-numbers m n s (token (list-shape k d o)) = omega arith
+here-numbers m n s (token (list-range ts k d o a)) = omega arith
+here-numbers m n s (token (list-rise ts k d o a b)) = omega arith
+here-numbers m n s (token (slashes-note c t k d l o h)) = absurd (few-slashes (drop (octaveOf c t .used) t) h)
+here-numbers m n s (token (slashes-chord ws k d i o h)) = absurd (few-slashes (afterBracket (drop 1 s)) h)
+here-numbers m n s (token (slashes-rest k e h)) = absurd (few-slashes (drop 1 s) h)
+here-numbers m n s (note c h) = omega arith
 
-reason-not-21 : (text : List ℕ) (rl sl n l : ℕ) → Reason First text rl sl n l → n ≡ 21 → ⊥
-reason-not-21 text rl sl n l (long-text h) e = absurd (omega (arith, e))
-reason-not-21 text rl sl n l (not-utf8 a b) e = absurd (omega (arith, e))
-reason-not-21 text rl sl n l (blank-text a b c) e = absurd (omega (arith, e))
-reason-not-21 text rl sl n l (short-scratch a b c d) e = absurd (omega (arith, e))
-reason-not-21 text rl sl n l (at-line b q) e = line-not-21 (q .state) (clean (q .row)) n (q .why .0) e
-reason-not-21 text rl sl n l (no-measure t a b x m) e = absurd (omega (arith, e))
-reason-not-21 text rl sl n l (short-reading t a b x m h) e = absurd (omega (arith, e))
+line-numbers : (s : ScanState) (l : List ℕ) (n : ℕ) → Why First s l n → n ≤ 18
+line-numbers s l n (many-lines h) = omega arith
+line-numbers s l n (long-line h) = omega arith
+line-numbers s l n (high-field f h) = omega arith
+line-numbers s l n (high-music f h) = omega arith
+line-numbers s l n (second-tune b x) = omega arith
+line-numbers s l n (no-identifier v i) = omega arith
+line-numbers s l n (many-voices v i h) = omega arith
+line-numbers s l n (middle-V v m) = omega arith
+line-numbers s l n (key-line v q) = omega (arith, first-key-field (drop 2 l) n q)
+line-numbers s l n (in-music f q) = here-numbers (s .notes + noteCount (map effectOf (q .before))) n (drop (q .place) l) (q .here)
 
+reason-numbers : (text : List ℕ) (rl sl n l : ℕ) → Reason First text rl sl n l → n ≤ 18
+reason-numbers text rl sl n l (long-text h) = omega arith
+reason-numbers text rl sl n l (not-utf8 a b) = omega arith
+reason-numbers text rl sl n l (blank-text a b c) = omega arith
+reason-numbers text rl sl n l (short-scratch a b c d) = omega arith
+reason-numbers text rl sl n l (at-line b q) = line-numbers (q .state) (clean (q .row)) n (q .why .0)
+reason-numbers text rl sl n l (no-measure t a b x m) = omega arith
+reason-numbers text rl sl n l (short-reading t a b x m h) = omega arith
+
+pub first-numbers : (text : List ℕ) (rl sl n l : ℕ) → parseAbc First text rl sl .verdict ≡ refusal n l → n ≤ 18
+first-numbers text rl sl n l e = reason-numbers text rl sl n l (only-under-its-condition First text rl sl n l e)
+
+-- so 21 and 22 are given "in the second edition" only
 pub never-21 : (text : List ℕ) (rl sl l : ℕ) → parseAbc First text rl sl .verdict ≡ refusal 21 l → ⊥
-never-21 text rl sl l e = reason-not-21 text rl sl 21 l (only-under-its-condition First text rl sl 21 l e) refl
+never-21 text rl sl l e = omega (arith, first-numbers text rl sl 21 l e)
+
+pub never-22 : (text : List ℕ) (rl sl l : ℕ) → parseAbc First text rl sl .verdict ≡ refusal 22 l → ⊥
+never-22 text rl sl l e = omega (arith, first-numbers text rl sl 22 l e)

@@ -1,7 +1,6 @@
 -- WHAT A MUSIC LINE IS REFUSED FOR: a token is refused by a number just where it meets that number's condition, and a line by the first that is met.
 use Prim.Native.Nat.{ℕ, zero, suc, _+_, _≤_, _<_, pred}
 use mathlib.Core.Path.{_≡_, refl, sym, ap, subst, _∙_}
-use mathlib.Core.Logic.{_⊎_, inl, inr}
 use mathlib.Core.Bool.{Bool, true, false, cond, not, _||_, false≢true}
 use mathlib.Core.Option.{Option, none, some}
 use mathlib.Core.List.{List, [], _∷_, _++_, map}
@@ -10,8 +9,8 @@ use native.Mathlib.Nat.{add-zero}
 use lib.Dec.{eqb, ltb}
 use lib.ListN.{length, take, drop}
 use borrow.Author.Tests.{eqb-true, ltb-true, ltb-false, lt-ltb, le-ltb}
-use Rattle.laws.specs.Lists.{countWhile, all}
-use Rattle.laws.proofs.Bools.{by-test, and-left, and-right, and-both}
+use Rattle.laws.specs.Lists.{countWhile, all, any}
+use Rattle.laws.proofs.Bools.{by-test, both-true, and-left, and-right, and-both}
 use Rattle.laws.proofs.Lists.{map-append}
 use Rattle.laws.proofs.Spans.{count-while-no, count-while-yes}
 use Rattle.standard.specs.Bytes.{is, isDigit, first}
@@ -21,20 +20,22 @@ use Rattle.standard.specs.Bars.{Symbol, barSymbols, symbolAt}
 use Rattle.standard.specs.Keys.{Key}
 use Rattle.editions.specs.declared.Edition.{Edition}
 use Rattle.reader.specs.Fields.{unitInline, keyRefusal}
+use Rattle.reader.specs.Lengths.{Length, manySlashes}
 use Rattle.reader.specs.Pitches.{Before, octaveOf, accidentalOf, isQuarter, quarterTone, added, natural, consPitch, chordOf}
 use Rattle.reader.specs.Token.{Token, space, overlay, quoted, broken, tuplet, slur, graceOpen, graceClose, decoration, barline, volta, unit, meter, key, field, chord, rest, nothing, skipped, refused, Taken, taken}
 use Rattle.reader.specs.Tuplets.{positive, normalFor, counted, withCount, withNormal, withActual, tupletOf, orSlur, partOr}
 use Rattle.reader.specs.Barlines.{barlineAs, barlineOf}
 use Rattle.reader.specs.PassLists.{numbersIn, isPass, rise, tested, isPassByte, voltaAs, voltaOf}
 use Rattle.reader.specs.Inline.{unitToken, keyToken, fieldToken, isInline, inlineAt, tokenUnless}
-use Rattle.reader.specs.Sounds.{chordTaken, chordAt, restAs, noteAs, noteAfter, noteOf}
+use Rattle.reader.specs.Sounds.{withLength, chordTaken, chordAt, restAs, noteAs, noteAfter, noteOf}
 use Rattle.reader.specs.Tokens.{closedBy, brokenOf, bracketOf, Class, white, ampersand, quote, more, less, paren, braceOpen, braceClose, bang, plus, bars, bracket, pitched, none-of-these, resting, classOf, tokenAs, tokenOf, tokens, Effect, counts, refuses, setsUnit, setsMeter, noEffect, effectOf, effects}
 use Rattle.reader.specs.Lines.{isK, key}
 use Rattle.reader.specs.Scan.{mostNotes, noteCount, firstRefusal}
+use Rattle.reader.proofs.LengthLaws.{with-length}
 use Rattle.reader.proofs.TokenLaws.{tokens-at}
 use Rattle.reader.specs.Keys.{keyOf}
 use Rattle.promises.specs.KeyRange.{InSeven}
-use Rattle.promises.specs.Refusals.{bracketed, passItems, TokenMeets, key-inline, octave-note, octave-chord, many-more, many-less, list-shape, list-range, list-rise, Here, token, note, InMusic, KeyMeets, middle, beyond}
+use Rattle.promises.specs.Refusals.{bracketed, afterBracket, passItems, TokenMeets, key-inline, octave-note, octave-chord, many-more, many-less, list-shape, list-range, list-rise, slashes-note, slashes-chord, slashes-rest, Here, token, note, InMusic, KeyMeets, middle, beyond}
 use Rattle.promises.proofs.KeyFields.{key-range, key-field-meets, key-field-why}
 
 -- A TOKEN THAT IS REFUSED MEETS ITS NUMBER'S CONDITION
@@ -148,14 +149,17 @@ bar-told ed s r none = tt
 bar-told ed s r (some x) = tt
 
 -- a note behind its accidental
-noteAs-told : (ed : Edition) (s : List ℕ) (a : Before) (c : ℕ) (t : List ℕ) → (octaveOf c t .fine ≡ false → TokenMeets ed s 12) → Told ed s (noteAs a c t .token)
+noteAs-told : (ed : Edition) (s : List ℕ) (a : Before) (c : ℕ) (t : List ℕ) → (octaveOf c t .fine ≡ false → TokenMeets ed s 12)
+    → (octaveOf c t .fine ≡ true → manySlashes ed (drop (octaveOf c t .used) t) ≡ true → TokenMeets ed s 22) → Told ed s (noteAs ed a c t .token)
 unfolding noteAs Told
-noteAs-told ed s a c t h = by-test (octaveOf c t .fine) (λ e. rw (e, noteAs) tt) (λ e. rw (e, noteAs) (h e))
+noteAs-told ed s a c t h g =
+    by-test (octaveOf c t .fine) (λ e. rw (e, noteAs) (with-length (λ x. Told ed s (x .token)) ed _ (drop (octaveOf c t .used) t) _ (g e) (λ m. tt))) (λ e. rw (e, noteAs) (h e))
 
-note-told : (ed : Edition) (s : List ℕ) (a : Before) (r : List ℕ) → ((c : ℕ) (t : List ℕ) → r ≡ c ∷ t → isLetter c ≡ true → octaveOf c t .fine ≡ false → TokenMeets ed s 12) → Told ed s (noteAfter a r .token)
+note-told : (ed : Edition) (s : List ℕ) (a : Before) (r : List ℕ) → ((c : ℕ) (t : List ℕ) → r ≡ c ∷ t → isLetter c ≡ true → octaveOf c t .fine ≡ false → TokenMeets ed s 12)
+    → ((c : ℕ) (t : List ℕ) → r ≡ c ∷ t → isLetter c ≡ true → octaveOf c t .fine ≡ true → manySlashes ed (drop (octaveOf c t .used) t) ≡ true → TokenMeets ed s 22) → Told ed s (noteAfter ed a r .token)
 unfolding noteAfter Told
-note-told ed s a [] h = tt
-note-told ed s a (c ∷ t) h = by-test (isLetter c) (λ e. rw (e, noteAfter) (noteAs-told ed s a c t (h c t refl e))) (λ e. rw (e, noteAfter) tt)
+note-told ed s a [] h g = tt
+note-told ed s a (c ∷ t) h g = by-test (isLetter c) (λ e. rw (e, noteAfter) (noteAs-told ed s a c t (h c t refl e) (g c t refl e))) (λ e. rw (e, noteAfter) tt)
 
 -- an inline field f
 unless-told : (ed : Edition) (s : List ℕ) (k : Key) (o : Option ℕ) → (o ≡ none → InSeven k) → ((n : ℕ) → o ≡ some n → TokenMeets ed s n) → Told ed s (tokenUnless k o)
@@ -190,11 +194,12 @@ field-told ed s f h =
     (λ e. rw (e, fieldToken) tt)
 
 -- a chord
-chord-told : (ed : Edition) (s : List ℕ) (n : ℕ) (r : List ℕ) (o : Option (List Written)) → (o ≡ none → TokenMeets ed s 12) → Told ed s (chordTaken n r o .token)
+chord-told : (ed : Edition) (s : List ℕ) (n : ℕ) (r : List ℕ) (o : Option (List Written)) → (o ≡ none → TokenMeets ed s 12)
+    → ((ws : List Written) → o ≡ some ws → manySlashes ed r ≡ true → TokenMeets ed s 22) → Told ed s (chordTaken ed n r o .token)
 unfolding chordTaken Told
-chord-told ed s n r none h = h refl
-chord-told ed s n r (some []) h = tt
-chord-told ed s n r (some (w ∷ ws)) h = tt
+chord-told ed s n r none h g = h refl
+chord-told ed s n r (some []) h g = with-length (λ x. Told ed s (x .token)) ed _ r _ (g [] refl) (λ m. tt)
+chord-told ed s n r (some (w ∷ ws)) h g = with-length (λ x. Told ed s (x .token)) ed _ r _ (g (w ∷ ws) refl) (λ m. tt)
 
 -- an ending
 list-told : (ed : Edition) (s : List ℕ) (n : ℕ) (r : List ℕ) (o : Option (List Item)) → (o ≡ none → TokenMeets ed s 14)
@@ -216,7 +221,7 @@ bracket-told ed s k =
     (by-test (isInline (drop 1 s)) (λ f. rw (f, bracketOf) (field-told ed s (bracketed (drop 1 s)) (λ i n. key-inline k f i)))
     (λ f. rw (f, bracketOf)
     (let n = countWhile (λ c. not (is "]" c)) (drop 1 s) in
-    chord-told ed s (cond (ltb n (length (drop 1 s))) (2 + n) (1 + n)) (drop (suc n) (drop 1 s)) (chordOf 0 none (drop 1 s)) (octave-chord k e f)))))
+    chord-told ed s (cond (ltb n (length (drop 1 s))) (2 + n) (1 + n)) (afterBracket (drop 1 s)) (chordOf 0 none (drop 1 s)) (octave-chord k e f) (λ ws. slashes-chord ws k e f)))))
 
 as-told : (ed : Edition) (k : Class) (s : List ℕ) → classOf (first s) ≡ k → Told ed s (tokenAs ed k s .token)
 unfolding tokenAs restAs barlineOf noteOf Told
@@ -232,9 +237,9 @@ as-told ed bang s e = closed-told ed s (is "!") decoration (drop 1 s) (taken ski
 as-told ed plus s e = closed-told ed s (is "+") decoration (drop 1 s) (taken skipped 1) tt tt
 as-told ed bars s e = bar-told ed s s (symbolAt barSymbols s)
 as-told ed bracket s e = bracket-told ed s e
-as-told ed pitched s e = note-told ed s (accidentalOf s) (drop (accidentalOf s .used) s) (λ c t. octave-note c t e)
+as-told ed pitched s e = note-told ed s (accidentalOf s) (drop (accidentalOf s .used) s) (λ c t. octave-note c t e) (λ c t. slashes-note c t e)
 as-told ed none-of-these s e = tt
-as-told ed (resting k) s e = tt
+as-told ed (resting k) s e = with-length (λ x. Told ed s (x .token)) ed _ (drop 1 s) _ (slashes-rest k e) (λ m. tt)
 
 told : (ed : Edition) (s : List ℕ) → Told ed s (tokenOf ed s .token)
 unfolding tokenOf
@@ -277,8 +282,17 @@ field-refused ed (x ∷ (y ∷ r)) n k m =
     let g : y ≡ 58 = eqb-true y 58 (and-right (eqb x 75) (eqb y 58) k) in
     rw (e, g) (rw (key-field-meets ed r n m, tokenUnless))
 
+-- a length of too many slashes
+many-refused : (ed : Edition) (end : ℕ) (s : List ℕ) (f : Length → Taken) → manySlashes ed s ≡ true → withLength ed end s f .token ≡ refused 22
+many-refused ed end s f m = with-length (λ x. x .token ≡ refused 22) ed end s f (λ _. refl) (λ e. absurd (both-true (manySlashes ed s) m e))
+
+chord-many : (ed : Edition) (n : ℕ) (r : List ℕ) (ws : List Written) → manySlashes ed r ≡ true → chordTaken ed n r (some ws) .token ≡ refused 22
+unfolding chordTaken
+chord-many ed n r [] m = many-refused ed _ r _ m
+chord-many ed n r (w ∷ ws) m = many-refused ed _ r _ m
+
 pub token-meets : (ed : Edition) (s : List ℕ) (n : ℕ) → TokenMeets ed s n → effectOf (tokenOf ed s .token) ≡ refuses n
-unfolding tokenOf tokenAs bracketOf inlineAt chordAt chordTaken noteOf noteAfter noteAs brokenOf voltaOf voltaAs tested effectOf
+unfolding tokenOf tokenAs bracketOf inlineAt chordAt chordTaken restAs noteOf noteAfter noteAs brokenOf voltaOf voltaAs tested effectOf
 token-meets ed s n (key-inline k f i m) =
     rw (k, tokenAs) (rw (no-digit (drop 1 s) i, bracketOf) (rw (f, bracketOf) (rw (field-refused ed (bracketed (drop 1 s)) n i m))))
 token-meets ed s n (octave-note c t k d l o) = rw (k, tokenAs) (rw (d, noteAfter) (rw (l, noteAfter) (rw (o, noteAs))))
@@ -288,6 +302,9 @@ token-meets ed s n (many-less k h) = rw (k, tokenAs) (rw (lt-ltb 255 (suc (count
 token-meets ed s n (list-shape k d e) = rw (k, tokenAs) (rw (d, bracketOf) (rw (e, voltaAs)))
 token-meets ed s n (list-range ts k d e a) = rw (k, tokenAs) (rw (d, bracketOf) (rw (e, voltaAs) (rw (a, tested))))
 token-meets ed s n (list-rise ts k d e a b) = rw (k, tokenAs) (rw (d, bracketOf) (rw (e, voltaAs) (rw (a, tested) (rw (b, tested)))))
+token-meets ed s n (slashes-note c t k d l o m) = rw (k, tokenAs) (rw (d, noteAfter) (rw (l, noteAfter) (rw (o, noteAs) (ap effectOf (many-refused ed _ (drop (octaveOf c t .used) t) _ m)))))
+token-meets ed s n (slashes-chord ws k d i e m) = rw (k, tokenAs) (rw (d, bracketOf) (rw (i, bracketOf) (rw e (ap effectOf (chord-many ed _ (afterBracket (drop 1 s)) ws m)))))
+token-meets ed s n (slashes-rest k e m) = rw (e, tokenAs) (ap effectOf (many-refused ed _ (drop 1 s) _ m))
 
 -- of a chord, in document 01's words: a letter of it whose octave marks leave the range
 abbrev pub Out : List ℕ → Type 0
@@ -429,24 +446,28 @@ unfolding effects
 first-why ed m n l e =
     let q = found ed 0 l m n e in record { place = q .place; before = q .before; are = q .are; inside = q .inside; fine = q .fine; here = q .here }
 
--- and n is one of 10 to 14, 17, 18 and 21
-abbrev pub To14Or17Or18Or21 : ℕ → Type 0
-To14Or17Or18Or21 n = (n ≤ 14) ⊎ ((n ≡ 17) ⊎ ((n ≡ 18) ⊎ (n ≡ 21)))
+-- THE NUMBERS of a line's refusals: 4 to 14, 17, 18, 21, 22
+abbrev pub LineNumber : ℕ → Type 0
+LineNumber n = any (eqb n) (4 ∷ 5 ∷ 6 ∷ 7 ∷ 8 ∷ 9 ∷ 10 ∷ 11 ∷ 12 ∷ 13 ∷ 14 ∷ 17 ∷ 18 ∷ 21 ∷ 22 ∷ []) ≡ true
 
-pub key-field-range : (ed : Edition) (v : List ℕ) (n : ℕ) → KeyMeets ed v n → (10 ≤ n) × To14Or17Or18Or21 n
-key-field-range ed v n (middle ws w us e m k) = (omega arith, inl (omega arith))
-key-field-range ed v n (beyond ws w us e k f m) = (omega arith, inr (inr (inr refl)))
+-- those of a K field and of music are 10 and above
+pub key-field-range : (ed : Edition) (v : List ℕ) (n : ℕ) → KeyMeets ed v n → (10 ≤ n) × LineNumber n
+key-field-range ed v n (middle ws w us e m k) = (omega arith, refl)
+key-field-range ed v n (beyond ws w us e k f m) = (omega arith, refl)
 
-here-range : (ed : Edition) (m n : ℕ) (s : List ℕ) → Here ed m s n → (10 ≤ n) × To14Or17Or18Or21 n
+here-range : (ed : Edition) (m n : ℕ) (s : List ℕ) → Here ed m s n → (10 ≤ n) × LineNumber n
 here-range ed m n s (token (key-inline k f i h)) = key-field-range ed (drop 2 (bracketed (drop 1 s))) n h
-here-range ed m n s (token (octave-note c t k d l o)) = (omega arith, inl (omega arith))
-here-range ed m n s (token (octave-chord k d i e)) = (omega arith, inl (omega arith))
-here-range ed m n s (token (many-more k h)) = (omega arith, inl (omega arith))
-here-range ed m n s (token (many-less k h)) = (omega arith, inl (omega arith))
-here-range ed m n s (token (list-shape k d e)) = (omega arith, inl (omega arith))
-here-range ed m n s (token (list-range ts k d e a)) = (omega arith, inr (inl refl))
-here-range ed m n s (token (list-rise ts k d e a b)) = (omega arith, inr (inr (inl refl)))
-here-range ed m n s (note c h) = (omega arith, inl (omega arith))
+here-range ed m n s (token (octave-note c t k d l o)) = (omega arith, refl)
+here-range ed m n s (token (octave-chord k d i e)) = (omega arith, refl)
+here-range ed m n s (token (many-more k h)) = (omega arith, refl)
+here-range ed m n s (token (many-less k h)) = (omega arith, refl)
+here-range ed m n s (token (list-shape k d e)) = (omega arith, refl)
+here-range ed m n s (token (list-range ts k d e a)) = (omega arith, refl)
+here-range ed m n s (token (list-rise ts k d e a b)) = (omega arith, refl)
+here-range ed m n s (token (slashes-note c t k d l o h)) = (omega arith, refl)
+here-range ed m n s (token (slashes-chord ws k d i e h)) = (omega arith, refl)
+here-range ed m n s (token (slashes-rest k e h)) = (omega arith, refl)
+here-range ed m n s (note c h) = (omega arith, refl)
 
-pub music-range : (ed : Edition) (m n : ℕ) (l : List ℕ) → InMusic ed m l n → (10 ≤ n) × To14Or17Or18Or21 n
+pub music-range : (ed : Edition) (m n : ℕ) (l : List ℕ) → InMusic ed m l n → (10 ≤ n) × LineNumber n
 music-range ed m n l q = here-range ed (m + noteCount (map effectOf (q .before))) n (drop (q .place) l) (q .here)

@@ -1,4 +1,4 @@
--- WHERE BOTH EDITIONS READ A TEXT ALIKE (document 02, T-03): one test for each rule by which the second edition reads otherwise than the first. A text that passes them has one answer,
+-- WHERE BOTH EDITIONS READ A TEXT ALIKE (document 02, T-03 and T-04): one test for each rule by which the second edition reads otherwise than the first. A text that passes them has one answer,
 -- whatever the stores (`same-reading` in proofs/Alike); none can be left out (proofs/AlikeNeeded).
 use Prim.Native.Nat.{ℕ, zero, suc, _+_, pred, max}
 use mathlib.Core.Path.{_≡_}
@@ -10,10 +10,13 @@ use lib.ListN.{length, drop}
 use Rattle.laws.specs.Lists.{all, any, elem, allBelow, countWhile}
 use Rattle.standard.specs.Bytes.{ascii, is, isDigit, first}
 use Rattle.standard.specs.Keys.{Key, plainKey}
+use Rattle.standard.specs.Pitches.{isLetter}
 use Rattle.editions.specs.declared.Edition.the-variants.{First, Second}
 use Rattle.reader.specs.Text.{within, textLines, clean}
 use Rattle.reader.specs.Pieces.{words, whiteAt}
 use Rattle.reader.specs.Keys.{keyOf}
+use Rattle.reader.specs.Lengths.{twoSlashes}
+use Rattle.reader.specs.Pitches.{octaveOf, accidentalOf}
 use Rattle.reader.specs.Token.{Token, space, overlay, quoted, broken, tuplet, slur, graceOpen, graceClose, decoration, barline, volta, unit, meter, key, field, chord, rest, note, nothing, skipped, refused}
 use Rattle.reader.specs.Tuplets.{positive}
 use Rattle.reader.specs.Inline.{isInline}
@@ -21,7 +24,7 @@ use Rattle.reader.specs.Tokens.{Class, white, ampersand, quote, more, less, par
 use Rattle.reader.specs.Lines.{isK, isLyric, isField}
 use Rattle.reader.specs.Steps.{refuse, on, itemsOf}
 use Rattle.reader.specs.Scan.{Item, voiceDeclared, reset, keyInHeader, keyChange, meterChange, lyricLine, musicLine, Out, scan}
-use Rattle.promises.specs.Refusals.{bracketed}
+use Rattle.promises.specs.Refusals.{bracketed, afterBracket}
 
 -- MODES: the value of a K field is the same key in both editions. So it is within seven sharps or flats, as every key of the first
 abbrev pub eqKey : Key → Key → Bool
@@ -46,32 +49,41 @@ spelled p s = ltb p 2 || cond (is ":" (first s)) (notEmpty s && notEmpty (drop (
 abbrev pub tupletAlike : List ℕ → Bool
 tupletAlike s = elim (positive 255 s) [ none ↦ true | some p ↦ spelled p (drop (countWhile isDigit s) s) ]
 
--- INLINE K: s stands behind the `[`
-abbrev pub inlineAlike : List ℕ → Bool
-inlineAlike s = cond (isInline s) (keyAlike (bracketed s)) true
+-- SLASHES. No two in a row behind the numerator; s stands where the length begins
+abbrev pub lengthAlike : List ℕ → Bool
+lengthAlike s = not (twoSlashes s)
 
--- of a token by the class of its first byte; s stands behind that byte
+-- a note, whose length stands behind its octave marks; s stands behind the accidental
+abbrev pub noteAlike : List ℕ → Bool
+noteAlike [] = true
+noteAlike (c ∷ s) = cond (isLetter c && octaveOf c s .fine) (lengthAlike (drop (octaveOf c s .used) s)) true
+
+-- INLINE K, and a chord, whose length stands behind its `]`; s stands behind the `[`
+abbrev pub bracketAlike : List ℕ → Bool
+bracketAlike s = cond (isDigit (first s)) true (cond (isInline s) (keyAlike (bracketed s)) (lengthAlike (afterBracket s)))
+
+-- of a token by the class of its first byte, on which s begins
 unfoldable pub classAlike : Class → List ℕ → Bool
 classAlike white s = true
 classAlike ampersand s = true
 classAlike quote s = true
 classAlike more s = true
 classAlike less s = true
-classAlike paren s = tupletAlike s
+classAlike paren s = tupletAlike (drop 1 s)
 classAlike braceOpen s = true
 classAlike braceClose s = true
 classAlike bang s = true
 classAlike plus s = true
 classAlike bars s = true
-classAlike bracket s = inlineAlike s
-classAlike pitched s = true
+classAlike bracket s = bracketAlike (drop 1 s)
+classAlike pitched s = noteAlike (drop (accidentalOf s .used) s)
 classAlike none-of-these s = true
-classAlike (resting k) s = true
+classAlike (resting k) s = lengthAlike (drop 1 s)
 
 -- the tokens of a line from left to right; k: bytes of a token still to pass
 unfoldable pub tokensAlike : ℕ → List ℕ → Bool
 tokensAlike k [] = true
-tokensAlike zero (c ∷ s) = classAlike (classOf c) s && tokensAlike (pred (tokenOf First (c ∷ s) .used)) s
+tokensAlike zero (c ∷ s) = classAlike (classOf c) (c ∷ s) && tokensAlike (pred (tokenOf First (c ∷ s) .used)) s
 tokensAlike (suc k) (c ∷ s) = tokensAlike k s
 
 -- a line, cut and trimmed: if it is music
@@ -162,7 +174,7 @@ eachPart f (on s a) = allBelow (max 1 (length (s .env .voices))) (λ p. f (s .en
 pub record Alike (text : List ℕ) : Type 0 where
   -- "the modes .. are read": every K line is the same key in both editions
   pub keys : all keyAlike (map clean (textLines text)) ≡ true
-  -- "tuplets of 5, 7 and 9 .., 6 .. 8", "an empty part after `:`", inline K: no music line after the first K line has one that differs
+  -- "tuplets of 5, 7 and 9 .., 6 .. 8", "an empty part after `:`", inline K, "two or more slashes in a row": no music line after the first K line has one that differs
   pub music : all musicAlike (body (map clean (textLines text))) ≡ true
   -- "grace notes take no syllable; a lyric `|` moves": each part has no lyric line, or neither lyric bars nor graces
   pub sung : eachPart (λ header is. sungAlike is) (scan First (textLines text)) ≡ true

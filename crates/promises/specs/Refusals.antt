@@ -1,4 +1,4 @@
--- EACH REFUSAL UNDER ITS CONDITION (document 01, "Who can be refused", and document 02, T-01 and T-03): the nineteen conditions by their numbers, and the order in which they are met.
+-- EACH REFUSAL UNDER ITS CONDITION (document 01, "Who can be refused", and document 02, T-01, T-03 and T-04): the twenty conditions by their numbers, and the order in which they are met.
 use Prim.Native.Nat.{ℕ, suc, _+_, _≤_, _<_, max}
 use mathlib.Core.Path.{_≡_}
 use mathlib.Core.Bool.{Bool, true, false, not, _&&_, _||_}
@@ -7,19 +7,21 @@ use mathlib.Core.List.{List, [], _∷_, _++_, map}
 use lib.ListN.{length, take, drop}
 use Rattle.laws.specs.Lists.{elem, isNil, all, any, sum, countWhile, startsWith}
 use Rattle.standard.specs.Bytes.{ascii, is, isDigit, first}
-use Rattle.standard.specs.Pitches.{isLetter}
+use Rattle.standard.specs.Pitches.{Written, isLetter}
+use Rattle.standard.specs.Notes.{NoteKind}
 use Rattle.editions.specs.declared.Edition.{Edition}
 use Rattle.editions.specs.declared.Edition.the-variants.{First, Second}
 use Rattle.reader.specs.Text.{isUtf8, isBlank, textLines, clean, hasHigh}
 use Rattle.reader.specs.Pieces.{pieces, separator, fieldWords}
 use Rattle.reader.specs.Keys.{isKeyWord, isBeyond, keyOf}
 use Rattle.reader.specs.Fields.{identifier, middleWord}
+use Rattle.reader.specs.Lengths.{manySlashes}
 use Rattle.reader.specs.Pitches.{octaveOf, accidentalOf, chordOf}
 use Rattle.standard.specs.Passes.{Item}
 use Rattle.reader.specs.PassLists.{listItems, numbersIn, isPass, rise, isPassByte}
 use Rattle.reader.specs.Inline.{isInline}
 use Rattle.reader.specs.Token.{Token}
-use Rattle.reader.specs.Tokens.{Effect, counts, refuses, effectOf, more, less, bracket, pitched, classOf, tokenOf, tokens}
+use Rattle.reader.specs.Tokens.{Effect, counts, refuses, effectOf, more, less, bracket, pitched, resting, classOf, tokenOf, tokens}
 use Rattle.reader.specs.Lines.{isV, isK, isL, isM, isX, isLyric, isField}
 use Rattle.reader.specs.Steps.{TextLine, on, run, itemsOf}
 use Rattle.reader.specs.Scan.{Items, ScanState, begin, mostLines, mostVoices, mostNotes, noteCount, voicesBefore, firstRefusal, step, scan}
@@ -52,6 +54,10 @@ pub data KeyMeets (ed : Edition) (v : List ℕ) : ℕ → Type 0 where
 abbrev pub bracketed : List ℕ → List ℕ
 bracketed s = take (countWhile (λ c. not (is "]" c)) s) s
 
+-- what stands behind that `]`
+abbrev pub afterBracket : List ℕ → List ℕ
+afterBracket s = drop (suc (countWhile (λ c. not (is "]" c)) s)) s
+
 -- the digits, commas and hyphens at the front
 abbrev pub passText : List ℕ → List ℕ
 passText s = take (countWhile isPassByte s) s
@@ -75,6 +81,10 @@ pub data TokenMeets (ed : Edition) (s : List ℕ) : ℕ → Type 0 where
   list-range : (is : List Item) → classOf (first s) ≡ bracket → isDigit (first (drop 1 s)) ≡ true → passItems (drop 1 s) ≡ some is → all isPass (numbersIn is) ≡ false → TokenMeets ed s 17
   -- "18 not rising": a well-shaped list of numbers from 1 to 32 that do not rise
   list-rise : (is : List Item) → classOf (first s) ≡ bracket → isDigit (first (drop 1 s)) ≡ true → passItems (drop 1 s) ≡ some is → all isPass (numbersIn is) ≡ true → rise (numbersIn is) ≡ false → TokenMeets ed s 18
+  -- "22 a 32nd slash that would halve", where the length begins: behind a note c and its octave marks (12 is met before it); behind the `]` of a chord, be it empty; behind a rest of any kind
+  slashes-note : (c : ℕ) (t : List ℕ) → classOf (first s) ≡ pitched → drop (accidentalOf s .used) s ≡ c ∷ t → isLetter c ≡ true → octaveOf c t .fine ≡ true → manySlashes ed (drop (octaveOf c t .used) t) ≡ true → TokenMeets ed s 22
+  slashes-chord : (ws : List Written) → classOf (first s) ≡ bracket → isDigit (first (drop 1 s)) ≡ false → isInline (drop 1 s) ≡ false → chordOf 0 none (drop 1 s) ≡ some ws → manySlashes ed (afterBracket (drop 1 s)) ≡ true → TokenMeets ed s 22
+  slashes-rest : (k : NoteKind) → classOf (first s) ≡ resting k → manySlashes ed (drop 1 s) ≡ true → TokenMeets ed s 22
 
 -- where a token begins, with m notes before it
 pub data Here (ed : Edition) (m : ℕ) (s : List ℕ) : ℕ → Type 0 where
@@ -114,10 +124,10 @@ pub data Why (ed : Edition) (s : ScanState) (l : List ℕ) : ℕ → Type 0 wher
   middle-V : isV l ≡ true → middleWord (drop 2 l) ≡ true → Why ed s l 10
   -- 10 and 21 of a K line
   key-line : {n : ℕ} → isK l ≡ true → KeyMeets ed (drop 2 l) n → Why ed s l n
-  -- 10 and 21 inline, 11, 12, 13, 14, 17, 18
+  -- 10 and 21 inline, 11, 12, 13, 14, 17, 18, 22
   in-music : {n : ℕ} → MusicLine s l → InMusic ed (s .notes) l n → Why ed s l n
 
--- "line by line 4, 5, 6 and 7 to 14 ..", 17 and 18 "where 14 stood", 21 "as met in the line"; "at one place the smaller number comes first": the line has the
+-- "line by line 4, 5, 6 and 7 to 14 ..", 17 and 18 "where 14 stood", 21 and 22 "as met in the line"; "at one place the smaller number comes first": the line has the
 -- condition of n, and of no smaller number
 abbrev pub Smallest : Edition → ScanState → List ℕ → ℕ → Type 0
 Smallest ed s l n = Why ed s l n × ((m : ℕ) → m < n → Why ed s l m → ⊥)
@@ -141,7 +151,7 @@ pub record Begins (text : List ℕ) (sl : ℕ) : Type 0 where
   pub not-blank : isBlank text ≡ false
   pub scratch : scratchNeeded (length text) ≤ sl
 
--- THE NINETEEN REFUSALS, each with its line
+-- THE TWENTY REFUSALS, each with its line
 pub data Reason (ed : Edition) (text : List ℕ) (rl sl : ℕ) : ℕ → ℕ → Type 0 where
   -- "2 over 67,108,864 bytes"
   long-text : mostBytes < length text → Reason ed text rl sl 2 0
@@ -151,7 +161,7 @@ pub data Reason (ed : Edition) (text : List ℕ) (rl sl : ℕ) : ℕ → ℕ →
   blank-text : length text ≤ mostBytes → isUtf8 text ≡ true → isBlank text ≡ true → Reason ed text rl sl 1 0
   -- "15 scratch below 32 × (text length + 256) bytes"
   short-scratch : length text ≤ mostBytes → isUtf8 text ≡ true → isBlank text ≡ false → sl < scratchNeeded (length text) → Reason ed text rl sl 15 0
-  -- 4 to 14, 17, 18 and 21
+  -- 4 to 14, 17, 18, 21 and 22
   at-line : {n k : ℕ} → Begins text sl → At ed begin (textLines text) n k → Reason ed text rl sl n k
   -- "or no measure at the end"
   no-measure : (t : ScanState) (a : Items) → Begins text sl → scan ed (textLines text) ≡ on t a → sum measureCount (partsAfter ed t a) ≡ 0 → Reason ed text rl sl 1 0

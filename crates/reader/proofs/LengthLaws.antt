@@ -1,20 +1,19 @@
 -- LENGTHS BY THEIR SLASHES (document 02, T-04): none, one, or two and more; where both editions read the same length; and what holds of every token with a length.
-use Prim.Native.Nat.{ℕ, zero, suc, _+_, _^_, _≤_, _<_}
+use Prim.Native.Nat.{ℕ, zero, suc, _+_, _^_, _≤_}
 use mathlib.Core.Path.{_≡_, refl, sym, ap, subst, _∙_}
-use mathlib.Core.Bool.{Bool, true, false, cond, not, _&&_}
+use mathlib.Core.Bool.{true, false}
 use mathlib.Core.List.{List, [], _∷_}
 use native.Mathlib.Omega.{arith}
-use lib.Dec.{ltb, leb, eqb}
+use lib.Dec.{ltb}
 use lib.ListN.{length, drop, length-drop}
-use lib.Seq.{drop-drop}
-use borrow.Author.Tests.{le-ltb, lt-ltb, eqb-true}
+use borrow.Author.Tests.{eqb-true}
 use Rattle.laws.specs.Lists.{countWhile}
 use Rattle.laws.proofs.Bools.{by-test}
 use Rattle.laws.proofs.Spans.{count-while-yes, count-while-no, count-while-le}
 use Rattle.standard.specs.Bytes.{is, isDigit, first}
 use Rattle.editions.specs.declared.Edition.{Edition}
 use Rattle.editions.specs.declared.Edition.the-variants.{First, Second}
-use Rattle.reader.specs.Lengths.{Length, number, slashes, lengthOver, lengthOf, manySlashes}
+use Rattle.reader.specs.Lengths.{Length, number, slashes, lengthOver, lengthOf, twoSlashes, manySlashes}
 use Rattle.reader.specs.Token.{refused, Taken, taken}
 use Rattle.reader.specs.Sounds.{withLength}
 
@@ -72,25 +71,24 @@ length-in ed s =
     let k = slashes ed (drop n s) in
     omega (arith, over-in (number 1 n s) n k (drop (n + k) s), length-drop (n + k) s, slashes-in ed (drop n s), length-drop n s, count-while-le isDigit s)
 
--- BOTH EDITIONS: without two slashes in a row behind the numerator they read the same length, and 22 is not met
-abbrev pub twoSlashes : List ℕ → Bool
-twoSlashes r = is "/" (first r) && is "/" (first (drop 1 r))
+-- BOTH EDITIONS: without two slashes in a row they read the same length, and 22 is not met
+same-slashes : (s : List ℕ) → twoSlashes s ≡ false → slashes First (drop (countWhile isDigit s) s) ≡ slashes Second (drop (countWhile isDigit s) s)
+same-slashes s h =
+    let r = drop (countWhile isDigit s) s in
+    by-test (is "/" (first r)) (λ e. let f : is "/" (first (drop 1 r)) ≡ false = rw e at h in first-slash r e ∙ sym (lone-slash Second r e f)) (λ e. no-slash First r e ∙ sym (no-slash Second r e))
 
-same-slashes : (r : List ℕ) → twoSlashes r ≡ false → slashes First r ≡ slashes Second r
-same-slashes r h = by-test (is "/" (first r)) (λ e. let f : is "/" (first (drop 1 r)) ≡ false = rw e at h in first-slash r e ∙ sym (lone-slash Second r e f)) (λ e. no-slash First r e ∙ sym (no-slash Second r e))
-
-pub same-length : (s : List ℕ) → twoSlashes (drop (countWhile isDigit s) s) ≡ false → lengthOf First s ≡ lengthOf Second s
+pub same-length : (s : List ℕ) → twoSlashes s ≡ false → lengthOf First s ≡ lengthOf Second s
 unfolding lengthOf
-same-length s h = let n = countWhile isDigit s in ap (λ (k : ℕ). lengthOver (number 1 n s) n k (drop (n + k) s)) (same-slashes (drop n s) h)
+same-length s h = let n = countWhile isDigit s in ap (λ (k : ℕ). lengthOver (number 1 n s) n k (drop (n + k) s)) (same-slashes s h)
 
 -- the first edition never meets 22
 pub never-many : (s : List ℕ) → manySlashes First s ≡ false
 unfolding manySlashes slashes
 never-many s = by-test (is "/" (first (drop (countWhile isDigit s) s))) (λ e. rw e) (λ e. rw e)
 
-pub same-many : (s : List ℕ) → twoSlashes (drop (countWhile isDigit s) s) ≡ false → manySlashes First s ≡ manySlashes Second s
+pub same-many : (s : List ℕ) → twoSlashes s ≡ false → manySlashes First s ≡ manySlashes Second s
 unfolding manySlashes
-same-many s h = ap (λ (k : ℕ). ltb 31 k) (same-slashes (drop (countWhile isDigit s) s) h)
+same-many s h = ap (λ (k : ℕ). ltb 31 k) (same-slashes s h)
 
 -- A TOKEN WITH A LENGTH: refusal 22, or the token with its length
 pub with-many : (ed : Edition) (end : ℕ) (s : List ℕ) (f : Length → Taken) → manySlashes ed s ≡ true → withLength ed end s f ≡ taken (refused 22) end
@@ -107,6 +105,6 @@ pub with-length : (P : Taken → Type 0) (ed : Edition) (end : ℕ) (s : List �
 with-length P ed end s f a b = by-test (manySlashes ed s) (λ e. subst P (sym (with-many ed end s f e)) (a e)) (λ e. subst P (sym (with-few ed end s f e)) (b e))
 
 -- and in both editions it is the same where the length is
-pub with-same-length : (end : ℕ) (s : List ℕ) (f : Length → Taken) → twoSlashes (drop (countWhile isDigit s) s) ≡ false → withLength First end s f ≡ withLength Second end s f
+pub with-same-length : (end : ℕ) (s : List ℕ) (f : Length → Taken) → twoSlashes s ≡ false → withLength First end s f ≡ withLength Second end s f
 unfolding withLength
 with-same-length end s f h = λ i. elim (same-many s h i) [ true ↦ taken (refused 22) end | false ↦ f (same-length s h i) ]

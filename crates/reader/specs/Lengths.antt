@@ -40,6 +40,10 @@ lengthOf ed s =
     let k = slashes ed (drop n s) in
     lengthOver (number 1 n s) n k (drop (n + k) s)
 
+-- two slashes in a row behind the numerator: where there are none, both editions read the same length (`same-length`)
+abbrev pub twoSlashes : List ℕ → Bool
+twoSlashes s = let r = drop (countWhile isDigit s) s in is "/" (first r) && is "/" (first (drop 1 r))
+
 -- refusal 22: "more than 31"
 unfoldable pub manySlashes : Edition → List ℕ → Bool
 manySlashes ed s = ltb 31 (slashes ed (drop (countWhile isDigit s) s))

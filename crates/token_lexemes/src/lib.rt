@@ -214,11 +214,8 @@ pub fn rest(edition: Edition, line: &[u8], at: usize, kind: u8) -> Cut
     requires { ⌜ at < length (now line) ⌝ }
     ensures { λ r. ⌜ r ≡ restFor edition at kind (drop (at + 1) (now (line .entry))) ⌝ }
 {
-    let token_suffixes::Suffix::Read { num, den, next } = token_suffixes::parse_duration_suffix(
-        edition,
-        line,
-        at + 1,
-    ) else {
+    let suffix = token_suffixes::parse_duration_suffix(edition, line, at + 1);
+    let token_suffixes::Suffix::Read { num, den, next: to } = suffix else {
         return Cut {
             lexeme: Lexeme::Refused(22),
             next: line.len(),
@@ -226,7 +223,7 @@ pub fn rest(edition: Edition, line: &[u8], at: usize, kind: u8) -> Cut
     };
     Cut {
         lexeme: Lexeme::Rest { kind, num, den },
-        next,
+        next: to,
     }
 }
 

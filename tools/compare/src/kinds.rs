@@ -77,6 +77,8 @@ pub fn limits() -> Vec<(&'static str, Vec<u8>)> {
         ("10,001 lines", lines(10_001)),
         ("100,000 notes", notes(100_000)),
         ("100,001 notes", notes(100_001)),
+        // In the second edition 22 comes before 11.
+        ("100,001 notes and 32 slashes", line(&format!("{}{}", "A".repeat(100_001), "/".repeat(32)))),
         ("255 >", line(&format!("A{}B", ">".repeat(255)))),
         ("256 >", line(&format!("A{}B", ">".repeat(256)))),
         ("32 voices", voices(32)),

@@ -1,4 +1,4 @@
-//! Texts rich in what the second edition reads otherwise than the first: keys, default tuplets and empty parts, voices named before K, grace notes and bars under lyrics.
+//! Texts rich in what the second edition reads otherwise than the first: keys, default tuplets and empty parts, slashes in a row, voices named before K, grace notes and bars under lyrics.
 use crate::kinds::change;
 use oracle::generate::{self, Blocks, Pieces};
 use oracle::literal::{self, Edition, LiteralAnswer};
@@ -119,6 +119,52 @@ pub fn tuplet(r: &mut Rng, taste: Taste) -> String {
     }
 }
 
+// ---- lengths --------------------------------------------------------------------------------------------------------
+
+/// Two slashes or more: mostly few, at times as many as may halve, hardly ever more, which are refused.
+fn slashes(r: &mut Rng) -> String {
+    let count = match r.below(500) {
+        0..=399 => 2 + r.below(3),
+        400..=497 => 2 + r.below(30),
+        498 => 31,
+        _ => 32 + r.below(9),
+    };
+    "/".repeat(count)
+}
+
+/// Slashes and digits behind a length that is over: they are skipped, however many there are.
+fn skipped(r: &mut Rng) -> String {
+    match r.below(6) {
+        0 => "/".into(),
+        1 => "/2".into(),
+        2 => "//".into(),
+        3 => format!("//{}", r.below(9)),
+        4 => format!("/{}/3//", r.below(20)),
+        _ => "/".repeat(1 + r.below(40)),
+    }
+}
+
+/// A length as it stands behind a note, a chord or a rest, and what is skipped behind it. Of any taste it may have slashes in a row behind its numerator, with digits behind them.
+pub fn length(r: &mut Rng, taste: Taste) -> String {
+    let numerator = |r: &mut Rng| r.pick(&["", "", "", "", "2", "3", "7", "0", "16", "2147483648", "4294967296"]);
+    let denominator = |r: &mut Rng| r.pick(&["2", "2", "4", "8", "3", "0", "007", "4294967295", "4294967296"]);
+    match r.below(40) {
+        0..=23 => String::new(),
+        24..=29 => r.pick(&["2", "3", "4"]).to_string(),
+        30..=32 => format!("{}/", numerator(r)),
+        33..=34 => format!("{}/{}", numerator(r), denominator(r)),
+        35 => format!("{}/{}{}", numerator(r), denominator(r), skipped(r)),
+        _ if taste == Taste::Shared => format!("{}/{}", numerator(r), denominator(r)),
+        36..=38 => format!("{}{}", numerator(r), slashes(r)),
+        _ => format!("{}{}{}{}", numerator(r), slashes(r), denominator(r), if r.chance(50) { skipped(r) } else { String::new() }),
+    }
+}
+
+/// Ties and slur ends.
+fn behind(r: &mut Rng) -> &'static str {
+    r.pick(&["", "", "", "", "", "-", ")"])
+}
+
 // ---- music ----------------------------------------------------------------------------------------------------------
 
 /// What a music line may hold.
@@ -130,32 +176,35 @@ pub struct Line {
     pub inline: bool,
 }
 
-fn note(r: &mut Rng) -> String {
+fn note(r: &mut Rng, taste: Taste) -> String {
     let letter = r.one(b"ABCDEFGabcdefg") as char;
-    format!("{}{letter}{}{}", r.pick(&["", "", "", "", "", "^", "_", "="]), r.pick(&["", "", "", "", "2", "/", "3", ","]), r.pick(&["", "", "", "", "", "-", ")"]))
+    format!("{}{letter}{}{}{}", r.pick(&["", "", "", "", "", "^", "_", "="]), r.pick(&["", "", "", "", "", "", ",", "'", ",,"]), length(r, taste), behind(r))
 }
 
-fn notes(r: &mut Rng, most: usize) -> String {
-    (0..r.below(most + 1)).map(|_| note(r)).collect()
+fn notes(r: &mut Rng, most: usize, taste: Taste) -> String {
+    (0..r.below(most + 1)).map(|_| note(r, taste)).collect()
 }
 
 /// Measures of notes, rests, graces and tuplets, with fields between them.
 pub fn music(r: &mut Rng, line: Line) -> String {
+    let taste = line.taste;
     let mut out = r.pick(&["", " ", "|", "|: ", "[1 "]).to_string();
     for _ in 0..1 + r.below(5) {
         for _ in 0..r.below(6) {
             out += &match r.below(24) {
-                0..=9 => note(r),
-                10 => r.pick(&["z", "z2", "x", "Z"]).to_string(),
-                11..=13 if line.graces => format!("{{{}{}", notes(r, 3), r.pick(&["}", "}", "}", "}", "z}", ""])),
-                14..=17 if line.taste == Taste::Any => tuplet(r, line.taste) + &notes(r, 4),
+                0..=9 => note(r, taste),
+                10 => format!("{}{}{}", r.pick(&["z", "z", "x", "Z", "X"]), length(r, taste), behind(r)),
+                11..=13 if line.graces => format!("{{{}{}", notes(r, 3, taste), r.pick(&["}", "}", "}", "}", "z}", ""])),
+                14..=17 if taste == Taste::Any => tuplet(r, taste) + &notes(r, 4, taste),
                 // Right behind it a colon would make an empty part.
-                14..=17 => tuplet(r, line.taste) + &note(r) + &notes(r, 3),
-                18 => format!("[{}{}]", note(r), note(r)),
-                19 => r.pick(&["&", " & ", ">", "<", "(", "}", "\"x\"", "!f!", "[]"]).to_string(),
+                14..=17 => tuplet(r, taste) + &note(r, taste) + &notes(r, 3, taste),
+                // Between its brackets no length is read.
+                18 if r.chance(20) => format!("[{}]{}{}", r.pick(&["", "", "x", "C//E///4", "^c////////////////////////////////"]), length(r, taste), behind(r)),
+                18 => format!("[{}{}]{}{}", note(r, taste), note(r, taste), length(r, taste), behind(r)),
+                19 => r.pick(&["&", " & ", ">", "<", "(", "}", "\"x\"", "!f!", "[]", "\"A//\"", " // ", " /2//"]).to_string(),
                 20 if line.inline => format!("[M:{}]", meter(r)),
                 21 if line.inline => r.pick(&["[L:1/16]", "[L:1/4]", "[M:6/8]", "[M:4/4]"]).to_string(),
-                22 if r.chance(50) => format!("[K:{}]", if line.taste == Taste::Any { key(r) } else { plain_key(r) }),
+                22 if r.chance(50) => format!("[K:{}]", if taste == Taste::Any { key(r) } else { plain_key(r) }),
                 _ => " ".to_string(),
             };
         }
@@ -268,7 +317,8 @@ pub fn mixed(r: &mut Rng) -> Vec<u8> {
     out
 }
 
-/// A text that both editions read alike: no modes, no keys but the thirty names, no default tuplets of 5 to 9, no empty parts, no grace notes under lyrics, no bars in them, no voice named before K.
+/// A text that both editions read alike: no modes, no keys but the thirty names, no default tuplets of 5 to 9, no empty parts, no slashes in a row behind a numerator, no grace notes under lyrics, no bars in them, no voice
+/// named before K.
 pub fn shared(r: &mut Rng) -> Vec<u8> {
     let mut out = String::new();
     let (voices, lyrics) = (r.one(&[0, 0, 1, 2, 3]), r.chance(60));
@@ -323,6 +373,28 @@ pub fn rules() -> Vec<Vec<u8>> {
         texts.push(format!("K:C\n{music}"));
     }
     texts.push("V:1\nV:2\nK:C\nV:1\n(5A\nV:2\nM:6/8\n(5B\nV:1\n(5c|(5d".into());
+    // Slashes: as many as halve, digits behind them, what is skipped, ties and slurs behind them; behind notes, chords, rests and the empty chord.
+    for music in [
+        "A A3 A/ A/4 A3/ A3/2 A/0 A/4294967296", "A// A/// A//// A///// A//////", "A3// A7/// A0// A16//// A4294967296//", "A//4 A//0 A//1 A3//8 A///2 A//4294967296", "A/4// A/2/2 A/4/ A/0// A//3// A/2/2/2/2 A/4294967296//",
+        "A/-B/2-c//-d///)e", "A/2/2-B//3-c//4)d/2//-e-//f)//g", "[CE]//[CE]3//[CE]//4-[CE]//-[CE]/2//", "z// z3/// z/4// z//2 z//-A", "x// x///4 X//A Z//-B Z3//2 X/2//A", "[]//A[]///2B[]3//c[x]//-d", "^c''//_B,,///=A'3//^/F//",
+        "A//>B//c<d///e//>>f", "(3A//B//c {d//e///}f// & g//|[CE]//", "\"A//\"B// !f!c// //d /2//e//f", "[C//E]//[C//E///4] [^G//", "A//\n//B\n/ c// %//", "^//A _/B//^ //c", "[L:1/1]A//B///[L:1/16]c//[M:6/8](5d//e",
+    ] {
+        texts.push(format!("K:C\n{music}"));
+    }
+    texts.push("L:1/4\nK:C\nA//B2//\nL:1/2\nA//B2//\nw:a | b".into());
+    // 31, 32 and more; where they would not halve, and where no length is read; beside other refusals.
+    let (most, many) = ("/".repeat(31), "/".repeat(32));
+    for sound in ["A", "g''", "z", "x", "Z", "X", "[CE]", "[]"] {
+        texts.extend([format!("K:C\n{sound}{most}B"), format!("K:C\nB|\n{sound}{many}B")]);
+    }
+    for music in [
+        format!("A2147483648{most} B1073741824{most} c4294967295{most}"), format!("A3{most}-B{most}4-c{most})d"), format!("A3{many}"), format!("A{many}2-B"), format!("A/{many}"), format!("A{most}/"), format!("A{}", "/".repeat(288)),
+        format!("A/2{many}////////"), format!("A//2{many}"), format!("A{most}2{many}-B"), format!("A{most} /"), format!("A-{many}B){many}"), format!("A\n{many}"), format!("A{most}%/"), format!("\"A{many}\"B"), format!("[A{many}C]/"), format!("[A{many}"),
+        format!("{many}A ^{many}B"), format!("A\nw:{many}"), format!("{{A{many}}}B"), format!("A{}{many}", ",".repeat(133)), format!("[A{}]{many}", ",".repeat(133)), format!("A{many}B{}", ",".repeat(133)), format!("[0A{many}"), format!("A{many}[0"),
+        format!("[K:G#]A{many}"), format!("A{many}[K:G#]"), format!("A{many}é"), format!("A{many}\nX:1"),
+    ] {
+        texts.push(format!("K:C\n{music}"));
+    }
     // Lyrics: bars, graces, holds, what runs on and what lapses.
     for words in [
         "a | b", "| a", "a b | c", "a b c | d", "a | | b", "* * * | x", "a | | | b", "a _ _ | x", "| | a", "| | | a", "| * b", "| _ b", "a b | _ c", "a | _ c", "a b c d e | f", "a b c d e _ | f", "a b c d e | _", "a - | c", "|a | b", "|| a",

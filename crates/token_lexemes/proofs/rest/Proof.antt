@@ -15,7 +15,7 @@ returns-2 : tie.Need-returns-2
 returns-2 c =
     let s = c .before .before .before .before .before in
     let a = s .args in
-    let g = c .before .num .given in
+    let g = c .before .suffix .given in
     rest-in (a .edition) (a .line .now) (a .at) (a .kind) (s .pre) (g .0 .0) (g .0 .1 .0) (g .0 .1 .1 .0) (sym (c .before .before .before .parse-duration-suffix .ensures) ∙ g .1)
 
 pub rest-spec : {M : Type 1} → statement M

@@ -1,5 +1,4 @@
 -- `token_suffixes::is_run` meets its contract.
-use mathlib.Core.Path.{sym}
 use native.Mathlib.Omega.{arith}
 use Rattle.token_suffixes.specs.Suffixes.{isRun}
 use borrow.Author.Needs.{needs}

@@ -3,12 +3,13 @@ use super::{Piece, all_of, put, put_into};
 use crate::second::{self, Line, Taste};
 use oracle::rng::Rng;
 
-pub fn pieces() -> [Piece; 4] {
+pub fn pieces() -> [Piece; 5] {
     [
         Piece { name: "modes", edges: keys, random: key },
         Piece { name: "tuplets by the meter", edges: tuplets, random: tuplet },
         Piece { name: "bars and graces under lyrics", edges: lyrics, random: lyric },
         Piece { name: "header keys", edges: headers, random: header },
+        Piece { name: "runs of slashes", edges: runs, random: run },
     ]
 }
 
@@ -171,6 +172,61 @@ fn header(r: &mut Rng) -> Vec<u8> {
             text += &format!("K:{}\n", second::any_key(r));
         }
         text += &(second::music(r, Line { taste: Taste::Shared, graces: false, inline: false }) + "\n");
+    }
+    text.into_bytes()
+}
+
+/// What has a length: notes with and without marks, chords, the empty one, every rest.
+const SOUNDS: [&str; 10] = ["A", "^c'", "_B,,", "[CE]", "[^c'E,]", "A[]", "z", "x", "Z", "X"];
+
+fn runs() -> Vec<Vec<u8>> {
+    let mut texts = Vec::new();
+    // Every suffix of up to six of these signs.
+    for suffix in (0..=6).flat_map(|length| all_of(&["/", "2", "-", "0"], length)) {
+        texts.extend(["A", "[CE]", "z", "Z", "A[]"].map(|sound| format!("K:C\n{sound}{suffix}B").into_bytes()));
+    }
+    // Every run of up to 40 slashes and some around 256, with digits before and behind it, and what stands behind these.
+    for slashes in (0..=40).chain([255, 256, 257, 287, 288]).map(|count| "/".repeat(count)) {
+        for sound in SOUNDS {
+            for numerator in ["", "0", "3", "2147483648", "4294967296"] {
+                for tail in ["", "2", "0", "4294967296", "-", ")-", "2-", "2/", "2/2)", "2////////////////////////////////-", " /", "]"] {
+                    texts.push(format!("K:C\n{sound}{numerator}{slashes}{tail}B").into_bytes());
+                }
+            }
+            // Digits between slashes: one with digits, and then as many.
+            texts.extend(["", "2", "/2", "//2", "3/2"].map(|before| format!("L:1/4\nK:C\n{sound}{before}/2{slashes}-B").into_bytes()));
+        }
+        // Where no length is read; other refusals on either side, and the line of the first.
+        for frame in [
+            "K:C\n\"A@\"B", "K:C\n\"A@", "K:C\n!A@!B", "K:C\n[A@C]B", "K:C\n[A@", "K:C\n@A", "K:C\nA @B", "K:C\nA-@B", "K:C\nA|@B", "K:C\nA\n@B", "K:C\nA%@", "K:C\n^@A", "K:C\n=@A", "K:C\n(3@A", "K:C\n{A@}B", "K:C\nA>B@",
+            "K:C\n[r:A@]B", "A@\nK:C\nA", "K:C\nA\nw:a@", "K:C\nA\nT:A@", "K:C\nA@[0B", "K:C\n[0A@", "K:C\nA@[K:G#]", "K:C\n[K:G#]A@", "K:C\nA@\nX:1", "K:C\nX:1\nA@", "V:1\nV:2\nK:C\nV:1\nA\nV:2\nB\nc@\nV:1\nd@",
+        ] {
+            texts.push(put(frame, slashes.as_bytes()));
+        }
+        for marks in [123, 124, 132, 133] {
+            for (sound, mark) in [("C", "'"), ("C", ","), ("[CE", "'")] {
+                let end = if sound == "C" { "" } else { "]" };
+                texts.push(format!("K:C\n{sound}{}{end}{slashes}B", mark.repeat(marks)).into_bytes());
+            }
+        }
+    }
+    texts
+}
+
+/// Sounds with lengths that are rich in slashes; few texts have a run that is refused.
+fn run(r: &mut Rng) -> Vec<u8> {
+    let mut text = format!("L:1/{}\nK:C\n", r.one(&[1, 4, 8, 8, 16, 64]));
+    for _ in 0..1 + r.below(8) {
+        text += r.pick(&SOUNDS);
+        text += &match r.below(6) {
+            0 => second::length(r, Taste::Any),
+            1 => r.ascii(6, "/////22340-)"),
+            2 => format!("{}{}", r.below(9), "/".repeat(r.below(6))),
+            3 => format!("{}{}", "/".repeat(r.below(32)), r.pick(&["", "2", "-", "2-", "0/", " "])),
+            4 if r.chance(20) => format!("{}{}", r.digits(), "/".repeat(r.below(41))),
+            _ => format!("{}/{}{}", r.digits(), r.digits(), "/".repeat(r.below(4))),
+        };
+        text += r.pick(&["", "", "-", ")", " ", "|", ">", "\n"]);
     }
     text.into_bytes()
 }

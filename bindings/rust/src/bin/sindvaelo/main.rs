@@ -28,8 +28,8 @@ sindvaelo: what a tune in ABC notation is charged by, as the proved reader finds
   sindvaelo --help                   this text
 
 FILE - is standard input. --json prints one JSON object a line for each FILE. --edition 2.1, with played, read
-and show, reads by ABC 2.1 in keys and modes, tuplets and lyrics (docs/SWITCHING.md); --edition first is what is
-read where nothing else is said, and what the tally reads.
+and show, reads by ABC 2.1 in keys and modes, tuplets, slashes and lyrics (docs/SWITCHING.md); --edition first is
+what is read where nothing else is said, and what the tally reads.
 
 A text may have up to 67,108,864 bytes and is read with up to 55 bytes of memory for each of its own.
 Several files go to all processors.

@@ -266,7 +266,7 @@ impl Tune {
         let part = &mut self.parts[self.current];
         part.begin_line(self.meter);
         for token in &tokens {
-            // "11 the 100,001st note, rest or non-empty chord", "met where the length ends".
+            // "11 the 100,001st note, rest or non-empty chord", "met where the length ends": a note that is refused for its octave marks (12) or its slashes (22) is no token.
             if let Token::Sound(sound) = token {
                 self.notes += 1;
                 if self.notes > 100_000 {

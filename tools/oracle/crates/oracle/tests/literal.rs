@@ -1,4 +1,4 @@
-//! The second reader held to document 02's T-03: every table of the page that works it out, worked out by hand; and to the Rust on the probes.
+//! The second reader held to document 02's T-03 and T-04: every table of the pages that work them out, worked out by hand; and to the Rust on the probes.
 use oracle::dump::{Note, Part, decode};
 use oracle::literal::{Edition, LiteralAnswer, answer, brief_line};
 use oracle::rng::Rng;
@@ -270,6 +270,156 @@ fn empty_parts() {
     }
 }
 
+// ---- lengths --------------------------------------------------------------------------------------------------------
+
+/// The lengths of the notes, as `1/32.`; `-` behind one that begins a tie, `)` behind one that ends a slur.
+fn lengths(text: &str, edition: Edition) -> String {
+    let show = |note: &Note| {
+        let words = note.show();
+        let length = words.split(' ').nth(1).unwrap().to_string();
+        length + if note.flags & 1 > 0 { "-" } else { "" } + if note.flags & 8 > 0 { ")" } else { "" }
+    };
+    part(text, edition).notes.iter().map(show).collect::<Vec<_>>().join(" ")
+}
+
+/// The page's tables, the unit 1/8: music, its lengths in the first edition, in the second.
+const SLASHES: [(&str, &str, &str); 57] = [
+    // No slash and one: the same.
+    ("A", "1/8", "1/8"), ("A3", "1/4.", "1/4."), ("A0", "1/4", "1/4"), ("A/", "1/16", "1/16"), ("A/4", "1/32", "1/32"), ("A3/2", "1/8.", "1/8."), ("A3/", "1/8.", "1/8."), ("A/0", "longa...", "longa..."),
+    ("A0/0", "longa", "longa"), ("A/00000000002", "1/16", "1/16"), ("A/4294967296", "1/16", "1/16"), ("A4294967296/4", "1/32", "1/32"),
+    // Two and more.
+    ("A//", "1/16", "1/32"), ("A///", "1/16", "1/64"), ("A////", "1/16", "1/128"), ("A/////", "1/16", "1/4"), ("A3//", "1/8.", "1/16."), ("A7///", "1/4..", "1/16.."), ("A0//", "1/4", "1/4"), ("A16////", "1", "1/8"),
+    ("A4294967296//", "1/16", "1/32"),
+    // Digits behind them do not matter, and are no part of the length.
+    ("A//4", "1/16", "1/32"), ("A//0", "1/16", "1/32"), ("A//1", "1/16", "1/32"), ("A//4294967296", "1/16", "1/32"), ("A3//8", "1/8.", "1/16."), ("A///2", "1/16", "1/64"),
+    // Slashes behind a slash with digits, or behind digits that are skipped, never halve.
+    ("A/2/2", "1/16", "1/16"), ("A/4//", "1/32", "1/32"), ("A/4/", "1/32", "1/32"), ("A/0//", "longa...", "longa..."), ("A/2\\*40{/}", "1/16", "1/16"), ("A/4294967296//", "1/16", "1/16"), ("A//3//", "1/16", "1/32"),
+    ("A//3\\*40{/}", "1/16", "1/32"), ("A/2/2/2/2", "1/16", "1/16"),
+    // What stands behind the length is right behind the note, what stands behind skipped bytes is not.
+    ("A/-B", "1/16- 1/8", "1/16- 1/8"), ("A/2-B", "1/16- 1/8", "1/16- 1/8"), ("A//-B", "1/16 1/8", "1/32- 1/8"), ("A//)B", "1/16 1/8", "1/32) 1/8"), ("A///)-B", "1/16 1/8", "1/64-) 1/8"), ("A/2/2-B", "1/16 1/8", "1/16 1/8"),
+    ("A//3-B", "1/16 1/8", "1/32 1/8"), ("A//4)B", "1/16 1/8", "1/32 1/8"), ("A/2//-B", "1/16 1/8", "1/16 1/8"), ("A-//B", "1/8- 1/8", "1/8- 1/8"), ("A)//B", "1/8) 1/8", "1/8) 1/8"),
+    // "one rule, so all three follow it"
+    ("[CE]//", "1/16", "1/32"), ("[CE]3//", "1/8.", "1/16."), ("[CE]//4-[CE]", "1/16 1/8", "1/32 1/8"), ("[CE]//-[CE]", "1/16 1/8", "1/32- 1/8"), ("z//", "1/16", "1/32"), ("x3///4", "1/8.", "1/32."), ("Z//A", "bar 1/8", "bar 1/8"),
+    ("X//A", "bar 1/8", "bar 1/8"), ("[]//A", "1/8", "1/8"), ("^c''//B,,///", "1/16 1/16", "1/32 1/64"),
+];
+
+#[test]
+fn slashes_halve() {
+    for (music, first, second) in SLASHES {
+        let text = format!("K:C\\n{music}");
+        assert_eq!((lengths(&text, First).as_str(), lengths(&text, Abc21).as_str()), (first, second), "{music}");
+    }
+    // Under another unit, and with what changes a length behind it.
+    for (text, first, second) in [
+        ("L:1/1\\nK:C\\nA//B///", "1/2 1/2", "1/4 1/8"),
+        ("L:1/4\\nK:C\\nA//[L:1/1]B//", "1/8 1/2", "1/16 1/4"),
+        ("K:C\\nA//>B//", "1/16. 1/32", "1/32. 1/64"),
+        ("K:C\\nA//<<B", "1/64 1/8..", "1/128 1/8.."),
+        ("K:C\\n(3A//B//c {d//}e", "1/16 1/16 1/8 1/16 1/8", "1/32 1/32 1/8 1/32 1/8"),
+    ] {
+        assert_eq!((lengths(text, First).as_str(), lengths(text, Abc21).as_str()), (first, second), "{text}");
+    }
+    // Every run that halves, each under a numerator that undoes it and under half of that; in the first edition the first slash halves alone.
+    for slashes in 2..=31 {
+        let text = format!("K:C\\nA{}\\*{slashes}{{/}} B{}\\*{slashes}{{/}}", 1u32 << slashes, 1u32 << (slashes - 1));
+        assert_eq!(lengths(&text, Abc21), "1/8 1/16", "{text}");
+        assert_eq!(lengths(&text, First).split(' ').next(), lengths(&format!("K:C\\nA{}", 1u32 << (slashes - 1)), First).split(' ').next(), "{text}");
+    }
+    // The least of them, and the greatest that 31 leave of a numerator: a little under two units.
+    assert_eq!(lengths("K:C\\nA\\*31{/}B4294967295\\*31{/}", Abc21), "1/4 1/8...");
+}
+
+/// The second edition reads slashes as the first reads one of them with the denominator written out, and a byte that means nothing where some are skipped.
+#[test]
+fn slashes_written_out() {
+    let in_first = |suffix: &str| -> String {
+        let slashed = suffix.trim_start_matches(|c: char| c.is_ascii_digit());
+        let behind = slashed.trim_start_matches('/');
+        let slashes = slashed.len() - behind.len();
+        if slashes < 2 {
+            return suffix.to_string();
+        }
+        let left = behind.trim_start_matches(|c: char| c.is_ascii_digit() || c == '/');
+        let skipped = if left.len() < behind.len() { "." } else { "" };
+        format!("{}/{}{skipped}{left}", &suffix[..suffix.len() - slashed.len()], 1u64 << slashes)
+    };
+    let mut suffixes = vec![String::new()];
+    let mut last = suffixes.clone();
+    for _ in 0..6 {
+        last = last.iter().flat_map(|suffix| ["/", "2", "0", "-", ")"].map(|sign| format!("{suffix}{sign}"))).collect();
+        suffixes.extend(last.clone());
+    }
+    for slashes in 7..=31 {
+        suffixes.extend(["", "3"].into_iter().flat_map(|num| ["", "-", "2", "0/-", "2//)", ")"].map(|tail| format!("{num}{}{tail}", "/".repeat(slashes)))));
+    }
+    for sound in ["A", "^c'", "z", "x", "Z", "X", "[CE]", "A[]"] {
+        for suffix in &suffixes {
+            let (second, first) = (format!("K:C\n{sound}{suffix}B"), format!("K:C\n{sound}{}B", in_first(suffix)));
+            let (LiteralAnswer::Reading { bytes: second, .. }, LiteralAnswer::Reading { bytes: first, .. }) = (answer(second.as_bytes(), Abc21), answer(first.as_bytes(), First)) else { panic!("{sound}{suffix}") };
+            assert!(second == first, "{sound}{suffix} {}", in_first(suffix));
+        }
+    }
+}
+
+/// What 32 slashes behind it make of a sound: 22, wherever a length is read, and in the second edition alone.
+#[test]
+fn thirty_two_slashes() {
+    for sound in ["A", "g", "^/c'", "__B,,", "[CE]", "[^C]", "[]", "[\"x\"]", "[!f!]", "z", "x", "Z", "X", "{A", "(3A", "\"Am\"A", "A-B", "& z", "]A"] {
+        for numerator in ["", "0", "3", "4294967296"] {
+            for slashes in [31, 32, 33, 40, 256, 287, 288, 65_536] {
+                for tail in ["", "2", "2/", "-", " ", "B", "]", "\\nB"] {
+                    let text = format!("K:C\\nC\\n{sound}{numerator}\\*{slashes}{{/}}{tail}");
+                    assert_eq!(read(&text, Abc21).err(), (slashes > 31).then_some((22, 3)), "{text}");
+                    assert!(read(&text, First).is_ok(), "{text}");
+                }
+            }
+        }
+    }
+    // Read: slashes that would not halve, and where no length is read.
+    for music in [
+        "A/2\\*40{/}", "A//2\\*40{/}", "A\\*31{/}2\\*40{/}", "A\\*31{/} /", "A\\*31{/}-/", "A-\\*40{/}", "A)\\*40{/}", "A2-\\*40{/}", "A \\*40{/}", "A|\\*40{/}", "A>\\*40{/}", "A'\\n\\*40{/}", "A%\\*40{/}", "A\\*31{/}%/", "\\*40{/}A",
+        "\\*1000{/}", "\"A\\*32{/}\"B", "\"A\\*32{/}", "!A\\*32{/}!B", "+A\\*32{/}+B", "[A\\*32{/}]", "[A\\*32{/}C]", "[A\\*32{/}", "[A\\*32{/}B\\*32{/}]//", "[r:A\\*32{/}]B", "[K:C A\\*32{/}]B", "^\\*40{/}A", "A ^\\*40{/}", "^^[CE]\\*40{/}", "=\\*40{/}", "(\\*40{/}A",
+        "(3\\*40{/}A", "&\\*40{/}A", "[1\\*40{/}A", "{\\*40{/}A}", "]\\*40{/}", "y\\*40{/}", "A\\nw:A\\*40{/}", "A\\nT:A\\*40{/}",
+    ] {
+        assert!(read(&format!("K:C\\n{music}"), Abc21).is_ok(), "{music}");
+    }
+    // A music line before the first K line is not looked at.
+    assert!(read(" A\\*32{/}\\nK:C\\nA", Abc21).is_ok());
+}
+
+/// "as met in the line"
+#[test]
+fn twenty_two_and_others() {
+    for (text, wanted) in [
+        // 12 at its mark, 11 where the length ends.
+        ("K:C\\nA\\*133{,}\\*32{/}", (12, 2)),
+        ("K:C\\n[A\\*133{,}]\\*32{/}", (12, 2)),
+        ("K:C\\nA\\*32{/}B\\*133{,}", (22, 2)),
+        ("K:C\\n\\*100000{A}A\\*32{/}", (22, 2)),
+        ("K:C\\n\\*100000{A}Z\\*32{/}", (22, 2)),
+        ("K:C\\n\\*100000{A}[]\\*32{/}", (22, 2)),
+        ("K:C\\n\\*100000{A}A\\*31{/}", (11, 2)),
+        ("K:C\\n\\*100000{A}A/2\\*32{/}", (11, 2)),
+        ("K:C\\n\\*100001{A}\\*32{/}", (22, 2)),
+        ("K:C\\n\\*100001{A}A\\*32{/}", (11, 2)),
+        // The others, from left to right.
+        ("K:C\\n[0A\\*32{/}", (17, 2)),
+        ("K:C\\nA\\*32{/}[0", (22, 2)),
+        ("K:C\\n[K:G#]A\\*32{/}", (21, 2)),
+        ("K:C\\nA\\*32{/}[K:G#]", (22, 2)),
+        ("K:C\\nA\\*256{>}B\\*32{/}", (13, 2)),
+        ("K:C\\nA\\*32{/}\\*256{>}", (22, 2)),
+        ("K:C\\nA\\*32{/}[K:middle=B]", (22, 2)),
+        // 6 is tested on the whole line before; lines from the first one on.
+        ("K:C\\nA\\*32{/}\\u{e9}", (6, 2)),
+        ("K:C\\nA\\*32{/}\\nX:1", (22, 2)),
+        ("K:C\\nX:1\\nA\\*32{/}", (7, 2)),
+        ("K:C\\nA\\nV:2\\nB\\n|c\\*31{/}d\\*32{/}", (22, 5)),
+    ] {
+        assert_eq!(read(text, Abc21), Err(wanted), "{text}");
+    }
+}
+
 // ---- lyrics ---------------------------------------------------------------------------------------------------------
 
 /// The syllables of a part, as `a@0 b@2+ext`; a verse above 1 before the sign, as `a2@0`.
@@ -380,7 +530,7 @@ fn all_else_is_one() {
         "X:1\\nL:1/8\\nK:G\\nFA (3GAB|c2 z2|]\\nw: one two-three",
         "K:C\\n{A}B>c (2de [ceg]-[ceg] & z2|[1,3^F:|[2 Z|]",
         "K:Em clef=bass\\nV:1\\nA|B\\nw:a b-c _\\nV:2\\n(3:2:2ABc (4:3d",
-        "M:6/8\\nL:1/16\\nK:Bb major\\nA//B/2c3/2[M:3/4](10d[L:1/4]e",
+        "M:6/8\\nL:1/16\\nK:Bb major\\nA/B/2//c3/2[M:3/4](10d[L:1/4]e",
         "K:C\\nA/0 A0 A5 A7 A/32",
     ] {
         assert_eq!(answer(&unescape(text), First), answer(&unescape(text), Abc21), "{text}");

@@ -1,5 +1,6 @@
 //! Lengths: as they are written behind a note, and which written value they take.
 use super::text::{digits, value};
+use super::{Edition, Refusable};
 
 /// A length in units.
 #[derive(Debug, Clone, Copy, PartialEq)]
@@ -8,20 +9,46 @@ pub struct Length {
     pub denominator: u32,
 }
 
-/// The length at the start of these bytes, and how many of them it takes. "A numerator past 32 bits reads 1, a denominator 2." Of two slashes "000 skips the second slash".
-pub fn length(bytes: &[u8]) -> (Length, usize) {
-    let (mut numerator, mut denominator) = (1, 1);
-    let mut used = digits(bytes);
-    if used > 0 {
-        numerator = up_to_32_bits(&bytes[..used]).unwrap_or(1);
+/// The length at the start of these bytes, and how many of them it takes. "A numerator past 32 bits reads 1, a denominator 2." "The length after a note, a chord and a rest is one rule, so all three follow it." (T-04)
+pub fn length(bytes: &[u8], edition: Edition) -> Refusable<(Length, usize)> {
+    let written = digits(bytes);
+    let numerator = if written > 0 { up_to_32_bits(&bytes[..written]).unwrap_or(1) } else { 1 };
+    let (denominator, more) = behind_numerator(&bytes[written..], edition)?;
+    Ok((Length { numerator, denominator }, written + more))
+}
+
+/// The denominator at the start of these bytes, and how many of them say it. "All slashes and digits right after such a run, or after a slash with digits, are skipped" (T-04): they are no part of the length.
+fn behind_numerator(bytes: &[u8], edition: Edition) -> Refusable<(u32, usize)> {
+    let slashes = bytes.iter().take_while(|byte| **byte == b'/').count();
+    match edition {
+        // "In the first edition the later slashes are still skipped" (T-04), as "000 skips the second slash".
+        Edition::First => Ok(one_slash(bytes)),
+        // "In the 2.1 edition two or more slashes in a row halve once each, digits behind them or not" (T-04).
+        Edition::Abc21 if slashes >= 2 => Ok((halved_by(slashes)?, slashes)),
+        Edition::Abc21 => Ok(one_slash(bytes)),
     }
-    if bytes.get(used) == Some(&b'/') {
-        used += 1;
-        let more = digits(&bytes[used..]);
-        denominator = if more > 0 { up_to_32_bits(&bytes[used..used + more]).unwrap_or(2) } else { 2 };
-        used += more;
+}
+
+/// A slash and the digits right behind it, if any; or no slash.
+fn one_slash(bytes: &[u8]) -> (u32, usize) {
+    if bytes.first() != Some(&b'/') {
+        return (1, 0);
     }
-    (Length { numerator, denominator }, used)
+    let written = digits(&bytes[1..]);
+    let denominator = if written > 0 { up_to_32_bits(&bytes[1..1 + written]).unwrap_or(2) } else { 2 };
+    (denominator, 1 + written)
+}
+
+/// "22 a 32nd slash that would halve" (T-04)
+fn halved_by(slashes: usize) -> Refusable<u32> {
+    let mut denominator: u32 = 1;
+    for slash in 1..=slashes {
+        if slash == 32 {
+            return Err(22);
+        }
+        denominator *= 2;
+    }
+    Ok(denominator)
 }
 
 fn up_to_32_bits(digits: &[u8]) -> Option<u32> {

@@ -130,8 +130,8 @@ fn token(rest: &[u8], edition: Edition) -> Refusable<Option<Found>> {
         b'!' | b'+' => (Token::Skipped, closing(rest).map_or(1, |end| end + 1)),
         b'|' | b':' => barline(rest).unwrap_or((Token::Skipped, 1)),
         b'[' => bracket(rest, edition)?,
-        b'z' | b'x' | b'Z' | b'X' => pause(rest),
-        b'^' | b'_' | b'=' | b'A'..=b'G' | b'a'..=b'g' => note(rest)?,
+        b'z' | b'x' | b'Z' | b'X' => pause(rest, edition)?,
+        b'^' | b'_' | b'=' | b'A'..=b'G' | b'a'..=b'g' => note(rest, edition)?,
         _ => (Token::Skipped, 1),
     };
     Ok(Some(found))
@@ -235,7 +235,7 @@ fn bracket(rest: &[u8], edition: Edition) -> Refusable<Found> {
         let value = std::str::from_utf8(&rest[colon + 1..end]).expect("ASCII");
         return Ok((inline(&rest[1..colon], trim(value), edition)?, end + 1));
     }
-    chord(rest)
+    chord(rest, edition)
 }
 
 fn inline(name: &[u8], value: &str, edition: Edition) -> Refusable<Token> {
@@ -281,30 +281,30 @@ fn passes(list: &str) -> Refusable<Vec<u8>> {
 // ---- notes, chords, rests -------------------------------------------------------------------------------------------
 
 /// z, x, Z, X and a length. Ties and slur ends behind a rest are skipped.
-fn pause(rest: &[u8]) -> Found {
+fn pause(rest: &[u8], edition: Edition) -> Refusable<Found> {
     let kind = 1 + b"zxZX".iter().position(|letter| *letter == rest[0]).expect("a rest") as u8;
-    let (length, used) = length(&rest[1..]);
-    (Token::Sound(Sound { kind, pitches: Vec::new(), length, is_tied: false, ends_slur: false }), 1 + used)
+    let (length, used) = length(&rest[1..], edition)?;
+    Ok((Token::Sound(Sound { kind, pitches: Vec::new(), length, is_tied: false, ends_slur: false }), 1 + used))
 }
 
 /// Accidentals, a letter, octave marks, a length, ties and slur ends.
-fn note(rest: &[u8]) -> Refusable<Found> {
+fn note(rest: &[u8], edition: Edition) -> Refusable<Found> {
     let (accidental, used) = before_note(rest);
     let Some((mut pitch, more)) = letter(&rest[used..])? else {
         // "A lone accidental swallows the next character" (Decision 28).
         return Ok((Token::Silent, (used + 1).min(rest.len())));
     };
     pitch.accidental = accidental;
-    Ok(sound(rest, vec![pitch], used + more))
+    sound(rest, vec![pitch], used + more, edition)
 }
 
 /// A note or chord whose length begins at `at`.
-fn sound(rest: &[u8], pitches: Vec<Pitch>, at: usize) -> Found {
-    let (length, used) = length(&rest[at..]);
+fn sound(rest: &[u8], pitches: Vec<Pitch>, at: usize, edition: Edition) -> Refusable<Found> {
+    let (length, used) = length(&rest[at..], edition)?;
     let at = at + used;
     let marks = rest[at..].iter().take_while(|byte| matches!(byte, b'-' | b')')).count();
     let has = |mark: u8| rest[at..at + marks].contains(&mark);
-    (Token::Sound(Sound { kind: 0, pitches, length, is_tied: has(b'-'), ends_slur: has(b')') }), at + marks)
+    Ok((Token::Sound(Sound { kind: 0, pitches, length, is_tied: has(b'-'), ends_slur: has(b')') }), at + marks))
 }
 
 /// "Alters are clamped to −128 and 127" (Decision 29).
@@ -350,15 +350,15 @@ fn letter(rest: &[u8]) -> Refusable<Option<(Pitch, usize)>> {
 }
 
 /// A chord "to the next `]`", or to the line's end, and then a length.
-fn chord(rest: &[u8]) -> Refusable<Found> {
+fn chord(rest: &[u8], edition: Edition) -> Refusable<Found> {
     let end = rest.iter().position(|byte| *byte == b']');
     let pitches = inside(&rest[1..end.unwrap_or(rest.len())])?;
     let behind = end.map_or(rest.len(), |end| end + 1);
     if pitches.is_empty() {
         // A length behind it is read over.
-        return Ok((Token::Silent, behind + length(&rest[behind..]).1));
+        return Ok((Token::Silent, behind + length(&rest[behind..], edition)?.1));
     }
-    Ok(sound(rest, pitches, behind))
+    sound(rest, pitches, behind, edition)
 }
 
 /// The pitches between a chord's brackets. An accidental waits for the next letter; all else is skipped.
