@@ -148,15 +148,15 @@ unfolding all
 tune-parts First = refl
 tune-parts Second = refl
 
--- WHAT THE SECOND EDITION READS OTHERWISE, in blocks that move: a mode in the header, which holds for both voices, and inline; `(5` and `(7`; graces; lyric bars
+-- WHAT THE SECOND EDITION READS OTHERWISE, in blocks that move: a mode in the header, which holds for both voices, and inline; `(5` and `(7`; slashes; graces; lyric bars
 abbrev modal : List ℕ
-modal = ascii "V:1\nV:2\nM:3/4\nK:Edor\nV:1\n(5ABcde|{f}g2|a\nw: one | two | three\nV:2 % low\n[K:G mix]{A}B c|(7DEFGABc|d\nw: oh hm | _ ah\nV:1\nA{B}c|d|]\nw: | last\n"
+modal = ascii "V:1\nV:2\nM:3/4\nK:Edor\nV:1\n(5ABcde|{f}g//|a\nw: one | two | three\nV:2 % low\n[K:G mix]{A}B c///|(7DEFGABc|d\nw: oh hm | _ ah\nV:1\nA{B}c|d|]\nw: | last\n"
 
 abbrev high : List TextLine
-high = ascii "V:1\n" ∷ ascii "(5ABcde|{f}g2|a\n" ∷ ascii "w: one | two | three\n" ∷ []
+high = ascii "V:1\n" ∷ ascii "(5ABcde|{f}g//|a\n" ∷ ascii "w: one | two | three\n" ∷ []
 
 abbrev low : List TextLine
-low = ascii "V:2 % low\n" ∷ ascii "[K:G mix]{A}B c|(7DEFGABc|d\n" ∷ ascii "w: oh hm | _ ah\n" ∷ []
+low = ascii "V:2 % low\n" ∷ ascii "[K:G mix]{A}B c///|(7DEFGABc|d\n" ∷ ascii "w: oh hm | _ ah\n" ∷ []
 
 abbrev closing : List TextLine
 closing = ascii "V:1\n" ∷ ascii "A{B}c|d|]\n" ∷ ascii "w: | last\n" ∷ []
@@ -173,10 +173,10 @@ modal-meant Second = meant-test Second 2 modal 1000 14000 tt refl refl refl refl
 
 -- voice 2's block first, or last
 abbrev modal-low-first : List ℕ
-modal-low-first = ascii "V:1\nV:2\nM:3/4\nK:Edor\nV:2 % low\n[K:G mix]{A}B c|(7DEFGABc|d\nw: oh hm | _ ah\nV:1\n(5ABcde|{f}g2|a\nw: one | two | three\nV:1\nA{B}c|d|]\nw: | last\n"
+modal-low-first = ascii "V:1\nV:2\nM:3/4\nK:Edor\nV:2 % low\n[K:G mix]{A}B c///|(7DEFGABc|d\nw: oh hm | _ ah\nV:1\n(5ABcde|{f}g//|a\nw: one | two | three\nV:1\nA{B}c|d|]\nw: | last\n"
 
 abbrev modal-low-last : List ℕ
-modal-low-last = ascii "V:1\nV:2\nM:3/4\nK:Edor\nV:1\n(5ABcde|{f}g2|a\nw: one | two | three\nV:1\nA{B}c|d|]\nw: | last\nV:2 % low\n[K:G mix]{A}B c|(7DEFGABc|d\nw: oh hm | _ ah\n"
+modal-low-last = ascii "V:1\nV:2\nM:3/4\nK:Edor\nV:1\n(5ABcde|{f}g//|a\nw: one | two | three\nV:1\nA{B}c|d|]\nw: | last\nV:2 % low\n[K:G mix]{A}B c///|(7DEFGABc|d\nw: oh hm | _ ah\n"
 
 low-first : (ed : Edition) → Swaps (reader ed) (high ∷ low ∷ closing ∷ []) (low ∷ high ∷ closing ∷ [])
 unfolding all
@@ -201,53 +201,55 @@ pub low-last-same : (ed : Edition) → parseAbc ed modal-low-last 1000 14000 ≡
 low-last-same ed = exchange ed modal 1000 14000 (modal-meant ed) (high ∷ low ∷ closing ∷ []) (high ∷ closing ∷ low ∷ []) modal-blocks (low-last ed) modal-low-last low-last-text
 
 -- each voice's part without the other's blocks
-high-text : (ed : Edition) → onlyPart ed modal 0 ≡ ascii "V:1\nV:2\nM:3/4\nK:Edor\nV:1\n(5ABcde|{f}g2|a\nw: one | two | three\nV:1\nA{B}c|d|]\nw: | last\n"
+high-text : (ed : Edition) → onlyPart ed modal 0 ≡ ascii "V:1\nV:2\nM:3/4\nK:Edor\nV:1\n(5ABcde|{f}g//|a\nw: one | two | three\nV:1\nA{B}c|d|]\nw: | last\n"
 unfolding all
 high-text First = refl
 high-text Second = refl
 
-high-read : (ed : Edition) → Accepted (parseAbc ed (ascii "V:1\nV:2\nM:3/4\nK:Edor\nV:1\n(5ABcde|{f}g2|a\nw: one | two | three\nV:1\nA{B}c|d|]\nw: | last\n") 900 13000)
+high-read : (ed : Edition) → Accepted (parseAbc ed (ascii "V:1\nV:2\nM:3/4\nK:Edor\nV:1\n(5ABcde|{f}g//|a\nw: one | two | three\nV:1\nA{B}c|d|]\nw: | last\n") 900 13000)
 unfolding all
 high-read First = tt
 high-read Second = tt
 
 pub high-alone :
     (ed : Edition) → partIn (parseAbc ed modal 1000 14000 .verdict) 0
-    ≡ partIn (parseAbc ed (ascii "V:1\nV:2\nM:3/4\nK:Edor\nV:1\n(5ABcde|{f}g2|a\nw: one | two | three\nV:1\nA{B}c|d|]\nw: | last\n") 900 13000 .verdict) 0
+    ≡ partIn (parseAbc ed (ascii "V:1\nV:2\nM:3/4\nK:Edor\nV:1\n(5ABcde|{f}g//|a\nw: one | two | three\nV:1\nA{B}c|d|]\nw: | last\n") 900 13000 .verdict) 0
 high-alone ed = lone ed modal 1000 14000 (modal-meant ed) 0 _ (high-text ed) 900 13000 (high-read ed)
 
-low-text : (ed : Edition) → onlyPart ed modal 1 ≡ ascii "V:1\nV:2\nM:3/4\nK:Edor\nV:2 % low\n[K:G mix]{A}B c|(7DEFGABc|d\nw: oh hm | _ ah\n"
+low-text : (ed : Edition) → onlyPart ed modal 1 ≡ ascii "V:1\nV:2\nM:3/4\nK:Edor\nV:2 % low\n[K:G mix]{A}B c///|(7DEFGABc|d\nw: oh hm | _ ah\n"
 unfolding all
 low-text First = refl
 low-text Second = refl
 
-low-read : (ed : Edition) → Accepted (parseAbc ed (ascii "V:1\nV:2\nM:3/4\nK:Edor\nV:2 % low\n[K:G mix]{A}B c|(7DEFGABc|d\nw: oh hm | _ ah\n") 900 13000)
+low-read : (ed : Edition) → Accepted (parseAbc ed (ascii "V:1\nV:2\nM:3/4\nK:Edor\nV:2 % low\n[K:G mix]{A}B c///|(7DEFGABc|d\nw: oh hm | _ ah\n") 900 13000)
 unfolding all
 low-read First = tt
 low-read Second = tt
 
 pub low-alone :
     (ed : Edition) → partIn (parseAbc ed modal 1000 14000 .verdict) 1
-    ≡ partIn (parseAbc ed (ascii "V:1\nV:2\nM:3/4\nK:Edor\nV:2 % low\n[K:G mix]{A}B c|(7DEFGABc|d\nw: oh hm | _ ah\n") 900 13000 .verdict) 1
+    ≡ partIn (parseAbc ed (ascii "V:1\nV:2\nM:3/4\nK:Edor\nV:2 % low\n[K:G mix]{A}B c///|(7DEFGABc|d\nw: oh hm | _ ah\n") 900 13000 .verdict) 1
 low-alone ed = lone ed modal 1000 14000 (modal-meant ed) 1 _ (low-text ed) 900 13000 (low-read ed)
 
--- what the parts are, each text read by itself: how a pitch is altered (128 added), the normal of each note's tuplet, and each syllable with its note and its extend
+-- what the parts are, each text read by itself: how a pitch is altered (128 added), the normal of each note's tuplet, each note's value, and each syllable with its note and its extend
 abbrev syllableOf : ℕ × Syllable → List ℕ
 syllableOf x = x .0 ∷ bit (x .1 .extend) 1 ∷ x .1 .text
 
 abbrev heard : Option Part → List (List ℕ)
 heard none = []
-heard (some p) = map (λ (x : Pitch). x .alter) (pitchesOf p) ∷ map (λ (x : ℕ × Note). x .1 .group .normal) (notesOf p) ∷ map syllableOf (lyrics p)
+heard (some p) =
+    map (λ (x : Pitch). x .alter) (pitchesOf p) ∷ map (λ (x : ℕ × Note). x .1 .group .normal) (notesOf p) ∷ map (λ (x : ℕ × Note). x .1 .value) (notesOf p) ∷ map syllableOf (lyrics p)
 
 abbrev bothHeard : Edition → List ℕ → List (List (List ℕ))
 bothHeard ed text = let v = parseAbc ed text 1000 14000 .verdict in heard (partIn v 0) ∷ heard (partIn v 1) ∷ []
 
--- in the first edition voice 1 is in C major, `(5` goes in 4 and `(7` in 6, graces are sung, and bars are passed over
+-- in the first edition voice 1 is in C major, `(5` goes in 4 and `(7` in 6, the later slashes are skipped, graces are sung, and bars are passed over
 abbrev modalParts : Edition → List (List (List ℕ))
 modalParts First =
     (
     (128 ∷ 128 ∷ 128 ∷ 128 ∷ 128 ∷ 128 ∷ 128 ∷ 128 ∷ 128 ∷ 128 ∷ 128 ∷ 128 ∷ [])
     ∷ (4 ∷ 4 ∷ 4 ∷ 4 ∷ 4 ∷ 0 ∷ 0 ∷ 0 ∷ 0 ∷ 0 ∷ 0 ∷ 0 ∷ [])
+    ∷ (5 ∷ 5 ∷ 5 ∷ 5 ∷ 5 ∷ 5 ∷ 6 ∷ 5 ∷ 5 ∷ 5 ∷ 5 ∷ 5 ∷ [])
     ∷ (0 ∷ 0 ∷ ascii "one")
     ∷ (1 ∷ 0 ∷ ascii "two")
     ∷ (2 ∷ 0 ∷ ascii "three")
@@ -256,6 +258,7 @@ modalParts First =
     ∷ (
     (128 ∷ 128 ∷ 128 ∷ 128 ∷ 128 ∷ 128 ∷ 128 ∷ 128 ∷ 128 ∷ 128 ∷ 128 ∷ [])
     ∷ (0 ∷ 0 ∷ 0 ∷ 6 ∷ 6 ∷ 6 ∷ 6 ∷ 6 ∷ 6 ∷ 6 ∷ 0 ∷ [])
+    ∷ (5 ∷ 5 ∷ 6 ∷ 5 ∷ 5 ∷ 5 ∷ 5 ∷ 5 ∷ 5 ∷ 5 ∷ 5 ∷ [])
     ∷ (0 ∷ 0 ∷ ascii "oh")
     ∷ (1 ∷ 1 ∷ ascii "hm")
     ∷ (3 ∷ 0 ∷ ascii "ah")
@@ -265,6 +268,7 @@ modalParts Second =
     (
     (128 ∷ 128 ∷ 129 ∷ 128 ∷ 128 ∷ 129 ∷ 128 ∷ 128 ∷ 128 ∷ 128 ∷ 129 ∷ 128 ∷ [])
     ∷ (3 ∷ 3 ∷ 3 ∷ 3 ∷ 3 ∷ 0 ∷ 0 ∷ 0 ∷ 0 ∷ 0 ∷ 0 ∷ 0 ∷ [])
+    ∷ (5 ∷ 5 ∷ 5 ∷ 5 ∷ 5 ∷ 5 ∷ 7 ∷ 5 ∷ 5 ∷ 5 ∷ 5 ∷ 5 ∷ [])
     ∷ (0 ∷ 0 ∷ ascii "one")
     ∷ (6 ∷ 0 ∷ ascii "two")
     ∷ (7 ∷ 0 ∷ ascii "three")
@@ -273,6 +277,7 @@ modalParts Second =
     ∷ (
     (128 ∷ 128 ∷ 128 ∷ 128 ∷ 128 ∷ 128 ∷ 128 ∷ 128 ∷ 128 ∷ 128 ∷ 128 ∷ [])
     ∷ (0 ∷ 0 ∷ 0 ∷ 3 ∷ 3 ∷ 3 ∷ 3 ∷ 3 ∷ 3 ∷ 3 ∷ 0 ∷ [])
+    ∷ (5 ∷ 5 ∷ 8 ∷ 5 ∷ 5 ∷ 5 ∷ 5 ∷ 5 ∷ 5 ∷ 5 ∷ 5 ∷ [])
     ∷ (1 ∷ 0 ∷ ascii "oh")
     ∷ (2 ∷ 1 ∷ ascii "hm")
     ∷ (4 ∷ 0 ∷ ascii "ah")

@@ -21,19 +21,19 @@ unfoldable pub number : ℕ → ℕ → List ℕ → ℕ
 number d zero s = d
 number d (suc n) s = let v = decimal 0 (take (suc n) s) in cond (ltb v (2 ^ 32)) v d
 
--- THE SLASHES behind the numerator that count. The first edition: "the later slashes are still skipped"; the second: all "in a row"
+-- THE SLASHES behind the numerator that count (T-04). In the first edition "the later slashes are still skipped"; in the second all "in a row" count
 unfoldable pub slashes : Edition → List ℕ → ℕ
 slashes First s = cond (is "/" (first s)) 1 0
 slashes Second s = countWhile (is "/") s
 
 -- a numerator of n bytes with k slashes behind it; s stands behind them. One slash: digits, or nothing, which reads 2 (ABC 2.1, 4.3: A/ is A/2).
--- "two or more slashes in a row halve once each, digits behind them or not"
+-- "two or more slashes in a row halve once each, digits behind them or not" (T-04)
 unfoldable pub lengthOver : ℕ → ℕ → ℕ → List ℕ → Length
 lengthOver num n zero s = record { num = num; den = 1; used = n }
 lengthOver num n (suc zero) s = let m = countWhile isDigit s in record { num = num; den = number 2 m s; used = n + 1 + m }
 lengthOver num n (suc (suc k)) s = record { num = num; den = 2 ^ suc (suc k); used = n + suc (suc k) }
 
--- a length at the front. What slashes and digits stand behind it is skipped, as every byte of that class
+-- a length at the front. "All slashes and digits right after" it "are skipped": they are no part of it, and no token but `skipped` begins with one
 unfoldable pub lengthOf : Edition → List ℕ → Length
 lengthOf ed s =
     let n = countWhile isDigit s in
@@ -44,7 +44,7 @@ lengthOf ed s =
 abbrev pub twoSlashes : List ℕ → Bool
 twoSlashes s = let r = drop (countWhile isDigit s) s in is "/" (first r) && is "/" (first (drop 1 r))
 
--- refusal 22: "more than 31"
+-- "more than 31 give refusal 22"
 unfoldable pub manySlashes : Edition → List ℕ → Bool
 manySlashes ed s = ltb 31 (slashes ed (drop (countWhile isDigit s) s))
 

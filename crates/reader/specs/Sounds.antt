@@ -46,7 +46,7 @@ chordAt ed s =
 unfoldable pub restAs : Edition → NoteKind → List ℕ → Taken
 restAs ed kind s = withLength ed (suc (length s)) s (λ l. taken (rest kind l) (suc (l .used)))
 
--- a note from its letter c on, after n bytes of accidentals; refusal 12
+-- a note from its letter c on, after n bytes of accidentals; refusal 12, before 22
 unfoldable pub noteAs : Edition → Before → ℕ → List ℕ → Taken
 noteAs ed a c s =
     let o = octaveOf c s in
