@@ -140,6 +140,7 @@ pub const TEXTS: &[Text] = &[
     Text { name: "unsung", about: "lyric lines behind one note", longer: None, make: || one(repeated(head("") + "A|\n", "w: la la la la la la la\n")) },
     Text { name: "graces", about: "grace notes, and lyric lines that go past them", longer: None, make: || one(repeated(head("") + "{" + &"cdefgab".repeat(100) + "}A {c}B|\n", "w: la la\n")) },
     Text { name: "moves", about: "lyric lines of bars", longer: None, make: || one(repeated(head("") + &"ABcd|".repeat(100) + "\n", "w: la | la la | _ | * |\n")) },
+    Text { name: "slashes", about: "slashes in a row, up to 31", longer: None, make: || one(repeated(head(""), &format!("A//B///[CE]//z////c{}|", "/".repeat(31))) + "\n") },
     Text { name: "accents", about: "a lyric line of letters beyond ASCII", longer: None, make: || one(repeated(head("") + "A\nw: ", "é") + "\n") },
     Text { name: "foreign", about: "a title of characters beyond ASCII", longer: None, make: || one(repeated("X:1\nT:".into(), "é日") + "\nK:C\nA\n") },
     Text { name: "title", about: "one long title", longer: None, make: || one(repeated("X:1\nT:".into(), "x") + "\nK:C\nA\n") },
