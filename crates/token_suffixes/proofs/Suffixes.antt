@@ -7,12 +7,13 @@ use native.Mathlib.Nat.{add-zero}
 use native.Mathlib.Omega.{arith}
 use lib.Dec.{leb, ltb, eqb}
 use lib.ListN.{length, getD, take, drop}
-use lib.Seq.{drop-drop, getD-drop}
+use lib.Seq.{drop-drop}
 use borrow.Author.Tests.{leb-true, leb-false, le-leb, lt-ltb, le-ltb, eq-eqb, ne-eqb, eqb-true}
 use Rattle.laws.specs.Lists.{countWhile}
 use Rattle.laws.specs.Spans.{run, endOf}
 use Rattle.laws.proofs.Bools.{by-test}
 use Rattle.laws.proofs.Finite.{below}
+use Rattle.laws.proofs.Lists.{first-at, first-on}
 use Rattle.laws.proofs.Spans.{count-while-yes, count-while-no, count-while-on, count-while-off, run-on, run-off, run-within}
 use Rattle.standard.specs.Bytes.{isDigit, is, first, decimal}
 use Rattle.editions.specs.declared.Edition.{Edition}
@@ -73,22 +74,15 @@ number-one d line at y n =
     let k : countWhile isDigit (drop at line) ≡ 1 = count-while-on isDigit refl line at y ∙ ap suc (count-while-off isDigit refl line (at + 1) n) in
     λ i. record { value = sym v i; next = at + sym k i }
 
--- what stands at a position
-first-is : (line : List ℕ) (i : ℕ) → first (drop i line) ≡ getD line i 0
-first-is line i = rw (getD-drop i line 0 0, add-zero i)
+-- a slash at a position
+slash-at : (line : List ℕ) (i : ℕ) → getD line i 0 ≡ 47 → is "/" (first (drop i line)) ≡ true
+slash-at line i h = rw (first-at line i) (eq-eqb _ _ h)
 
-module _ (ed : Edition) (line : List ℕ) (i : ℕ) (h : getD line i 0 ≡ 47) where
-  here : is "/" (first (drop i line)) ≡ true
-  here = rw (first-is line i) (eq-eqb _ _ h)
-
-  second : first (drop 1 (drop i line)) ≡ getD line (i + 1) 0
-  second = rw (drop-drop 1 i line) (first-is line (i + 1))
-
--- one slash counts
+-- one counts
 one : (ed : Edition) (line : List ℕ) (i : ℕ) → getD line i 0 ≡ 47 → isRun ed line i ≡ false → slashes ed (drop i line) ≡ 1
 unfolding isRun
-one First line i h r = first-slash (drop i line) (here First line i h)
-one Second line i h r = lone-slash Second (drop i line) (here Second line i h) (rw (second Second line i h) r)
+one First line i h r = first-slash (drop i line) (slash-at line i h)
+one Second line i h r = lone-slash Second (drop i line) (slash-at line i h) (rw (first-on line i 1) r)
 
 -- two or more
 two : (line : List ℕ) (i : ℕ) → getD line i 0 ≡ 47 → is "/" (getD line (i + 1) 0) ≡ true → 2 ≤ countWhile (is "/") (drop i line)
@@ -129,7 +123,7 @@ module _ (ed : Edition) (line : List ℕ) (at : ℕ) where
   -- no slash: the numerator alone
   pub suffix-plain : (getD line (numberOr 1 line at .next) 0 ≡ 47 → ⊥) → Read (numberOr 1 line at .value) 1 (numberOr 1 line at .next) ≡ suffixAt ed line at
   unfolding numberOr lengthOver
-  suffix-plain h = by-count 0 (no-slash ed (drop (at + width) line) (rw (first-is line (at + width)) (ne-eqb _ _ h))) refl
+  suffix-plain h = by-count 0 (no-slash ed (drop (at + width) line) (rw (first-at line (at + width)) (ne-eqb _ _ h))) refl
 
   -- one slash, and the denominator
   pub suffix-slash : getD line (numberOr 1 line at .next) 0 ≡ 47 → isRun ed line (numberOr 1 line at .next) ≡ false
