@@ -10,7 +10,7 @@ use lib.Dec.{eqb, ltb}
 use lib.ListN.{length, take, drop}
 use borrow.Author.Tests.{eqb-true, ltb-true, ltb-false, lt-ltb, le-ltb}
 use Rattle.laws.specs.Lists.{countWhile, all, any}
-use Rattle.laws.proofs.Bools.{by-test, both-true, and-left, and-right, and-both}
+use Rattle.laws.proofs.Bools.{by-test, and-left, and-right, and-both}
 use Rattle.laws.proofs.Lists.{map-append}
 use Rattle.laws.proofs.Spans.{count-while-no, count-while-yes}
 use Rattle.standard.specs.Bytes.{is, isDigit, first}
@@ -31,7 +31,7 @@ use Rattle.reader.specs.Sounds.{withLength, chordTaken, chordAt, restAs, noteAs
 use Rattle.reader.specs.Tokens.{closedBy, brokenOf, bracketOf, Class, white, ampersand, quote, more, less, paren, braceOpen, braceClose, bang, plus, bars, bracket, pitched, none-of-these, resting, classOf, tokenAs, tokenOf, tokens, Effect, counts, refuses, setsUnit, setsMeter, noEffect, effectOf, effects}
 use Rattle.reader.specs.Lines.{isK, key}
 use Rattle.reader.specs.Scan.{mostNotes, noteCount, firstRefusal}
-use Rattle.reader.proofs.LengthLaws.{with-length}
+use Rattle.reader.proofs.LengthLaws.{with-many, with-length}
 use Rattle.reader.proofs.TokenLaws.{tokens-at}
 use Rattle.reader.specs.Keys.{keyOf}
 use Rattle.promises.specs.KeyRange.{InSeven}
@@ -284,7 +284,7 @@ field-refused ed (x ∷ (y ∷ r)) n k m =
 
 -- a length of too many slashes
 many-refused : (ed : Edition) (end : ℕ) (s : List ℕ) (f : Length → Taken) → manySlashes ed s ≡ true → withLength ed end s f .token ≡ refused 22
-many-refused ed end s f m = with-length (λ x. x .token ≡ refused 22) ed end s f (λ _. refl) (λ e. absurd (both-true (manySlashes ed s) m e))
+many-refused ed end s f m = ap (λ (x : Taken). x .token) (with-many ed end s f m)
 
 chord-many : (ed : Edition) (n : ℕ) (r : List ℕ) (ws : List Written) → manySlashes ed r ≡ true → chordTaken ed n r (some ws) .token ≡ refused 22
 unfolding chordTaken
