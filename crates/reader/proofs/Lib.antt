@@ -9,6 +9,7 @@ pub mod PartLaws
 pub mod Sizes
 pub mod LineLaws
 pub mod ValueLaws
+pub mod Searches
 pub mod Digits
 pub mod Standard
 pub mod Traps

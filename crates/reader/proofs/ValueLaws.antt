@@ -18,12 +18,19 @@ use Rattle.reader.specs.Lengths.{Length, quarterNote, longa, notAbove, w
 abbrev pub written : ℕ → ℕ → Value
 written v d = record { value = v; dots = d }
 
+-- one of the forty
+abbrev pub isOne : Value → Bool
+isOne w = ltb (w .value) 10 && ltb (w .dots) 4
+
+pub one-range : (w : Value) → isOne w ≡ true → (w .value < 10) × (w .dots < 4)
+one-range w e = (ltb-true _ _ (and-left (ltb (w .value) 10) (ltb (w .dots) 4) e), ltb-true _ _ (and-right (ltb (w .value) 10) (ltb (w .dots) 4) e))
+
 -- the value w is v with d dots
 abbrev pub isWritten : ℕ → ℕ → Value → Bool
 isWritten v d w = eqb (w .value) v && eqb (w .dots) d
 
 -- the test says what it is
-is-written : (v d : ℕ) (w : Value) → isWritten v d w ≡ true → w ≡ written v d
+pub is-written : (v d : ℕ) (w : Value) → isWritten v d w ≡ true → w ≡ written v d
 is-written v d w e =
     let p = eqb-true (w .value) v (and-left (eqb (w .value) v) (eqb (w .dots) d) e) in
     let q = eqb-true (w .dots) d (and-right (eqb (w .value) v) (eqb (w .dots) d) e) in
@@ -133,14 +140,25 @@ same-ticks over under t o u h p e =
     eq-of-mul-eq-mul-right u h (over * 1024) (t * under)
     (mul-right-comm over 1024 u ∙ ap (λ (x : ℕ). x * 1024) e ∙ mul-comm (o * under) 1024 ∙ sym (mul-assoc 1024 o under) ∙ ap (λ (x : ℕ). x * under) (sym p) ∙ mul-right-comm t u under)
 
+-- a length that one of the forty has, in 1024ths, gets that one
+pub written-met : (f : Fraction) (v d : ℕ) → 0 < f .under → v < 10 → d < 4 → ticks (written v d) * f .under ≡ f .over * 1024 → writtenAs f ≡ written v d
+unfolding writtenAs
+written-met f v d h p q e =
+    rw (not-both f (omega arith), writtenAs) (ap (λ (a : ℕ). notAbove forty a (f .under)) (sym e) ∙ exactly forty (f .under) v d h forty-falling (in-forty v d p q))
+
+-- two of the forty that are as long are one
+pub one-size : (v d x y : ℕ) → v < 10 → d < 4 → x < 10 → y < 4 → ticks (written v d) ≡ ticks (written x y) → written v d ≡ written x y
+one-size v d x y p q r s e =
+    let f : Fraction = record { over = ticks (written v d); under = 1024 } in
+    sym (written-met f v d (omega arith) p q refl) ∙ written-met f x y (omega arith) r s (ap (λ (n : ℕ). n * 1024) (sym e))
+
 -- a length that is one of the forty, as any fraction equal to it, gets exactly that one
 pub written-exactly : (f : Fraction) (v d : ℕ) → 0 < f .under → v < 10 → d < 4
     → f .over * valueFraction (written v d) .under ≡ valueFraction (written v d) .over * f .under → writtenAs f ≡ written v d
-unfolding writtenAs valueFraction
+unfolding valueFraction
 written-exactly f v d h p q e =
     let w = written v d in
-    let s = same-ticks (f .over) (f .under) (ticks w) (valueFraction w .over) (valueFraction w .under) (pow-pos (v + d)) (ticks-fraction v d p q) e in
-    rw (not-both f (omega arith), writtenAs) (ap (λ (a : ℕ). notAbove forty a (f .under)) s ∙ exactly forty (f .under) v d h forty-falling (in-forty v d p q))
+    written-met f v d h p q (sym (same-ticks (f .over) (f .under) (ticks w) (valueFraction w .over) (valueFraction w .under) (pow-pos (v + d)) (ticks-fraction v d p q) e))
 
 -- computed at each
 forty-8 : all (λ w. leb 8 (ticks w)) forty ≡ true
@@ -165,7 +183,7 @@ unfolding writtenAs
 written-nothing = refl
 
 -- computed at each
-forty-range : all (λ w. ltb (w .value) 10 && ltb (w .dots) 4) forty ≡ true
+forty-range : all isOne forty ≡ true
 unfolding forty tenValues withDots
 forty-range = refl
 
@@ -174,9 +192,7 @@ pub written-range : (f : Fraction) → (writtenAs f .value < 10) × (writtenAs f
 unfolding writtenAs
 written-range f =
     by-test (eqb (f .over) 0 && eqb (f .under) 0) (λ e. rw (e, writtenAs) (omega arith, omega arith))
-    (λ e. rw (e, writtenAs) (let g = given-holds (λ w. ltb (w .value) 10 && ltb (w .dots) 4) forty (f .over * 1024) (f .under) forty-range refl in
-    let w = notAbove forty (f .over * 1024) (f .under) in
-    (ltb-true _ _ (and-left (ltb (w .value) 10) (ltb (w .dots) 4) g), ltb-true _ _ (and-right (ltb (w .value) 10) (ltb (w .dots) 4) g))))
+    (λ e. rw (e, writtenAs) (one-range (notAbove forty (f .over * 1024) (f .under)) (given-holds isOne forty (f .over * 1024) (f .under) forty-range refl)))
 
 -- THE SAME OF A NOTE'S LENGTH, for the unit in force
 abbrev pub fractionOf : ℕ → Length → Fraction

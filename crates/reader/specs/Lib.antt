@@ -1,6 +1,7 @@
 pub mod Text
 pub mod Pieces
 pub mod Lengths
+pub mod Search
 pub mod Keys
 pub mod Fields
 pub mod Pitches

@@ -1,4 +1,1 @@
-pub mod Sizes
-pub mod Searches
-pub mod Common
 pub mod Broken

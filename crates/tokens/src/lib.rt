@@ -174,7 +174,7 @@ fn valued(lexeme: Lexeme, unit: u32) -> Token
         } => Token::Chord {
             place,
             count,
-            length: token_lengths::abc_note_value(unit, num, den),
+            length: token_values::abc_note_value(unit, num, den),
             tie,
             slur,
         },
@@ -182,7 +182,7 @@ fn valued(lexeme: Lexeme, unit: u32) -> Token
             if kind < 3 {
                 return Token::Rest {
                     kind,
-                    length: token_lengths::abc_note_value(unit, num, den),
+                    length: token_values::abc_note_value(unit, num, den),
                 };
             }
             Token::Rest {
@@ -198,7 +198,7 @@ fn valued(lexeme: Lexeme, unit: u32) -> Token
             slur,
         } => Token::Note {
             pitch,
-            length: token_lengths::abc_note_value(unit, num, den),
+            length: token_values::abc_note_value(unit, num, den),
             tie,
             slur,
         },
@@ -230,7 +230,7 @@ fn tokenise(cut: Cut, unit: u32) -> Tokenised
     Tokenised {
         token: Token::Note {
             pitch,
-            length: token_lengths::abc_note_value(unit, num, den),
+            length: token_values::abc_note_value(unit, num, den),
             tie,
             slur,
         },

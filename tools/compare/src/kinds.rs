@@ -47,13 +47,15 @@ pub fn for_each(count: u64, seed: u64, wanted: impl Fn(&str) -> bool, mut visit:
     let whole: Vec<String> = TEXTS.iter().filter(|text| text.name != "tunes").flat_map(Text::texts).collect();
     kind("adversarial: whole", whole.len() as u64, 16, &|i| whole[i as usize].clone().into_bytes());
     kind("adversarial: pieces", count / 20, 16, &|i| adversarial(&mut Rng::of(seed ^ 0xad7e, i), &whole));
-    let mut passes = |name: &str, count: u64, text: &(dyn Fn(u64) -> Vec<u8> + Sync)| {
+    let mut many = |name: &str, count: u64, text: &(dyn Fn(u64) -> Vec<u8> + Sync)| {
         if wanted(name) {
             visit(Texts { name, count, text, around: 64, once: true });
         }
     };
-    passes(&format!("pass lists: all of up to {} bytes", edges::passes::LONGEST), edges::passes::runs(), &edges::passes::run);
-    passes("pass lists: longer", count, &|i| edges::passes::run_at_random(&mut Rng::of(seed ^ 0x9a55, i)));
+    many(&format!("pass lists: all of up to {} bytes", edges::passes::LONGEST), edges::passes::runs(), &edges::passes::run);
+    many("pass lists: longer", count, &|i| edges::passes::run_at_random(&mut Rng::of(seed ^ 0x9a55, i)));
+    many(&format!("lengths: all to {}, units to {}", edges::lengths::MOST, edges::lengths::UNITS), edges::lengths::small(), &edges::lengths::small_text);
+    many("lengths: many at random", count / edges::lengths::SEVERAL, &|i| edges::lengths::several(&mut Rng::of(seed ^ 0x1e97, i)));
 }
 
 pub fn probes() -> Vec<Vec<u8>> {

@@ -55,6 +55,18 @@ fn octaves() -> String {
     (0..4).map(|marks| sharps(marks, ",", ",")).chain((1..5).map(|marks| sharps(marks, "'", "'"))).collect()
 }
 
+/// A note of each of the forty written values under the unit 1/8, the longest first.
+fn forty() -> String {
+    let note = |(i, step): (usize, char)| {
+        let (value, dots) = (i / 4, 3 - i % 4);
+        // In 1024ths of a whole note, of which the unit has 128: a power of 2 is all that they share.
+        let size: u32 = (4096 >> (value + dots)) * ((2 << dots) - 1);
+        let shared = size.trailing_zeros().min(7);
+        format!("{step}{}/{}", size >> shared, 128 >> shared)
+    };
+    STEPS.chars().cycle().take(40).enumerate().map(note).collect()
+}
+
 fn lyrics(bytes: usize) -> String {
     sized("X:1\nL:1/8\nK:D\n".into(), "ABcd efga|\nw: la la hal-le lu-jah oh day\nw: eins zwei drei vier fünf sechs sie-ben\nw: un deux trois _ * qua-tre\n", bytes)
 }
@@ -105,6 +117,8 @@ pub const TEXTS: &[Text] = &[
     Text { name: "lines", about: "short lines", longer: Some(lines), make: || one(lines(USUAL)) },
     Text { name: "letters", about: "one line of bare letters", longer: None, make: || one(repeated(head(""), "CDEFGABcdefgab") + "\n") },
     Text { name: "lengths", about: "notes with lengths", longer: None, make: || one(repeated(head(""), "A3/2B/c7/4d// e2f3/8g15/8a/4|") + "\n") },
+    Text { name: "values", about: "each of the forty written values", longer: None, make: || one(repeated(head(""), &(forty() + "|")) + "\n") },
+    Text { name: "odd", about: "lengths between two values, for which all forty are tried", longer: None, make: || one(repeated(head(""), "A5B9c5d9e5f9g5a9|") + "\n") },
     Text { name: "rests", about: "rests of each kind", longer: None, make: || one(repeated(head(""), "zz2x/z3/2 Zx4zX|") + "\n") },
     Text { name: "units", about: "L lines, each with a line of music", longer: None, make: || one(repeated(head(""), "L:1/16\nA2B|\nL:1/4\nc/d|\n")) },
     Text {

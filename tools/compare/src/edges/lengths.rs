@@ -96,9 +96,25 @@ pub fn outside_at_random(r: &mut Rng) -> [Vec<u8>; 2] {
     }
 }
 
-/// Any numbers; or a length close to one of the forty.
-fn value(r: &mut Rng) -> Vec<u8> {
-    let (unit, num, den) = if r.chance(40) {
+/// Numerators and denominators from 0 to this, over units from 1 to that: every such length.
+pub const MOST: u64 = 300;
+pub const UNITS: u64 = 64;
+
+/// How many texts have them all: one for each unit and numerator.
+pub fn small() -> u64 {
+    UNITS * (MOST + 1)
+}
+
+/// Text number i of these, with a note for each denominator.
+pub fn small_text(i: u64) -> Vec<u8> {
+    let (unit, num) = (1 + i / (MOST + 1), i % (MOST + 1));
+    let notes: String = (0..=MOST).map(|den| format!("A{num}/{den} ")).collect();
+    format!("L:1/{unit}\nK:C\n{notes}").into_bytes()
+}
+
+/// Any unit, numerator and denominator; or ones of a length close to one of the forty.
+fn numbers(r: &mut Rng) -> (u64, u64, u64) {
+    if r.chance(40) {
         (r.number(32), r.number(32), r.number(32))
     } else {
         // value × (2^(dots+1) − 1) / 2^dots = num / (den × unit), each side times the same
@@ -109,8 +125,30 @@ fn value(r: &mut Rng) -> Vec<u8> {
         let (num, den) = (size * den * unit / 1024 * scale, den * scale);
         let mut near = |n: u64| n.saturating_add(r.one(&[0, 0, 0, 1, 2])).saturating_sub(r.one(&[0, 0, 0, 1, 2])).min(u64::from(u32::MAX));
         (near(unit), near(num), near(den))
-    };
+    }
+}
+
+fn value(r: &mut Rng) -> Vec<u8> {
+    let (unit, num, den) = numbers(r);
     format!("L:1/{unit}\nK:C\nA{num}/{den}").into_bytes()
+}
+
+/// How many lengths a text of `several` has.
+pub const SEVERAL: u64 = 20;
+
+/// Lengths of the domain of equality, each under its own unit.
+pub fn several(r: &mut Rng) -> Vec<u8> {
+    let mut text = String::from("K:C\n");
+    for _ in 0..SEVERAL {
+        let (unit, num, den) = loop {
+            let (unit, num, den) = numbers(r);
+            if in_domain(unit as u32, den as u32) {
+                break (unit, num, den);
+            }
+        };
+        text += &format!("[L:1/{unit}]A{num}/{den}");
+    }
+    text.into_bytes()
 }
 
 /// A note of one of the forty values under L:1/1; the eleventh is a whole bar.

@@ -2,7 +2,7 @@
 use oracle::rng::Rng;
 
 mod fields;
-mod lengths;
+pub mod lengths;
 mod marks;
 mod notes;
 pub mod passes;

@@ -1,8 +1,8 @@
--- `token_lengths::size` meets its contract, by the tests at the forty values.
-use Rattle.token_lengths.proofs.Sizes.{shifted-pos, computed-lt, computed-size}
+-- `token_values::size` meets its contract, by the tests at the forty values.
+use Rattle.token_values.proofs.Sizes.{shifted-pos, computed-lt, computed-size}
 use borrow.Author.Needs.{needs}
-use Rattle.token_lengths.proofs.size.Statement.{statement}
-use Rattle.token_lengths.proofs.size.Tie as tie
+use Rattle.token_values.proofs.size.Statement.{statement}
+use Rattle.token_values.proofs.size.Tie as tie
 
 sub-result : tie.Need-sub-result
 sub-result c = shifted-pos (c .args .value) (c .args .dots) (c .pre .0) (c .pre .1)

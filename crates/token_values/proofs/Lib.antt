@@ -1,0 +1,4 @@
+pub mod Sizes
+pub mod Founds
+pub mod Frequent
+pub mod Searches
