@@ -1,21 +1,22 @@
 -- The search answers the same in every order that has each of the ten values: the longest of the forty that fits. So the search from the eighth answers what the
 -- search from the longa answers.
-use Prim.Native.Nat.{ℕ, zero, suc, _+_, _-_, _*_, _≤_, _<_}
+use Prim.Native.Nat.{ℕ, zero, suc, _+_, _*_, _≤_, _<_}
 use mathlib.Core.Path.{_≡_, refl, sym, ap, subst, _∙_}
-use mathlib.Core.Bool.{Bool, true, false, _&&_, _||_, false≢true}
+use mathlib.Core.Bool.{true, false, _||_, false≢true}
 use mathlib.Core.Option.{Option, none, some}
 use mathlib.Core.List.{List, [], _∷_}
 use native.Mathlib.Nat.{mul-zero, le-of-mul-le-mul-right}
 use native.Mathlib.Omega.{arith}
-use lib.Dec.{leb, ltb, eqb}
+use lib.Dec.{ltb, eqb}
 use lib.ListN.{getD, take, drop}
-use borrow.Author.Tests.{ltb-true, ltb-false, eqb-true, eqb-false}
+use borrow.Author.Tests.{ltb-true, ltb-false, eqb-true, eqb-false, eq-eqb}
 use Rattle.laws.specs.Lists.{all, any, allBelow}
-use Rattle.laws.proofs.Bools.{by-test, and-left, and-right}
-use Rattle.laws.proofs.Finite.{below₂}
+use Rattle.laws.proofs.Bools.{by-test, and-left, and-right, or-true}
+use Rattle.laws.proofs.Finite.{below}
+use Rattle.laws.proofs.Lists.{any-append}
 use Rattle.standard.specs.Lengths.{Fraction, lengthFraction, Value, ticks, tenValues}
 use Rattle.reader.specs.Lengths.{longa, writtenAs}
-use Rattle.reader.specs.Search.{longer, tried, inOrder, orQuarter, searchIn, fromLonga, outward, limitOf, fromEighth}
+use Rattle.reader.specs.Search.{longer, tried, dotsUp, inOrder, orQuarter, searchIn, fromLonga, outward, eachNearer, isUsual, eachOfTen, limitOf, fromEighth}
 use Rattle.reader.proofs.ValueLaws.{written, isWritten, is-written, isOne, one-range, written-fits, written-short, written-range, written-zero, written-nothing, one-size}
 
 -- A SEARCH for a / b 1024ths of a whole note, not 0/0
@@ -92,19 +93,34 @@ module _ (a b : ℕ) (some-length : a ≡ 0 → b ≡ 0 → ⊥) where
             (λ i. r .longest v d (rw i at m) f);
       }))))
 
--- AN ORDER of the ten values: each of them, and no other
-pub record Whole (order : List ℕ) : Type 0 where
-  pub ones : all isOne (inOrder order) ≡ true
-  pub each : allBelow 10 (λ v. allBelow 4 (λ d. any (isWritten v d) (inOrder order))) ≡ true
+-- AN ORDER that has each of the ten values, and no other: so with their dots each of the forty, and no other
+all-ones : (order : List ℕ) → all (λ v. ltb v 10) order ≡ true → all isOne (inOrder order) ≡ true
+unfolding inOrder
+all-ones [] e = refl
+all-ones (v ∷ vs) e =
+    let rest = all-ones vs (and-right (ltb v 10) (all (λ v. ltb v 10) vs) e) in
+    rw (and-left (ltb v 10) (all (λ v. ltb v 10) vs) e, rest)
+
+-- each number of dots
+with-dots : (v d : ℕ) → d < 4 → any (isWritten v d) (dotsUp v) ≡ true
+with-dots v d h = rw (eq-eqb v v refl) (below 4 (λ d. eqb 0 d || (eqb 1 d || (eqb 2 d || (eqb 3 d || false)))) refl d h)
+
+one-of : (v d : ℕ) (order : List ℕ) → d < 4 → any (eqb v) order ≡ true → any (isWritten v d) (inOrder order) ≡ true
+unfolding inOrder
+one-of v d [] h e = absurd (false≢true e)
+one-of v d (x ∷ xs) h e =
+    any-append (isWritten v d) (dotsUp x) (inOrder xs)
+    ∙ by-test (eqb v x) (λ q. rw (sym (eqb-true v x q), with-dots v d h)) (λ q. rw (one-of v d xs h (rw q at e), or-true))
 
 shortest : ticks (written 9 0) ≡ 8
 unfolding ticks
 shortest = refl
 
 -- EVERY ORDER gives the reader's written value, of every length but 0/0
-module _ (order : List ℕ) (w : Whole order) (f : Fraction) (not-both : 0 < f .over + f .under) where
+module _ (order : List ℕ) (each : eachOfTen order ≡ true) (f : Fraction) (not-both : 0 < f .over + f .under) where
   in-order : (v d : ℕ) → v < 10 → d < 4 → any (isWritten v d) (inOrder order) ≡ true
-  in-order v d hv hd = below₂ 10 4 (λ v d. any (isWritten v d) (inOrder order)) (w .each) v d hv hd
+  in-order v d hv hd =
+      one-of v d order hd (below 10 (λ v. any (eqb v) order) (and-right (all (λ v. ltb v 10) order) (allBelow 10 (λ v. any (eqb v) order)) each) v hv)
 
   abbrev some-length : f .over * 1024 ≡ 0 → f .under ≡ 0 → ⊥
   some-length p q = omega arith
@@ -124,22 +140,15 @@ module _ (order : List ℕ) (w : Whole order) (f : Fraction) (not-both : 0 < f .
 
   pub any-order : searchIn order f ≡ writtenAs f
   unfolding searchIn
-  any-order = decided _ (tried-all (f .over * 1024) (f .under) some-length (inOrder order) none (w .ones) tt)
-
-whole-outward : Whole outward
-unfolding inOrder
-whole-outward = record { ones = refl; each = refl }
-
-whole-ten : Whole tenValues
-unfolding inOrder tenValues
-whole-ten = record { ones = refl; each = refl }
+  any-order = decided _ (tried-all (f .over * 1024) (f .under) some-length (inOrder order) none
+      (all-ones order (and-left (all (λ v. ltb v 10) order) (allBelow 10 (λ v. any (eqb v) order)) each)) tt)
 
 -- 000's order, of every length: 0/0 meets the plain longa at once
 longa-at : (num parts : ℕ) → fromLonga (record { over = num; under = parts }) ≡ writtenAs (record { over = num; under = parts })
 unfolding fromLonga searchIn tried inOrder tenValues ticks writtenAs
 longa-at zero zero = refl
-longa-at (suc n) parts = any-order tenValues whole-ten (record { over = suc n; under = parts }) (omega arith)
-longa-at zero (suc p) = any-order tenValues whole-ten (record { over = zero; under = suc p }) (omega arith)
+longa-at (suc n) parts = any-order tenValues refl (record { over = suc n; under = parts }) (omega arith)
+longa-at zero (suc p) = any-order tenValues refl (record { over = zero; under = suc p }) (omega arith)
 
 pub longa-as-written : (f : Fraction) → fromLonga f ≡ writtenAs f
 longa-as-written f = longa-at (f .over) (f .under)
@@ -166,7 +175,7 @@ limit-none f e = go (f .over) (f .under) e
     go (suc n) (suc p) e = (omega arith, omega arith)
 
 pub outward-as-written : (f : Fraction) → 0 < f .over + f .under → searchIn outward f ≡ writtenAs f
-outward-as-written f = any-order outward whole-outward f
+outward-as-written f = any-order outward refl f
 
 pub eighth-as-written : (f : Fraction) → fromEighth f ≡ writtenAs f
 unfolding fromEighth
@@ -185,27 +194,11 @@ pub where-they-part : (fromLonga (record { over = 0; under = 0 }) ≡ longa) × 
 unfolding fromLonga searchIn tried inOrder tenValues ticks
 where-they-part = (refl, refl)
 
--- THE ORDER'S WORDS
--- "begin at the eighth and work outward, the longer of two equally far first": how many halvings or doublings a value is from the eighth
-abbrev far : ℕ → ℕ
-far v = (v - 5) + (5 - v)
-
--- v comes before w
-abbrev nearer : ℕ → ℕ → Bool
-nearer v w = ltb (far v) (far w) || (eqb (far v) (far w) && ltb v w)
-
-abbrev eachNearer : List ℕ → Bool
-eachNearer [] = true
-eachNearer (v ∷ []) = true
-eachNearer (v ∷ w ∷ vs) = nearer v w && eachNearer (w ∷ vs)
-
+-- THE ORDER'S WORDS: "begin at the eighth and work outward, the longer of two equally far first"
 pub outward-from-eighth : (getD outward 0 0 ≡ 5) × (eachNearer outward ≡ true)
 outward-from-eighth = (refl, refl)
 
--- "so that the sixteen values from a half to a sixteenth are tried before all others": 3 is a half, 6 a sixteenth
-abbrev pub isUsual : Value → Bool
-isUsual w = leb 3 (w .value) && leb (w .value) 6
-
+-- "so that the sixteen values from a half to a sixteenth are tried before all others"
 pub usual-first : (all isUsual (take 16 (inOrder outward)) ≡ true) × (any isUsual (drop 16 (inOrder outward)) ≡ false)
 unfolding inOrder
 usual-first = (refl, refl)

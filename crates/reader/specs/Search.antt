@@ -1,11 +1,11 @@
 -- THE SEARCH for the written value of a length through the forty in an order, and the order in which the reader tries them (document 02, T-05). What it answers is
 -- `writtenAs`, in whatever order (`any-order`), but for 0/0.
-use Prim.Native.Nat.{ℕ, zero, suc, _*_}
-use mathlib.Core.Bool.{true, false, cond}
+use Prim.Native.Nat.{ℕ, zero, suc, _+_, _-_, _*_}
+use mathlib.Core.Bool.{Bool, true, false, cond, _&&_, _||_}
 use mathlib.Core.Option.{Option, none, some}
 use mathlib.Core.List.{List, [], _∷_, map}
-use lib.Dec.{ltb, eqb}
-use Rattle.laws.specs.Lists.{concat}
+use lib.Dec.{leb, ltb, eqb}
+use Rattle.laws.specs.Lists.{all, any, allBelow, concat}
 use Rattle.standard.specs.Lengths.{Fraction, Value, ticks, tenValues}
 use Rattle.reader.specs.Lengths.{quarterNote, longa}
 
@@ -47,6 +47,26 @@ fromLonga f = searchIn tenValues f
 -- "Let it begin at the eighth and work outward, the longer of two equally far first"
 abbrev pub outward : List ℕ
 outward = 5 ∷ 4 ∷ 6 ∷ 3 ∷ 7 ∷ 2 ∷ 8 ∷ 1 ∷ 9 ∷ 0 ∷ []
+
+-- those words as tests of an order: how many halvings or doublings a value is from the eighth; which of two comes first; each before the next
+abbrev pub far : ℕ → ℕ
+far v = (v - 5) + (5 - v)
+
+abbrev pub nearer : ℕ → ℕ → Bool
+nearer v w = ltb (far v) (far w) || (eqb (far v) (far w) && ltb v w)
+
+abbrev pub eachNearer : List ℕ → Bool
+eachNearer [] = true
+eachNearer (v ∷ []) = true
+eachNearer (v ∷ w ∷ vs) = nearer v w && eachNearer (w ∷ vs)
+
+-- "the sixteen values from a half to a sixteenth": 3 is a half, 6 a sixteenth
+abbrev pub isUsual : Value → Bool
+isUsual w = leb 3 (w .value) && leb (w .value) 6
+
+-- an order has each of the ten values, and no other
+abbrev pub eachOfTen : List ℕ → Bool
+eachOfTen order = all (λ v. ltb v 10) order && allBelow 10 (λ v. any (eqb v) order)
 
 -- what no search decides: "Denominator 0 gives longa with 3 dots, 0/0 plain longa", and a length of 0 is below every value, "none gives a plain quarter".
 -- 0/0 meets every value, so a search would answer the one that it begins with

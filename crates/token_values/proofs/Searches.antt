@@ -34,16 +34,16 @@ all-stand : (k d : ℕ) → k < 10 → d < 4 → stands k d ≡ true
 unfolding stands inOrder
 all-stand k d hk hd = below₂ 10 4 stands refl k d hk hd
 
-length-forty : length (inOrder outward) ≡ 40
+in-order-length : length (inOrder outward) ≡ 40
 unfolding inOrder
-length-forty = refl
+in-order-length = refl
 
 front : (k d : ℕ) → k < 10 → d < 4 → drop (4 * k + d) (inOrder outward) ≡ written (nth k) d ∷ drop (4 * k + (d + 1)) (inOrder outward)
 unfolding stands
 front k d hk hd =
     let next : 4 * k + (d + 1) ≡ 4 * k + d + 1 = omega arith in
     let there = is-written (nth k) d (getD (inOrder outward) (4 * k + d) longa) (all-stand k d hk hd) in
-    rw next (drop-next (inOrder outward) (4 * k + d) longa (omega (arith, length-forty)) ∙ ap (λ (w : Value). w ∷ drop (4 * k + d + 1) (inOrder outward)) there)
+    rw next (drop-next (inOrder outward) (4 * k + d) longa (omega (arith, in-order-length)) ∙ ap (λ (w : Value). w ∷ drop (4 * k + d + 1) (inOrder outward)) there)
 
 -- HOW MANY FIT: are not above a / b 1024ths of a whole note
 module _ (a b : ℕ) where
@@ -107,7 +107,7 @@ counting-start a b = record { same = zero-add (fits a b (inOrder outward)) }
 
 module _ (a b i n : ℕ) (r : Counting a b i n) where
   pub count-le : n ≤ 40
-  count-le = omega (arith, r .same, fits-le a b (inOrder outward), length-forty)
+  count-le = omega (arith, r .same, fits-le a b (inOrder outward), in-order-length)
 
   -- all are tried
   pub count-over : i ≡ 40 → n ≡ fits a b (inOrder outward)

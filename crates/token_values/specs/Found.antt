@@ -19,9 +19,9 @@ foundAs none = found.Nothing
 foundAs (some w) = found.Value (w .value) (w .dots)
 
 -- the first of the values that is exactly a / b 1024ths of a whole note
-unfoldable pub firstMet : List Value → ℕ → ℕ → Option Value
-firstMet [] a b = none
-firstMet (w ∷ ws) a b = elim (eqb (ticks w * b) a) [ true ↦ some w | false ↦ firstMet ws a b ]
+unfoldable pub firstExact : List Value → ℕ → ℕ → Option Value
+firstExact [] a b = none
+firstExact (w ∷ ws) a b = elim (eqb (ticks w * b) a) [ true ↦ some w | false ↦ firstExact ws a b ]
 
 -- the most frequent of the values from a half to a sixteenth: eighth, quarter, sixteenth, half, dotted eighth, dotted quarter
 abbrev pub frequent : List Value
@@ -29,4 +29,4 @@ frequent = written 5 0 ∷ written 4 0 ∷ written 6 0 ∷ written 3 0 ∷ writt
 
 -- one of them, where the length is it
 unfoldable pub frequentOf : Fraction → Option Value
-frequentOf f = firstMet frequent (f .over * 1024) (f .under)
+frequentOf f = firstExact frequent (f .over * 1024) (f .under)
