@@ -17,7 +17,7 @@ extern "C" {
 /* The version of this header, 1,000,000 * major + 1,000 * minor + patch. abc_version answers that of the linked library: where the two are unlike, one of them is
  * stale. The version changes with what the calls promise; the commit to put under a quote is the repository's (in Rust, sindvaelo::COMMIT). */
 #define ABC_VERSION_MAJOR 0
-#define ABC_VERSION_MINOR 5
+#define ABC_VERSION_MINOR 6
 #define ABC_VERSION_PATCH 0
 #define ABC_VERSION ((uint64_t)(1000000 * ABC_VERSION_MAJOR + 1000 * ABC_VERSION_MINOR + ABC_VERSION_PATCH))
 uint64_t abc_version(void);
@@ -39,7 +39,7 @@ uint64_t abc_version(void);
 uint64_t abc_parse(const uint8_t *text, size_t text_len, uint8_t *reading, size_t reading_len, uint8_t *scratch, size_t scratch_len);
 
 /* THE SECOND EDITION. The same, but by ABC 2.1 in this: the header's key holds for every voice; modes are read (K:Ador), and a key of more than seven sharps or flats is refused with
- * ABC_KEY_BEYOND; tuplets of 5, 7 and 9 go in the time of 3 where the meter's top is divisible by 3, else 2, 6 goes in 2 and 8 in 3; an empty part behind a : of a tuplet takes its default; two or more slashes
+ * ABC_KEY_BEYOND; tuplets of 5, 7 and 9 go in the time of 3 in 6/8, 9/8 and 12/8, in all other meters of 2, 6 goes in 2 and 8 in 3; an empty part behind a : of a tuplet takes its default; two or more slashes
  * in a row behind a note, a chord or a rest halve its length once each, whatever digits stand behind them, so that A// is a quarter of the unit, and more than 31 are refused with ABC_MANY_SLASHES; grace notes take
  * no syllable; a | in a lyric line, as a word of its own, goes on to the first note of a later measure, and where there is none the rest of that line lapses. The key mark is 2 for min, aeo and m, 1 for every other mode.
  * Stores, answers and limits are abc_parse's, and so are its other refusals. */

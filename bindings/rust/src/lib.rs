@@ -81,7 +81,7 @@ pub enum Edition {
     Abc21,
 }
 
-/// The crate's version, as in `0.5.0`.
+/// The crate's version, as in `0.6.0`.
 pub const VERSION: &str = env!("CARGO_PKG_VERSION");
 
 /// The commit that this crate and its library were built from, for a quote to bear: `-dirty` behind it where sources differed from that commit, `-stale`

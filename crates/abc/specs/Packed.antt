@@ -27,4 +27,4 @@ Short (refused n l) = Unit {0}
 
 -- the version of what the calls promise: 1,000,000 × major + 1,000 × minor + patch (include/abc.h, bindings/rust)
 abbrev pub version : ℕ
-version = 5000
+version = 6000

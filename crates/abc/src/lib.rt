@@ -74,5 +74,5 @@ pub extern "C" fn abc_is_whole(reading: &[u8]) -> bool
 pub extern "C" fn abc_version() -> u64
     ensures { λ r. ⌜ r ≡ version ⌝ }
 {
-    5000
+    6000
 }

@@ -148,9 +148,9 @@ unfolding all
 tune-parts First = refl
 tune-parts Second = refl
 
--- WHAT THE SECOND EDITION READS OTHERWISE, in blocks that move: a mode in the header, which holds for both voices, and inline; `(5` and `(7`; slashes; graces; lyric bars
+-- WHAT THE SECOND EDITION READS OTHERWISE, in blocks that move: a mode in the header, which holds for both voices, and inline; `(5` and `(7` in 9/8, so in the time of 3; slashes; graces; lyric bars
 abbrev modal : List ℕ
-modal = ascii "V:1\nV:2\nM:3/4\nK:Edor\nV:1\n(5ABcde|{f}g//|a\nw: one | two | three\nV:2 % low\n[K:G mix]{A}B c///|(7DEFGABc|d\nw: oh hm | _ ah\nV:1\nA{B}c|d|]\nw: | last\n"
+modal = ascii "V:1\nV:2\nM:9/8\nK:Edor\nV:1\n(5ABcde|{f}g//|a\nw: one | two | three\nV:2 % low\n[K:G mix]{A}B c///|(7DEFGABc|d\nw: oh hm | _ ah\nV:1\nA{B}c|d|]\nw: | last\n"
 
 abbrev high : List TextLine
 high = ascii "V:1\n" ∷ ascii "(5ABcde|{f}g//|a\n" ∷ ascii "w: one | two | three\n" ∷ []
@@ -173,10 +173,10 @@ modal-meant Second = meant-test Second 2 modal 1000 14000 tt refl refl refl refl
 
 -- voice 2's block first, or last
 abbrev modal-low-first : List ℕ
-modal-low-first = ascii "V:1\nV:2\nM:3/4\nK:Edor\nV:2 % low\n[K:G mix]{A}B c///|(7DEFGABc|d\nw: oh hm | _ ah\nV:1\n(5ABcde|{f}g//|a\nw: one | two | three\nV:1\nA{B}c|d|]\nw: | last\n"
+modal-low-first = ascii "V:1\nV:2\nM:9/8\nK:Edor\nV:2 % low\n[K:G mix]{A}B c///|(7DEFGABc|d\nw: oh hm | _ ah\nV:1\n(5ABcde|{f}g//|a\nw: one | two | three\nV:1\nA{B}c|d|]\nw: | last\n"
 
 abbrev modal-low-last : List ℕ
-modal-low-last = ascii "V:1\nV:2\nM:3/4\nK:Edor\nV:1\n(5ABcde|{f}g//|a\nw: one | two | three\nV:1\nA{B}c|d|]\nw: | last\nV:2 % low\n[K:G mix]{A}B c///|(7DEFGABc|d\nw: oh hm | _ ah\n"
+modal-low-last = ascii "V:1\nV:2\nM:9/8\nK:Edor\nV:1\n(5ABcde|{f}g//|a\nw: one | two | three\nV:1\nA{B}c|d|]\nw: | last\nV:2 % low\n[K:G mix]{A}B c///|(7DEFGABc|d\nw: oh hm | _ ah\n"
 
 low-first : (ed : Edition) → Swaps (reader ed) (high ∷ low ∷ closing ∷ []) (low ∷ high ∷ closing ∷ [])
 unfolding all
@@ -201,34 +201,34 @@ pub low-last-same : (ed : Edition) → parseAbc ed modal-low-last 1000 14000 ≡
 low-last-same ed = exchange ed modal 1000 14000 (modal-meant ed) (high ∷ low ∷ closing ∷ []) (high ∷ closing ∷ low ∷ []) modal-blocks (low-last ed) modal-low-last low-last-text
 
 -- each voice's part without the other's blocks
-high-text : (ed : Edition) → onlyPart ed modal 0 ≡ ascii "V:1\nV:2\nM:3/4\nK:Edor\nV:1\n(5ABcde|{f}g//|a\nw: one | two | three\nV:1\nA{B}c|d|]\nw: | last\n"
+high-text : (ed : Edition) → onlyPart ed modal 0 ≡ ascii "V:1\nV:2\nM:9/8\nK:Edor\nV:1\n(5ABcde|{f}g//|a\nw: one | two | three\nV:1\nA{B}c|d|]\nw: | last\n"
 unfolding all
 high-text First = refl
 high-text Second = refl
 
-high-read : (ed : Edition) → Accepted (parseAbc ed (ascii "V:1\nV:2\nM:3/4\nK:Edor\nV:1\n(5ABcde|{f}g//|a\nw: one | two | three\nV:1\nA{B}c|d|]\nw: | last\n") 900 13000)
+high-read : (ed : Edition) → Accepted (parseAbc ed (ascii "V:1\nV:2\nM:9/8\nK:Edor\nV:1\n(5ABcde|{f}g//|a\nw: one | two | three\nV:1\nA{B}c|d|]\nw: | last\n") 900 13000)
 unfolding all
 high-read First = tt
 high-read Second = tt
 
 pub high-alone :
     (ed : Edition) → partIn (parseAbc ed modal 1000 14000 .verdict) 0
-    ≡ partIn (parseAbc ed (ascii "V:1\nV:2\nM:3/4\nK:Edor\nV:1\n(5ABcde|{f}g//|a\nw: one | two | three\nV:1\nA{B}c|d|]\nw: | last\n") 900 13000 .verdict) 0
+    ≡ partIn (parseAbc ed (ascii "V:1\nV:2\nM:9/8\nK:Edor\nV:1\n(5ABcde|{f}g//|a\nw: one | two | three\nV:1\nA{B}c|d|]\nw: | last\n") 900 13000 .verdict) 0
 high-alone ed = lone ed modal 1000 14000 (modal-meant ed) 0 _ (high-text ed) 900 13000 (high-read ed)
 
-low-text : (ed : Edition) → onlyPart ed modal 1 ≡ ascii "V:1\nV:2\nM:3/4\nK:Edor\nV:2 % low\n[K:G mix]{A}B c///|(7DEFGABc|d\nw: oh hm | _ ah\n"
+low-text : (ed : Edition) → onlyPart ed modal 1 ≡ ascii "V:1\nV:2\nM:9/8\nK:Edor\nV:2 % low\n[K:G mix]{A}B c///|(7DEFGABc|d\nw: oh hm | _ ah\n"
 unfolding all
 low-text First = refl
 low-text Second = refl
 
-low-read : (ed : Edition) → Accepted (parseAbc ed (ascii "V:1\nV:2\nM:3/4\nK:Edor\nV:2 % low\n[K:G mix]{A}B c///|(7DEFGABc|d\nw: oh hm | _ ah\n") 900 13000)
+low-read : (ed : Edition) → Accepted (parseAbc ed (ascii "V:1\nV:2\nM:9/8\nK:Edor\nV:2 % low\n[K:G mix]{A}B c///|(7DEFGABc|d\nw: oh hm | _ ah\n") 900 13000)
 unfolding all
 low-read First = tt
 low-read Second = tt
 
 pub low-alone :
     (ed : Edition) → partIn (parseAbc ed modal 1000 14000 .verdict) 1
-    ≡ partIn (parseAbc ed (ascii "V:1\nV:2\nM:3/4\nK:Edor\nV:2 % low\n[K:G mix]{A}B c///|(7DEFGABc|d\nw: oh hm | _ ah\n") 900 13000 .verdict) 1
+    ≡ partIn (parseAbc ed (ascii "V:1\nV:2\nM:9/8\nK:Edor\nV:2 % low\n[K:G mix]{A}B c///|(7DEFGABc|d\nw: oh hm | _ ah\n") 900 13000 .verdict) 1
 low-alone ed = lone ed modal 1000 14000 (modal-meant ed) 1 _ (low-text ed) 900 13000 (low-read ed)
 
 -- what the parts are, each text read by itself: how a pitch is altered (128 added), the normal of each note's tuplet, each note's value, and each syllable with its note and its extend

@@ -1,5 +1,5 @@
 -- The numbers of a part are in their ranges, while it is read and when it is finished.
-use Prim.Native.Nat.{ℕ, zero, suc, _+_, _<_, _%_}
+use Prim.Native.Nat.{ℕ, zero, suc, _+_, _<_}
 use mathlib.Core.Path.{_≡_, refl, ap}
 use mathlib.Core.Bool.{Bool, true, false, cond, _&&_}
 use mathlib.Core.Option.{Option, none, some}
@@ -15,7 +15,7 @@ use Rattle.standard.specs.Fields.{Meter}
 use Rattle.standard.specs.Bars.{Barline, normal, repeatStart, repeatEnd, repeatBoth, double, final}
 use Rattle.standard.specs.Lengths.{dotted, halved}
 use Rattle.standard.specs.Pitches.{Accidental, Written, Pitch, altered}
-use Rattle.standard.specs.Tuplets.{boundary}
+use Rattle.standard.specs.Tuplets.{compound, normalIn, boundary}
 use Rattle.standard.specs.Notes
 use Rattle.standard.specs.Notes.{NoteKind, Beam, Behind, isSounded}
 use Rattle.standard.specs.Lyrics.{nextVerse}
@@ -28,7 +28,7 @@ use Rattle.reader.specs.Barlines.{leftOf}
 use Rattle.reader.specs.Scan.{Item, voiceDeclared, reset, keyInHeader, keyChange, meterChange, lyricLine, musicLine}
 use Rattle.reader.specs.State.{PartState, Note, Measure, Half, Running, Verses, withBeam, withVoices, withRight, withLeft, withMeter, withKeyMark, withVolta, Volta, voltaBegins, onOpen, isEmpty, voiceIn, voiceNow, setVoice, newMeasure, newPart, newLine, noScopes}
 use Rattle.reader.specs.Voltas.{starts, endsAt, close, closed}
-use Rattle.reader.specs.Part.{halvedNote, brokenNote, onBroken, afterHalf, canBeam, beamed, beamedAgain, onNothing, groupIn, grouped, oneFewer, countedIn, append, restNote, soundNote, onSound, leftSet, ended, onBarline, hears, onToken, opened, lineBegins, onLine, onLyric, onKey, onItem, dropped, inOrder, markedBy, marked, finished, normalIn, inMeter, finishedMeasures}
+use Rattle.reader.specs.Part.{halvedNote, brokenNote, onBroken, afterHalf, canBeam, beamed, beamedAgain, onNothing, groupIn, grouped, oneFewer, countedIn, append, restNote, soundNote, onSound, leftSet, ended, onBarline, hears, onToken, opened, lineBegins, onLine, onLyric, onKey, onItem, dropped, inOrder, markedBy, marked, finished, inMeter, finishedMeasures}
 use Rattle.reader.proofs.ValueLaws.{value-range}
 use Rattle.bounds.specs.Ranges.{MeterFits, PassesFit, SignFits, WrittenFits, PitchFits, TokenFits, NoteFits, MeasureFits, VoltaOpen, OpenFits, RunningFits, VerseFits, StateFits, ItemFits, VoltasClosed}
 use Rattle.bounds.proofs.TokenRanges.{tokens-fit}
@@ -283,7 +283,7 @@ no-scopes-fit = (tt, (tt, (tt, (tt, tt))))
 -- a default that waits for the meter is 3 or 2
 normal-in-fits : (m : Meter) (q : ℕ) → q < 256 → normalIn m q < 256
 unfolding normalIn
-normal-in-fits m zero h = by-test (eqb (m .0 % 3) 0) (λ e. rw e (lit< tt)) (λ e. rw e (lit< tt))
+normal-in-fits m zero h = by-test (compound m) (λ e. rw e (lit< tt)) (λ e. rw e (lit< tt))
 normal-in-fits m (suc q) h = h
 
 -- ANY TOKEN

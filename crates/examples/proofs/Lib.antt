@@ -2,6 +2,7 @@ pub mod Bars
 pub mod Tunes
 pub mod Refusals
 pub mod SecondEdition
+pub mod CompoundMeters
 pub mod WrittenValues
 pub mod Slashes
 pub mod SecondTunes

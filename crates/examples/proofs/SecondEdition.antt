@@ -1,4 +1,4 @@
--- THE SECOND EDITION BESIDE THE FIRST (document 02, T-03): keys, tuplets, lyrics and the header key's reach, each in one table of texts with what the first edition reads and what the second does.
+-- THE SECOND EDITION BESIDE THE FIRST (document 02, T-03 and T-06): keys, tuplets, lyrics and the header key's reach, each in one table of texts with what the first edition reads and what the second does.
 use Prim.Native.Nat.{ℕ}
 use Prim.Native.String.{String}
 use mathlib.Core.Path.{_≡_, refl}
@@ -149,8 +149,8 @@ tuplets =
     ∷ row "M:6/8\nK:C\n(8A" (8 ∷ 7 ∷ 1 ∷ []) (8 ∷ 3 ∷ 1 ∷ [])
     ∷ row "M:6/8\nK:C\n(9A" (9 ∷ 8 ∷ 1 ∷ []) (9 ∷ 3 ∷ 1 ∷ [])
     ∷ row "M:6/8\nK:C\n(10A" (10 ∷ 9 ∷ 1 ∷ []) (10 ∷ 9 ∷ 1 ∷ [])
-    ∷ row "M:3/4\nK:C\n(5A" (5 ∷ 4 ∷ 1 ∷ []) (5 ∷ 3 ∷ 1 ∷ [])
-    ∷ row "M:0/4\nK:C\n(5A" (5 ∷ 4 ∷ 1 ∷ []) (5 ∷ 3 ∷ 1 ∷ [])
+    ∷ row "M:3/4\nK:C\n(5A" (5 ∷ 4 ∷ 1 ∷ []) (5 ∷ 2 ∷ 1 ∷ [])
+    ∷ row "M:0/4\nK:C\n(5A" (5 ∷ 4 ∷ 1 ∷ []) (5 ∷ 2 ∷ 1 ∷ [])
     ∷ row "M:9/8\nK:C\n(7A" (7 ∷ 6 ∷ 1 ∷ []) (7 ∷ 3 ∷ 1 ∷ [])
     ∷ row "M:C|\nK:C\n(9A" (9 ∷ 8 ∷ 1 ∷ []) (9 ∷ 2 ∷ 1 ∷ [])
     ∷ row "M:6/8\nK:C\n[M:2/2](5A" (5 ∷ 4 ∷ 1 ∷ []) (5 ∷ 2 ∷ 1 ∷ [])

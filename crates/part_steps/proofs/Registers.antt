@@ -4,6 +4,7 @@ use mathlib.Core.Path.{_≡_, refl, ap, _∙_}
 use mathlib.Core.Bool.{true, false}
 use mathlib.Core.Option.{some}
 use mathlib.Core.List.{List}
+use Rattle.standard.specs.Tuplets.{normalIn}
 use Rattle.standard.specs.Notes as Notes
 use Rattle.standard.specs.Notes.{nextVoice, slurOpens, graceOpens, graceCloses}
 use Rattle.reader.specs.Token as token
@@ -20,7 +21,7 @@ use Rattle.part_registers.specs.declared.Registers.{Registers}
 use Rattle.part_registers.specs.States.{pendingFor, runningFor, lineFor}
 use Rattle.part_invariant.specs.Invariant.{Simulates}
 use Rattle.part_bars.proofs.Heads.{grows-none}
-use Rattle.reader.specs.Part.{normalIn, inMeter}
+use Rattle.reader.specs.Part.{inMeter}
 
 abbrev lined : Registers → Line → Running → Registers
 lined r line group =
@@ -94,12 +95,12 @@ module _ (r : Registers) (t : Tables) (s : List ℕ) where
       (λ n. refl) (λ n e d. d)
 
   -- the meter of the line decides a default that waits for it
-  pub tuplet-simulates : (actual normal count there : ℕ) → ((bottom : ℕ) → there ≡ normalIn (r .line .top, bottom) normal)
+  pub tuplet-simulates : (actual normal count there : ℕ) → there ≡ normalIn (r .line .top, r .line .bottom) normal
       → Simulates t s r s (lined r (r .line) (running.Tuplet actual there count count)) 0 0 0 0 (λ l. onToken l (token.tuplet (record { actual = actual; normal = normal; count = count })))
   unfolding onToken inMeter
   tuplet-simulates actual normal count there k =
       lined-simulates _ _ (λ n. withTuplet (some (record { tuplet = inMeter (n .meter) (record { actual = actual; normal = normal; count = count }); remaining = count })) n) (λ n e. e) (λ n. refl)
-      (λ n e d. ap (λ (q : ℕ). running.Tuplet actual q count count) (k (n .meter .1) ∙ ap (λ (x : Line). normalIn (x .top, n .meter .1) normal) e))
+      (λ n e d. ap (λ (q : ℕ). running.Tuplet actual q count count) (k ∙ ap (λ (x : Line). normalIn (x .top, x .bottom) normal) e))
 
   pub unit-simulates : (unit : ℕ) → Simulates t s r s (lined r (record { unit = unit; top = r .line .top; bottom = r .line .bottom; overlay = r .line .overlay; run = r .line .run }) (r .group .running)) 0 0 0 0 (λ l. onToken l (token.unit unit))
   unfolding onToken

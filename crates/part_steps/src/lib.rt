@@ -4,8 +4,8 @@ ghost use mathlib.Core.List.{List, []};
 ghost use Prim.Native.Nat.{ℕ, _≤_};
 ghost use lib.ListN.{length};
 ghost use Rattle.standard.specs.Notes.{nextVoice};
+ghost use Rattle.standard.specs.Tuplets.{compound, normalIn};
 ghost use Rattle.reader.specs.Token as token;
-ghost use Rattle.reader.specs.Part.{normalIn};
 ghost use Rattle.field_keys.specs.Passed.{keyAs};
 ghost use Rattle.part_layout.specs.Log.{onToken, lineBegins};
 ghost use Rattle.part_invariant.specs.Invariant.{Room, RepresentedInLine, Simulates};
@@ -49,14 +49,24 @@ pub fn on_overlay(r: Registers) -> Registers
     x
 }
 
-// The normal number of a tuplet under a meter with this top number: "of 5, 7 and 9 in the time of 3 where the meter's top is divisible by 3, else 2".
-fn normal_in(top: u8, normal: u8) -> u8
-    ensures { λ r. ⌜ ((bottom : ℕ) → r ≡ normalIn (top, bottom) normal) ⌝ }
+// 6/8, 9/8 and 12/8, and no other meter.
+fn is_compound(top: u8, bottom: u8) -> bool
+    ensures { λ r. ⌜ r ≡ compound (top, bottom) ⌝ }
+{
+    match top {
+        6 | 9 | 12 => bottom == 8,
+        _ => false,
+    }
+}
+
+// The normal number of a tuplet under a meter: one that the meter decides is 3 in a compound one, else 2.
+fn normal_in(top: u8, bottom: u8, normal: u8) -> u8
+    ensures { λ r. ⌜ r ≡ normalIn (top, bottom) normal ⌝ }
 {
     if normal != token_symbols::BY_METER {
         return normal;
     }
-    if top % 3 == 0 { 3 } else { 2 }
+    if is_compound(top, bottom) { 3 } else { 2 }
 }
 
 // A tuplet, all of whose notes are to come.
@@ -66,7 +76,7 @@ pub fn on_tuplet(r: Registers, actual: u8, normal: u8, count: u64) -> Registers
     let line = r.line;
     let running = Running::Tuplet {
         actual,
-        normal: normal_in(line.top, normal),
+        normal: normal_in(line.top, line.bottom, normal),
         count,
         remaining: count,
     };

@@ -12,7 +12,7 @@ use borrow.Author.Tests.{eqb-true}
 use Rattle.laws.specs.Lists.{All, all, countWhile, eqText, filter, isNil}
 use Rattle.laws.proofs.Bools.{by-test, both-true, and-left, and-right, and-both, and-no-right, or-no-left, or-no-right, not-true}
 use Rattle.standard.specs.Bytes.{ascii, is, isDigit, isCapital, first, last, decimal}
-use Rattle.standard.specs.Tuplets.{usualNormal}
+use Rattle.standard.specs.Tuplets.{Tuplet, usualNormal, defaultNormal, normalIn}
 use Rattle.standard.specs.Notes as notes
 use Rattle.standard.specs.Notes.{NoteKind}
 use Rattle.standard.specs.Lyrics as lyric-words
@@ -26,11 +26,13 @@ use Rattle.reader.specs.Fields.{meterOf, unitOf, unitInline, identifier}
 use Rattle.reader.specs.Lengths.{Length, lengthOf}
 use Rattle.reader.specs.Pitches.{chordOf}
 use Rattle.reader.specs.Token.{Taken, taken, tuplet}
-use Rattle.reader.specs.Tuplets.{normalFor, tupletOf}
+use Rattle.reader.specs.Tuplets.{orOneLess, normalFor, tupletOf}
 use Rattle.reader.specs.Sounds.{chordTaken, chordAt, restAs}
 use Rattle.reader.specs.Tokens.{tokenOf}
 use Rattle.reader.specs.Lines.{isField}
 use Rattle.reader.specs.Lyrics.{wordOf, orSkip}
+use Rattle.reader.specs.State.{PartState}
+use Rattle.reader.specs.Part.{inMeter, onToken}
 use Rattle.reader.specs.All.{all as everything}
 use Rattle.reader.proofs.Digits.{digit-not}
 use Rattle.reader.proofs.Standard.{meter-meets, unit-meets, unit-inline-meets, normal-meets, tuplet-meets}
@@ -173,6 +175,21 @@ tuplet-text-meets ed t s a b c (actual-normal-count d e f q x y v) la ha lb hb l
     ∙ ap (tupletOf ed) g
     ∙ tuplet-meets ed d e f s (x .some-digit) (y .some-digit) (v .some-digit) (x .all-digits) (y .all-digits) (v .all-digits) (omega (arith, la, x .says)) (omega (arith, ha, x .says)) (omega (arith, lb, y .says)) (omega (arith, hb, y .says)) (omega (arith, lc, v .says)) (omega (arith, hc, v .says)) z
     ∙ (λ i. some (taken (tuplet (record { actual = x .says i; normal = y .says i; count = v .says i })) (n i)))
+
+-- the second edition: `(p` with no q, for p from 2 to 9, starts p notes in the time of the standard's default, under the meter in force in whatever part
+pub default-text-meets : (t s : List ℕ) (p q : ℕ) → Number t p → 2 ≤ p → p ≤ 9 → defaultNormal p ≡ some q → countWhile isDigit s ≡ 0 → is ":" (first s) ≡ false
+    → (x : Tuplet) × ((tupletOf Second (t ++ s) ≡ some (taken (tuplet x) (1 + length t)))
+    × ((l : PartState) → onToken l (tuplet x) .line .tuplet ≡ some (record { tuplet = record { actual = p; normal = normalIn (l .line .meter) q; count = p }; remaining = p })))
+unfolding normalFor orOneLess onToken inMeter
+default-text-meets t s p q x low high d z w = (
+  record { actual = p; normal = q; count = p },
+  (
+    tuplet-p-meets Second t s (x .some-digit) (x .all-digits) (omega (arith, low, x .says)) (omega (arith, high, x .says)) z w
+        ∙ (λ i. tupletAs (x .says i) (normalFor Second (x .says i)) (x .says i) (length t))
+        ∙ ap (λ (k : ℕ). tupletAs p k p (length t)) (let e : normalFor Second p ≡ q = rw d in e),
+    λ l. refl,
+  ),
+)
 
 -- CHORDS (4.17): one note with the length behind the `]`
 pub chord-text-meets : (ed : Edition) (s inside behind : List ℕ) → ChordText s inside behind → chordAt ed s ≡ chordTaken ed (2 + length inside) behind (chordOf 0 none s)

@@ -1,5 +1,5 @@
 -- ONE PART FROM ITS OWN ITEMS: the fold of tokens and items into measures (document 01, "Rules behind the records"; 000, parse_body_line).
-use Prim.Native.Nat.{ℕ, zero, suc, _+_, _-_, _%_}
+use Prim.Native.Nat.{ℕ, zero, suc, _+_, _-_}
 use mathlib.Core.Bool.{Bool, true, false, cond, not, _&&_, _||_}
 use mathlib.Core.Option.{Option, none, some}
 use mathlib.Core.List.{List, [], _∷_, _++_, map, reverse}
@@ -9,7 +9,7 @@ use Rattle.laws.specs.Lists.{foldl, alterAt, onFirst}
 use Rattle.standard.specs.Lengths.{Value, dotted, halved}
 use Rattle.standard.specs.Keys.{Key, plainKey, voiceKey}
 use Rattle.standard.specs.Pitches.{Written, Pitch}
-use Rattle.standard.specs.Tuplets.{Tuplet, boundary}
+use Rattle.standard.specs.Tuplets.{Tuplet, normalIn, boundary}
 use Rattle.standard.specs.Bars.{Barline, normal, repeatStart, repeatEnd, repeatBoth, double, final}
 use Rattle.standard.specs.Notes
 use Rattle.standard.specs.Notes.{NoteKind, isSounded, Beam, beamable, Flags, Behind, Pending, nothingPending, flagsOf, pendingAfter, slurOpens, graceOpens, graceCloses, nextVoice}
@@ -77,12 +77,7 @@ unfoldable pub onNothing : List Note → PartState → PartState
 onNothing [] s = setLine (withRun 0 (s .line)) s
 onNothing (n ∷ ns) s = setLine (withRun (runAfter (s .line .run) n) (s .line)) (setVoice (beamedAgain (s .line .run) n ∷ ns) s)
 
--- TUPLETS (ABC 2.1, 4.13; 000, apply_abc_tuplet). "tuplets of 5, 7 and 9 go in the time of 3 where the meter's top is divisible by 3, else 2" (document 02, T-03):
--- the meter in force decides a default that waits for it
-unfoldable pub normalIn : Meter → ℕ → ℕ
-normalIn m zero = cond (eqb (m .0 % 3) 0) 3 2
-normalIn m (suc q) = suc q
-
+-- TUPLETS (ABC 2.1, 4.13; 000, apply_abc_tuplet). A tuplet under the meter in force where it is written
 unfoldable pub inMeter : Meter → Tuplet → Tuplet
 inMeter m t = record { actual = t .actual; normal = normalIn m (t .normal); count = t .count }
 

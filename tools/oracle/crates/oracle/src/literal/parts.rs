@@ -363,7 +363,8 @@ fn default_normal(actual: u8, meter: Meter, edition: Edition) -> u8 {
     match edition {
         // "Tuplet: default normal 3, 2, 3 for 2, 3, 4, else actual less 1."
         Edition::First => usual_normal(actual),
-        // "tuplets of 5, 7 and 9 go in the time of 3 where the meter's top is divisible by 3, else 2; 6 goes in 2 and 8 in 3, others as before" (T-03)
+        // "In these three meters the tuplets of 5, 7 and 9 go in the time of 3; in all others, 3/4 and 3/8 among them, in the time of 2" (T-06);
+        // "6 goes in 2 and 8 in 3, others as before" (T-03)
         Edition::Abc21 => match actual {
             5 | 7 | 9 if is_compound(meter) => 3,
             5 | 7 | 9 => 2,
@@ -383,9 +384,9 @@ fn usual_normal(actual: u8) -> u8 {
     }
 }
 
-/// "where the meter's top is divisible by 3" (T-03), as 0 is.
+/// "The standard names 6/8, 9/8 and 12/8 only." (T-06)
 fn is_compound(meter: Meter) -> bool {
-    meter.top % 3 == 0
+    matches!((meter.top, meter.bottom), (6, 8) | (9, 8) | (12, 8))
 }
 
 /// What a key alters a step by: sharps come in the order F C G D A E B, flats the other way round.
