@@ -240,6 +240,7 @@ fn editions() {
         ("K:Ador\nF", (vec![0], vec![], vec![0], sung("")), (vec![1], vec![], vec![1], sung(""))),
         ("V:1\nV:2\nK:G\nV:1\nF", (vec![1], vec![], vec![0], sung("")), (vec![1], vec![], vec![1], sung(""))),
         ("M:6/8\nK:C\n(5A", (vec![0], vec![(5, 4)], vec![0], sung("")), (vec![0], vec![(5, 3)], vec![0], sung(""))),
+        ("M:12/8\nK:C\n(7A[M:3/4](9B", (vec![0], vec![(7, 6), (9, 8)], vec![0; 2], sung("")), (vec![0], vec![(7, 3), (9, 2)], vec![0; 2], sung(""))),
         ("K:C\n(3:A", (vec![0], vec![], vec![0], sung("")), (vec![0], vec![(3, 2)], vec![0], sung(""))),
         ("K:C\n{A}B|c\nw:a | b", (vec![0], vec![], vec![0; 3], sung("a@0 b@1")), (vec![0], vec![], vec![0; 3], sung("a@1 b@2"))),
     ];

@@ -83,8 +83,10 @@ fn plain_key(r: &mut Rng) -> String {
 
 // ---- tuplets --------------------------------------------------------------------------------------------------------
 
-const METERS: [&str; 22] = [
-    "4/4", "3/4", "6/8", "2/4", "9/8", "12/8", "C", "C|", "5/8", "7/8", "3/8", "0/4", "1/3", "255/4", "256/4", "none", "3", "+6/8", "15/16", "", " 9 / 8 ", "4/6",
+/// The three compound ones, some that might be taken for one, and others.
+const METERS: [&str; 32] = [
+    "6/8", "9/8", "12/8", "+6/8", " 9 / 8 ", "012/08", "3/4", "3/8", "6/4", "9/4", "12/16", "15/8", "18/8", "0/0", "0/8", "8/6", "268/8", "6/264", "6", "4/4", "2/4", "C", "C|", "5/8", "7/8", "1/3", "255/4", "256/4", "none",
+    "15/16", "", "4/6",
 ];
 
 pub fn meter(r: &mut Rng) -> String {
@@ -363,7 +365,7 @@ pub fn rules() -> Vec<Vec<u8>> {
         texts.push(format!("{lines}K:Amix\nV:2\nK:D\nFC\nV:1\n[K:F]BF\nV:2\nFC|F"));
     }
     // Tuplets: defaults by the meter in force, empty parts, bad ones.
-    for meter in ["4/4", "3/4", "6/8", "12/8", "C", "C|", "0/4", "7/8"] {
+    for meter in ["4/4", "3/4", "3/8", "6/8", "9/8", "12/8", "6/4", "15/8", "18/8", "12/16", "0/0", "C", "C|", "0/4", "7/8", "+06/8", "268/8", "6/264"] {
         texts.push(format!("M:{meter}\nK:C\n(2A (3A (4A (5A (6A (7A (8A (9A (10A (11A (12A (255A (256A (1A (0A"));
     }
     for music in [

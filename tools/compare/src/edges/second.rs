@@ -62,8 +62,14 @@ fn tuplets() -> Vec<Vec<u8>> {
     let all = (0..=5).flat_map(|length| all_of(&["2", "3", "5", ":", "0", "A"], length));
     let mut texts: Vec<Vec<u8>> = all.flat_map(|tuplet| put_into(&["M:4/4\nK:C\nA(@BcdABcd", "M:6/8\nK:C\nA(@BcdABcd"], tuplet)).collect();
     let numbers = ["", "0", "1", "2", "3", "7", "255", "256", "0000000000000000000000002", "18446744073709551615", "18446744073709551616"];
+    // Every meter that a reading can have.
+    for top in 0..=255 {
+        for bottom in 0..=255 {
+            texts.push(format!("M:{top}/{bottom}\nK:C\n(5A(7B(9c").into_bytes());
+        }
+    }
     for p in (0..=13).chain([254, 255, 256, 300]) {
-        for meter in ["4/4", "3/4", "6/8", "C|", "0/4", "7/8", "255/4", "x"] {
+        for meter in ["4/4", "3/4", "6/8", "9/8", "12/8", "3/8", "6/4", "18/8", "12/16", "C|", "0/0", "7/8", "255/4", "268/8", "6/264", "x"] {
             texts.push(format!("M:{meter}\nK:C\n({p}{NOTES}").into_bytes());
             texts.push(format!("M:5/4\nK:C\n({p}A[M:{meter}]({p}B\n({p}c").into_bytes());
             texts.push(format!("V:1\nV:2\nK:C\nV:1\n({p}A\nV:2\nM:{meter}\nB({p}c\nV:1\n({p}d").into_bytes());
