@@ -49,14 +49,11 @@ pub fn on_overlay(r: Registers) -> Registers
     x
 }
 
-// 6/8, 9/8 and 12/8, and no other meter.
+// 6/8, 9/8 and 12/8, and no other meter. Without branches: with them the compiler keeps less of the state in registers, for every token.
 fn is_compound(top: u8, bottom: u8) -> bool
     ensures { λ r. ⌜ r ≡ compound (top, bottom) ⌝ }
 {
-    match top {
-        6 | 9 | 12 => bottom == 8,
-        _ => false,
-    }
+    ((top == 6) | (top == 9) | (top == 12)) & (bottom == 8)
 }
 
 // The normal number of a tuplet under a meter: one that the meter decides is 3 in a compound one, else 2.
