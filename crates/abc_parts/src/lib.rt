@@ -19,7 +19,7 @@ use store_sections::Wrote;
 use write_notes::{PartTables, Rows};
 
 // A part that is read and ended: its tables, and how many of its notes are sung to.
-#[derive(Drop)]
+#[derive(Clone, Copy)]
 pub struct Ended {
     pub tables: PartTables,
     pub sounded: usize,

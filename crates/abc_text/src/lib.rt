@@ -19,7 +19,7 @@ use scan::{Scanned, Shared};
 use store_sections::Wrote;
 
 // Whether a text passes the tests before its first line, or the refusal's number.
-#[derive(Drop)]
+#[derive(Clone, Copy)]
 enum Early {
     Passes,
     Refused(u8),

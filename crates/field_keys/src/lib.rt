@@ -12,14 +12,14 @@ ghost use Rattle.field_keys.specs.Passed.{key_as, first_found, pass_byte, pass_w
 use field_tonics::Name;
 
 // Fifths have 128 added.
-#[derive(Drop)]
+#[derive(Clone, Copy)]
 pub struct Key {
     pub fifths: u8,
     pub minor: bool,
 }
 
 // A name that was met, if one was.
-#[derive(Drop)]
+#[derive(Clone, Copy)]
 pub enum Found {
     Nothing,
     Named(Name),
@@ -27,7 +27,7 @@ pub enum Found {
 
 // What was met in the part of the key text that was passed: its name; the name before its last byte, if that is an m; the name before the
 // first `min` and before the first `maj`.
-#[derive(Drop)]
+#[derive(Clone, Copy)]
 pub struct Passed {
     pub name: Name,
     pub ended: Found,

@@ -14,14 +14,14 @@ ghost use Rattle.field_modal.specs.ModalKeys.{word_key, mark_behind, tonic_with,
 use field_keys::Key;
 
 // What a K field comes to: a key, or a refusal by its number.
-#[derive(Drop)]
+#[derive(Clone, Copy)]
 pub enum KeyField {
     Reads(Key),
     Refused(u8),
 }
 
 // What is refused at a word: nothing, or a number.
-#[derive(Drop)]
+#[derive(Clone, Copy)]
 enum Met {
     Nothing,
     Refused(u8),

@@ -10,7 +10,7 @@ ghost use Rattle.field_modes.specs.Modes.{lone_m, name_of, named_in, mode_at, Ke
 use text_words::Part;
 
 // A mode's name by its first three letters, and how many sharps fewer than lydian it has.
-#[derive(Drop)]
+#[derive(Clone, Copy)]
 struct ModeName {
     first: u8,
     second: u8,

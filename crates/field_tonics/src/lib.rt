@@ -6,7 +6,7 @@ ghost use Rattle.field_tonics.specs.Names.{with_byte, tonic_in, first_of, is_nam
 
 // A name as far as it was read, without white space around it: nothing yet; one byte; one byte with white space behind it; two
 // bytes; more than any name has. The first byte stays known.
-#[derive(Drop)]
+#[derive(Clone, Copy)]
 pub enum Name {
     Empty,
     One(u8),
@@ -16,7 +16,7 @@ pub enum Name {
 }
 
 // A key's name, of one byte or two (the second is 0 for a name of one), and its fifths.
-#[derive(Drop)]
+#[derive(Clone, Copy)]
 struct KeyName {
     first: u8,
     second: u8,

@@ -15,21 +15,21 @@ use field_modal::KeyField;
 use text_numbers::Digits;
 use text_words::Part;
 
-#[derive(Drop)]
+#[derive(Clone, Copy)]
 pub struct Meter {
     pub top: u8,
     pub bottom: u8,
 }
 
 // The unit that an L field sets, if it sets one.
-#[derive(Drop)]
+#[derive(Clone, Copy)]
 pub enum FieldUnit {
     Nothing,
     Unit(u32),
 }
 
 // What an L field has behind its slash: no slash, no number, a number.
-#[derive(Drop)]
+#[derive(Clone, Copy)]
 pub enum UnitText {
     Absent,
     Bad,
@@ -37,7 +37,7 @@ pub enum UnitText {
 }
 
 // An inline field: L, M or K that sets; a K that is refused, by its number; any other.
-#[derive(Drop)]
+#[derive(Clone, Copy)]
 pub enum Field {
     Unit(u32),
     Meter(Meter),

@@ -17,7 +17,7 @@ use lyrics::{Line, Row, Sheet};
 
 // Where a line stands: the note that the next word goes to, at the last note's number or beyond where there is none; the note before it, by its place from 1, 0 for
 // none; and the note last reached, which is the next one where no word has taken it yet.
-#[derive(Drop)]
+#[derive(Clone, Copy)]
 pub struct Place {
     pub note: usize,
     pub before: usize,
@@ -25,7 +25,7 @@ pub struct Place {
 }
 
 // Where it stands after a word, and how many rows are written.
-#[derive(Drop)]
+#[derive(Clone, Copy)]
 pub struct Sung {
     pub place: Place,
     pub count: usize,

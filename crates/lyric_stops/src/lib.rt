@@ -22,13 +22,13 @@ pub const FIRST: u8 = 2;
 const FARTHEST: usize = 4194303;
 
 // Where a part's stops stand, and how many there are.
-#[derive(Drop)]
+#[derive(Clone, Copy)]
 pub struct Stops {
     pub at: usize,
     pub count: usize,
 }
 
-#[derive(Drop)]
+#[derive(Clone, Copy)]
 pub struct Stop {
     pub kind: u8,
     pub distance: usize,

@@ -10,7 +10,7 @@ pub const WINDOW: usize = 33;
 pub const VERSES: usize = 264;
 
 // A syllable: its verse, its syllabic's number, whether a later note holds it, and its place in the text.
-#[derive(Drop)]
+#[derive(Clone, Copy)]
 pub struct Found {
     pub verse: u8,
     pub syllabic: u8,
@@ -20,14 +20,14 @@ pub struct Found {
 }
 
 // The least and the greatest verse in a chain.
-#[derive(Drop)]
+#[derive(Clone, Copy)]
 pub struct Span {
     pub least: usize,
     pub most: usize,
 }
 
 // What is sung to a note, if its chain has no more than one row.
-#[derive(Drop)]
+#[derive(Clone, Copy)]
 pub enum Sole {
     Nothing,
     One(Found),
@@ -35,7 +35,7 @@ pub enum Sole {
 }
 
 // A row of a chain, and the place, from 1, of the row below it, 0 for none.
-#[derive(Drop)]
+#[derive(Clone, Copy)]
 struct Link {
     verse: u8,
     code: u8,

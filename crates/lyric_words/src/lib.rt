@@ -6,7 +6,7 @@ ghost use Rattle.lyric_spans.specs.Spans.{is_hyphen, Closed};
 ghost use Rattle.lyric_words.specs.Words.{InWord, SyllableRead, PlainRead, WordRead, is_sign, closed_at, one_syllable, Ready, Settled, TokenRead, First};
 
 // One word, or one syllable of a word: where it stands, and its syllabic's number.
-#[derive(Drop)]
+#[derive(Clone, Copy)]
 pub enum Token {
     Bar,
     Skip,
@@ -16,7 +16,7 @@ pub enum Token {
 
 // Where a reading of a line stands: at a syllable of the word that ends at `word`, or, where both are the same, between two words. A hyphen
 // stands before the syllable; one stands at the end of the word.
-#[derive(Drop)]
+#[derive(Clone, Copy)]
 pub struct Cursor {
     pub at: usize,
     pub word: usize,
@@ -24,7 +24,7 @@ pub struct Cursor {
     pub trailed: bool,
 }
 
-#[derive(Drop)]
+#[derive(Clone, Copy)]
 pub struct Read {
     pub token: Token,
     pub cursor: Cursor,

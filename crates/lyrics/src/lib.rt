@@ -23,7 +23,7 @@ pub const NEXT: usize = 12;
 
 // Where the chains of a part stand: a head for each of its notes that sound (the place, from 1, of the note's newest row; 0 for none), and the log
 // of rows, of which `count` are written.
-#[derive(Drop)]
+#[derive(Clone, Copy)]
 pub struct Sheet {
     pub heads: usize,
     pub sounded: usize,
@@ -32,7 +32,7 @@ pub struct Sheet {
 }
 
 // A row: its verse, the syllabic's number or HOLD, and the place of the syllable in the text.
-#[derive(Drop)]
+#[derive(Clone, Copy)]
 pub struct Row {
     pub verse: u8,
     pub code: u8,
@@ -41,7 +41,7 @@ pub struct Row {
 }
 
 // A lyric line: its first note, its verse, and the place of its text.
-#[derive(Drop)]
+#[derive(Clone, Copy)]
 pub struct Line {
     pub start: usize,
     pub verse: u8,

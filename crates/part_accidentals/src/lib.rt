@@ -29,7 +29,7 @@ const ALTER: usize = 1;
 const CENTS: usize = 2;
 
 // What is kept of a voice: its key, fifths with 128 added, and for each overlay voice the place of the row in scratch with its last accidental, counted from 1; 0 for none.
-#[derive(Drop)]
+#[derive(Clone, Copy)]
 pub struct AbcPartParseState {
     pub fifths: u8,
     pub minor: bool,
@@ -37,7 +37,7 @@ pub struct AbcPartParseState {
 }
 
 // A pitch as sounded, and what is kept after it: the state, and how many rows there are.
-#[derive(Drop)]
+#[derive(Clone, Copy)]
 pub struct Resolved {
     pub sounded: Sounded,
     pub state: AbcPartParseState,
@@ -45,7 +45,7 @@ pub struct Resolved {
 }
 
 // The place of a row, counted from 1, and how many rows there are.
-#[derive(Drop)]
+#[derive(Clone, Copy)]
 struct Row {
     place: u32,
     count: u32,

@@ -17,7 +17,7 @@ ghost use Rattle.part_ends.specs.Spans.{Stands, SpanIs, closed_head, span_after,
 use field_keys::Key;
 
 // Whether an ending is open, and its first pass and its passes as bits.
-#[derive(Drop)]
+#[derive(Clone, Copy)]
 pub struct Span {
     pub begun: bool,
     pub first: u8,

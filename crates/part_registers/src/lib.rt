@@ -7,7 +7,7 @@ use part_rows::NoteRow;
 use token_lengths::Length;
 
 // Where the tables of a part begin in scratch, one behind the other, and where the last one ends.
-#[derive(Drop)]
+#[derive(Clone, Copy)]
 pub struct Tables {
     pub heads: usize,
     pub notes: usize,
@@ -17,7 +17,7 @@ pub struct Tables {
 }
 
 // How many rows they have.
-#[derive(Drop)]
+#[derive(Clone, Copy)]
 pub struct Counts {
     pub heads: u32,
     pub notes: u32,
@@ -26,13 +26,13 @@ pub struct Counts {
 }
 
 // For each overlay voice the place of its last note in the open measure, counted from 1; 0 if it has none.
-#[derive(Drop)]
+#[derive(Clone, Copy)]
 pub struct Last {
     pub places: [u32; 4],
 }
 
 // What is pending for the next note: the end of a tie, a slur; and whether a grace brace is open.
-#[derive(Drop)]
+#[derive(Clone, Copy)]
 pub struct Pending {
     pub tie: bool,
     pub slur: bool,
@@ -40,19 +40,19 @@ pub struct Pending {
 }
 
 // The second half of a broken rhythm, dotted or halved so many times; or none.
-#[derive(Drop)]
+#[derive(Clone, Copy)]
 pub enum Half {
     Nothing,
     Waits { up: bool, times: u8 },
 }
 
-#[derive(Drop)]
+#[derive(Clone, Copy)]
 pub struct Waiting {
     pub half: Half,
 }
 
 // A tuplet, and how many of its notes are to come; or none.
-#[derive(Drop)]
+#[derive(Clone, Copy)]
 pub enum Running {
     Nothing,
     Tuplet {
@@ -63,13 +63,13 @@ pub enum Running {
     },
 }
 
-#[derive(Drop)]
+#[derive(Clone, Copy)]
 pub struct Group {
     pub running: Running,
 }
 
 // What ends with the line: unit and meter in force, the overlay voice, and how many notes the beam's run has: 0, 1, or 2 for more.
-#[derive(Drop)]
+#[derive(Clone, Copy)]
 pub struct Line {
     pub unit: u32,
     pub top: u8,
@@ -79,7 +79,7 @@ pub struct Line {
 }
 
 // For the lyrics: the notes of voice 0 that are no rests, the first of the latest music line, its next verse.
-#[derive(Drop)]
+#[derive(Clone, Copy)]
 pub struct Verses {
     pub sounded: u32,
     pub start: u32,
@@ -87,7 +87,7 @@ pub struct Verses {
 }
 
 // All of it. The order was measured: it decides what the compiler copies between the fields.
-#[derive(Drop)]
+#[derive(Clone, Copy)]
 pub struct Registers {
     pub counts: Counts,
     pub key: AbcPartParseState,

@@ -34,7 +34,7 @@ const GRACE: u8 = 16;
 const CENTS_SIGN: usize = 4;
 
 // A note as its row holds it: kind, value, dots, the flags of ties, slurs and graces, beam, tuplet and boundary, and how many pitches it has.
-#[derive(Drop)]
+#[derive(Clone, Copy)]
 pub struct NoteRow {
     pub kind: u8,
     pub value: u8,
@@ -48,7 +48,7 @@ pub struct NoteRow {
 }
 
 // A pitch as sounded; octave, alter and cents have 128 added.
-#[derive(Drop)]
+#[derive(Clone, Copy)]
 pub struct Sounded {
     pub step: u8,
     pub octave: u8,
@@ -57,7 +57,7 @@ pub struct Sounded {
 }
 
 // What broken rhythm and beams ask of a note in its row.
-#[derive(Drop)]
+#[derive(Clone, Copy)]
 pub struct Written {
     pub kind: u8,
     pub value: u8,
@@ -146,7 +146,7 @@ pub fn put_pitch(store: &mut [u8], at: usize, i: usize, p: Sounded)
 // READ BY THE WRITERS, by the place of a row
 
 // What the note record has of a row before its beam, but for flag 32, and the beam.
-#[derive(Drop)]
+#[derive(Clone, Copy)]
 pub struct NoteStart {
     pub kind: u8,
     pub value: u8,

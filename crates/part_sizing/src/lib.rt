@@ -11,7 +11,7 @@ ghost use Rattle.part_sizing.specs.Room.{PartRoom, Sized};
 use part_registers::Tables;
 
 // How many bytes of music can open a measure, name a pitch, be a rest, be an accidental's sign.
-#[derive(Drop)]
+#[derive(Clone, Copy)]
 pub struct Made {
     pub bars: usize,
     pub letters: usize,
@@ -56,7 +56,7 @@ fn is_sign(c: u8) -> bool
 }
 
 // The same for at most 240 bytes. Counts of one byte let a loop take many bytes at a time.
-#[derive(Drop)]
+#[derive(Clone, Copy)]
 struct Block {
     bars: u8,
     letters: u8,

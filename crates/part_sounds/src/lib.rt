@@ -10,7 +10,7 @@ use token_lengths::Length;
 use token_pitches::Pitch;
 
 // The registers after a token and, if it is a note, rest or chord, its row, which is still to be appended.
-#[derive(Drop)]
+#[derive(Clone, Copy)]
 pub struct Deferred {
     pub registers: Registers,
     pub appends: bool,

@@ -14,7 +14,7 @@ use part_rows::NOTE_ROW;
 // FORWARD
 
 // How many stops are written, the last note that takes a syllable by its place from 1 (0 for none), and whether a note of the measure does.
-#[derive(Drop)]
+#[derive(Clone, Copy)]
 pub struct Marked {
     pub count: usize,
     pub last: usize,
@@ -107,7 +107,7 @@ fn mark_measures(scratch: &mut [u8], stops: Stops, measures: usize, n: usize, no
 // BACKWARD
 
 // From a note on, the first that takes a syllable and the first that is the first of its measure; behind the last note where there is none.
-#[derive(Drop)]
+#[derive(Clone, Copy)]
 pub struct Ahead {
     pub taker: usize,
     pub first: usize,

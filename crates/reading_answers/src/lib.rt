@@ -1,7 +1,7 @@
 // What a call that is lent a store answers.
 
 // The length in bytes of what it wrote, or the refusal's number and line.
-#[derive(Drop)]
+#[derive(Clone, Copy)]
 pub enum Answer {
     Read(usize),
     Refused(u8, u32),

@@ -11,7 +11,7 @@ ghost use Rattle.reading_bars.specs.Bars.{span_of, BarIs, LimitIs};
 const PASS_SETS: u64 = 4294967296;
 
 // A measure: its barlines, the span that it lies in, and the span that is open behind it.
-#[derive(Drop)]
+#[derive(Clone, Copy)]
 pub struct Bar {
     pub left: u8,
     pub right: u8,
@@ -20,7 +20,7 @@ pub struct Bar {
 }
 
 // The limit of sections; it is known for those that start below `end`.
-#[derive(Drop)]
+#[derive(Clone, Copy)]
 pub struct Limit {
     pub most: u64,
     pub end: usize,

@@ -34,7 +34,7 @@ pub fn notes_in(reading: &[u8], at: usize) -> usize
 }
 
 // Where the voltas so far have led: into a span, out of all; or one of them was wrong.
-#[derive(Drop)]
+#[derive(Clone, Copy)]
 pub enum Volta {
     Inside,
     Outside,

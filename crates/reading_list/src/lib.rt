@@ -7,7 +7,7 @@ ghost use Rattle.reading_list.specs.Numbers.{number_at, numbers_in, above, most_
 const MOST: usize = 4294967295;
 
 // How many numbers are listed, or that one had no room.
-#[derive(Drop)]
+#[derive(Clone, Copy)]
 pub struct Copied {
     pub count: usize,
     pub full: bool,

@@ -10,7 +10,7 @@ use reading_list::Copied;
 
 // A pass of a section: the section's first measure, the pass, the span that is open before the section, the measure before which the player stands, the span that
 // is open before that, and how many numbers are listed.
-#[derive(Drop)]
+#[derive(Clone, Copy)]
 pub struct Pass {
     pub section: usize,
     pub pass: usize,
@@ -22,7 +22,7 @@ pub struct Pass {
 
 // How a pass went: the pass, where in the list its numbers begin, the measure that closed it and the span that is open behind that, and how many numbers are listed.
 // Where none closed it `at` is the measure before which the player stands, in a section that he opened or behind the last; `full` says that a number had no room.
-#[derive(Drop)]
+#[derive(Clone, Copy)]
 pub struct Walked {
     pub section: usize,
     pub pass: usize,
@@ -37,7 +37,7 @@ pub struct Walked {
 
 // The last walk of a pass that was closed: from a measure from `least` up to below `end` it lists again those of the numbers `from` up to `to` that are above it; the
 // measure before `end` closed it, behind which `span` is open.
-#[derive(Drop)]
+#[derive(Clone, Copy)]
 pub struct Kept {
     pub least: usize,
     pub end: usize,
@@ -47,7 +47,7 @@ pub struct Kept {
 }
 
 // Where the player goes on, and the limit that is known.
-#[derive(Drop)]
+#[derive(Clone, Copy)]
 pub struct Next {
     pub section: usize,
     pub pass: usize,

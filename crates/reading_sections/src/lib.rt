@@ -4,7 +4,7 @@ ghost use Rattle.laws.specs.Bytes.{u32_at};
 ghost use Rattle.reading_sections.specs.Sections.{behind, part_end};
 
 // A section's count and where it ends.
-#[derive(Drop)]
+#[derive(Clone, Copy)]
 pub struct Section {
     pub count: usize,
     pub end: usize,

@@ -92,7 +92,7 @@ fn are_lyrics(reading: &[u8], at: usize, count: usize, notes: usize, text: usize
 // A PART
 
 // A section's count and end; or that it reaches beyond the bytes.
-#[derive(Drop)]
+#[derive(Clone, Copy)]
 enum Found {
     Inside { count: usize, end: usize },
     Beyond,
@@ -117,7 +117,7 @@ fn section_if_inside(reading: &[u8], width: usize, at: usize) -> Found
 }
 
 // How many records a part's sections have and where they stand; or that some of it lies beyond the bytes.
-#[derive(Drop)]
+#[derive(Clone, Copy)]
 enum Layout {
     Inside {
         measures: usize,
@@ -183,7 +183,7 @@ fn sections_if_inside(reading: &[u8], at: usize) -> Layout
 }
 
 // Where a whole part ends; or that it is none.
-#[derive(Drop)]
+#[derive(Clone, Copy)]
 enum Part {
     Ends(usize),
     Broken,

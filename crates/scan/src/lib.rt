@@ -16,7 +16,7 @@ use text_lines::Class;
 
 // What the second half of `parse_abc` needs: the number of voices, the header's key, the number of items in the line table, and whether there
 // is music among them.
-#[derive(Drop)]
+#[derive(Clone, Copy)]
 pub struct Shared {
     pub voices: usize,
     pub key: Key,
@@ -25,7 +25,7 @@ pub struct Shared {
 }
 
 // All lines were read, or the refusal's number and line.
-#[derive(Drop)]
+#[derive(Clone, Copy)]
 pub enum Scanned {
     Done(Shared),
     Refused(u8, u32),

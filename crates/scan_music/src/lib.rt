@@ -19,7 +19,7 @@ use token_cursors::Cursor;
 use tokens::Effect;
 
 // The notes so far, and L and M in force.
-#[derive(Drop)]
+#[derive(Clone, Copy)]
 pub struct Count {
     pub notes: u32,
     pub unit: u32,
@@ -28,7 +28,7 @@ pub struct Count {
 }
 
 // What the tokens so far come to: the count, or a refusal by its number.
-#[derive(Drop)]
+#[derive(Clone, Copy)]
 pub enum Counted {
     On(Count),
     Refused(u8),

@@ -9,7 +9,7 @@ use scan_table::{ITEM, ITEMS};
 const VOICE_ROWS: usize = 16;
 
 // A line table with a part's items: where it begins in scratch, and how many items it has.
-#[derive(Drop)]
+#[derive(Clone, Copy)]
 pub struct Own {
     pub at: usize,
     pub count: usize,

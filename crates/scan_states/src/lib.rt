@@ -12,7 +12,7 @@ use scan_table::Row;
 
 // `key` is the header's; L is `unit`, M `top` and `bottom`; `part` is the part being read; so many notes, lines, parts with a place for verses, voices and items;
 // `opened`: the first part has had a music line.
-#[derive(Drop)]
+#[derive(Clone, Copy)]
 pub struct State {
     pub in_header: bool,
     pub key: Key,
@@ -29,7 +29,7 @@ pub struct State {
 }
 
 // On to the next line, or the refusal's number and line.
-#[derive(Drop)]
+#[derive(Clone, Copy)]
 pub enum Step {
     On(State),
     Refused(u8, u32),

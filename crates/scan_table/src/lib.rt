@@ -42,7 +42,7 @@ pub const LYRIC_LINE: u8 = 5;
 pub const MUSIC_LINE: u8 = 6;
 
 // A part of the text, from `at` up to `end`.
-#[derive(Drop)]
+#[derive(Clone, Copy)]
 pub struct Place {
     pub at: usize,
     pub end: usize,
@@ -52,7 +52,7 @@ pub struct Place {
 //   a voice declared: a = 1 in the header;  a key change: a fifths, b = 1 minor;  a meter change: a top, b bottom
 //   a lyric line: a = 1 placed, at and end its words; once its part was read, b its verse and unit its first note
 //   a music line: unit, a top and b bottom where it begins, at and end the line;  a reset, the header's key: nothing
-#[derive(Drop)]
+#[derive(Clone, Copy)]
 pub struct Row {
     pub kind: u8,
     pub part: u8,

@@ -4,7 +4,7 @@ ghost use Rattle.laws.specs.Bytes.{splice, zeros, le32};
 ghost use Rattle.store_sections.specs.Writes.{WroteIs, reached};
 
 // How far a writer got in the store that it was lent, or that there is no room.
-#[derive(Drop)]
+#[derive(Clone, Copy)]
 pub enum Wrote {
     To(usize),
     NoRoom,

@@ -5,7 +5,7 @@ ghost use Rattle.reading_sections.specs.Sections.{part_end};
 ghost use Rattle.tally_counts.specs.Counted.{sounded_in, counts_in};
 
 // A part's counts and where its sections end.
-#[derive(Drop)]
+#[derive(Clone, Copy)]
 pub struct Counts {
     pub measures: usize,
     pub sounded: usize,

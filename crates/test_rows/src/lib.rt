@@ -4,14 +4,14 @@ ghost use Rattle.std.specs.Prelude.{◌+◌, ◌≤◌, ◌<◌, length};
 use libc::STDOUT_FILENO;
 
 // How many rows there are, and how many of them differ.
-#[derive(Drop)]
+#[derive(Clone, Copy)]
 pub struct Counts {
     pub rows: u32,
     pub differ: u32,
 }
 
 // Bytes decoded so far, and the first of two digits, 16 where none waits.
-#[derive(Drop)]
+#[derive(Clone, Copy)]
 struct Decoded {
     high: u8,
     n: usize,

@@ -8,14 +8,14 @@ ghost use Rattle.text_white.specs.States.{as_white};
 ghost use Rattle.text_lines.specs.Lines.{not_byte, trim_from, TrimOn, TrimEnd, CleanEnd, LineEnd, is_letter, colon_class, class_of};
 
 // Where a line ends if the bytes to come are white space, and where the reading of white space stands from there on.
-#[derive(Drop)]
+#[derive(Clone, Copy)]
 struct Trim {
     q: text_white::White,
     end: usize,
 }
 
 // A line's class by its first two bytes: V, K, L, M, X are voice, key, unit, meter, tune.
-#[derive(Drop)]
+#[derive(Clone, Copy)]
 pub enum Class {
     Blank,
     Lyric,

@@ -5,14 +5,14 @@ ghost use Rattle.reader.specs.Pieces.{numeral};
 ghost use Rattle.text_numbers.specs.Digits.{with_digit, at_most, number_at, option, most};
 
 // What a run of digits writes: no digit, a number, or one past the bound.
-#[derive(Drop)]
+#[derive(Clone, Copy)]
 pub enum Digits {
     Nothing,
     Value(u64),
     Past,
 }
 
-#[derive(Drop)]
+#[derive(Clone, Copy)]
 pub struct Read {
     pub digits: Digits,
     pub next: usize,

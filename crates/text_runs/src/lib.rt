@@ -5,7 +5,7 @@ ghost use Rattle.reader.specs.Sounds.{behind};
 ghost use Rattle.text_runs.specs.Behind.{behind_for};
 
 // Right behind a note: a tie starts, a slur ends; and the position after these.
-#[derive(Drop)]
+#[derive(Clone, Copy)]
 pub struct Behind {
     pub tie: bool,
     pub slur: bool,

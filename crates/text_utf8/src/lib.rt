@@ -5,7 +5,7 @@ ghost use Rattle.text_utf8.specs.States.{as_utf8};
 
 // Where the reading stands: between two characters; 1, 2, 3 bytes of one to come; after E0, ED, F0, F4, whose second
 // byte has a narrower range; or no UTF-8.
-#[derive(Drop)]
+#[derive(Clone, Copy)]
 enum Utf8 {
     Between,
     One,

@@ -6,7 +6,7 @@ ghost use Rattle.reader.specs.Pieces.{white_at};
 ghost use Rattle.text_white.specs.States.{as_white, is_other, ends_c2, ends_e280};
 
 // Where the reading of white space stands: after whole white characters; inside one, by the bytes of it; or something else.
-#[derive(Drop)]
+#[derive(Clone, Copy)]
 pub enum White {
     White,
     InC2,

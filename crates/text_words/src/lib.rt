@@ -5,7 +5,7 @@ ghost use Rattle.reader.specs.Text.{is_space};
 ghost use Rattle.text_words.specs.Words.{not_space, not_byte, stands_at, stands_before, trimmed_end, Trimmed};
 
 // A part of a line, from `start` up to `end`.
-#[derive(Drop)]
+#[derive(Clone, Copy)]
 pub struct Part {
     pub start: usize,
     pub end: usize,

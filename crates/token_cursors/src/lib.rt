@@ -10,7 +10,7 @@ use editions::Edition;
 use tokens::Effect;
 
 // The next byte to read, and the line's end.
-#[derive(Drop)]
+#[derive(Clone, Copy)]
 pub struct Cursor {
     pub at: usize,
     pub end: usize,

@@ -3,7 +3,7 @@ ghost use Rattle.std.specs.Prelude.{◌≡◌, ◌+◌, min};
 ghost use Rattle.token_lengths.specs.Values.{broken_length, as_value};
 
 // A length as read: a written value, 0 (longa) to 9 (128th), with its dots; or the whole bar, with its dots.
-#[derive(Drop)]
+#[derive(Clone, Copy)]
 pub enum Length {
     Written(u8, u8),
     WholeBar(u8),

@@ -14,7 +14,7 @@ use token_pitches::{Pitch, Sign};
 use token_symbols::Barline;
 
 // A token with its length as written, num / den of the unit. A chord's pitches are read again from `place` on (`next_chord_pitch`): no array in an enum.
-#[derive(Drop)]
+#[derive(Clone, Copy)]
 pub enum Lexeme {
     Space,
     Overlay,
@@ -77,7 +77,7 @@ pub enum Lexeme {
 }
 
 // A token and the position after it.
-#[derive(Drop)]
+#[derive(Clone, Copy)]
 pub struct Cut {
     pub lexeme: Lexeme,
     pub next: usize,

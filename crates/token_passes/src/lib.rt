@@ -12,21 +12,21 @@ ghost use Rattle.token_passes.specs.Faults.{number_shape, list_item_at, item_sha
 const LAST_PASS: u64 = 32;
 
 // A number of 1 to 32 and the position after its digits; or none.
-#[derive(Drop)]
+#[derive(Clone, Copy)]
 enum Number {
     Value { value: u8, next: usize },
     Nothing,
 }
 
 // The passes from one to another, or to itself, and the position after them; or none.
-#[derive(Drop)]
+#[derive(Clone, Copy)]
 enum Item {
     Passes { from: u8, to: u8, next: usize },
     Nothing,
 }
 
 // The first pass, pass p as bit p - 1, and the position after the list; or none (refused as `list_fault` says).
-#[derive(Drop)]
+#[derive(Clone, Copy)]
 pub enum Passes {
     Read { first: u8, bits: u32, next: usize },
     Refused,
@@ -128,7 +128,7 @@ pub fn parse_passes(line: &[u8], at: usize) -> Passes
 }
 
 // Of a number or item: well shaped, whether its numbers lie from 1 to 32, and the position after it; or not.
-#[derive(Drop)]
+#[derive(Clone, Copy)]
 enum Shape {
     Right { in_range: bool, next: usize },
     Wrong,

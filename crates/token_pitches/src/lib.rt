@@ -8,13 +8,13 @@ ghost use Rattle.token_pitches.specs.Pitches.{note_char, sign_of, before_for, oc
 ghost use Rattle.token_pitches.specs.Chords.{sign_in, letter_met, pitch_met, met_for, closed_at, chord_for};
 
 // An accidental, or none.
-#[derive(Drop)]
+#[derive(Clone, Copy)]
 pub enum Sign {
     Nothing,
     Written { alter: u8, cents: u8 },
 }
 
-#[derive(Drop)]
+#[derive(Clone, Copy)]
 pub struct Pitch {
     pub step: u8,
     pub octave: u8,
@@ -22,28 +22,28 @@ pub struct Pitch {
 }
 
 // A letter's step, C is 0 and B is 6, and octave.
-#[derive(Drop)]
+#[derive(Clone, Copy)]
 pub struct NoteChar {
     pub step: u8,
     pub octave: u8,
 }
 
 // An accidental and the position after it.
-#[derive(Drop)]
+#[derive(Clone, Copy)]
 pub struct Before {
     pub sign: Sign,
     pub next: usize,
 }
 
 // An octave and the position after its marks; or marks that leave −128 to 127 (refusal 12).
-#[derive(Drop)]
+#[derive(Clone, Copy)]
 pub enum Octave {
     At { octave: u8, next: usize },
     Out,
 }
 
 // What the walk through a chord meets next: its end, a pitch with the position after it, or refusal 12.
-#[derive(Drop)]
+#[derive(Clone, Copy)]
 pub enum Met {
     Over,
     Out,
@@ -51,7 +51,7 @@ pub enum Met {
 }
 
 // A chord's number of pitches and the position after its bracket; or refusal 12. The pitches are read again, one by one, by `next_chord_pitch`.
-#[derive(Drop)]
+#[derive(Clone, Copy)]
 pub enum Chord {
     Read { count: usize, next: usize },
     Refused,

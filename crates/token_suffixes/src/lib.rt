@@ -5,14 +5,14 @@ ghost use Rattle.token_suffixes.specs.Suffixes.{number_or, is_run, halved_by, su
 use editions::Edition;
 
 // A numerator or denominator, and the position after it.
-#[derive(Drop)]
+#[derive(Clone, Copy)]
 struct Number {
     value: u32,
     next: usize,
 }
 
 // A length as written, a fraction of the unit, and the position after it; or refusal 22, a 32nd slash that would halve.
-#[derive(Drop)]
+#[derive(Clone, Copy)]
 pub enum Suffix {
     Read { num: u32, den: u32, next: usize },
     Refused,

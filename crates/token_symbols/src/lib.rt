@@ -51,7 +51,7 @@ pub const INVISIBLE_BAR_REST: u8 = 16;
 
 pub const PITCHED: u8 = 17;
 
-#[derive(Drop)]
+#[derive(Clone, Copy)]
 pub enum Barline {
     Normal,
     RepeatStart,
@@ -62,7 +62,7 @@ pub enum Barline {
 }
 
 // A barline, as the right one of the measure that it ends and the left one of the next, and the position after it; or none.
-#[derive(Drop)]
+#[derive(Clone, Copy)]
 pub enum Bar {
     Read {
         right: Barline,
@@ -73,7 +73,7 @@ pub enum Bar {
 }
 
 // A tuplet: actual notes in the time of normal ones, for the next count notes, and the position after it; or none.
-#[derive(Drop)]
+#[derive(Clone, Copy)]
 pub enum Tuplet {
     Read {
         actual: u8,
@@ -88,7 +88,7 @@ pub enum Tuplet {
 pub const BY_METER: u8 = 0;
 
 // A number, and the position after its digits; or none.
-#[derive(Drop)]
+#[derive(Clone, Copy)]
 enum Number {
     Value { value: u64, next: usize },
     Nothing,

@@ -9,7 +9,7 @@ ghost use Rattle.token_values.specs.Found.{fraction, found_as, frequent_of};
 use token_lengths::Length;
 
 // A written value and its dots, or none.
-#[derive(Drop)]
+#[derive(Clone, Copy)]
 enum Found {
     Nothing,
     Value(u8, u8),

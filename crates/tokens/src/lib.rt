@@ -14,7 +14,7 @@ use token_pitches::Pitch;
 use token_symbols::Barline;
 
 // A token with its length: a written value with dots, or the whole bar.
-#[derive(Drop)]
+#[derive(Clone, Copy)]
 pub enum Token {
     Space,
     Overlay,
@@ -74,14 +74,14 @@ pub enum Token {
 }
 
 // A token and the position after it.
-#[derive(Drop)]
+#[derive(Clone, Copy)]
 pub struct Tokenised {
     pub token: Token,
     pub next: usize,
 }
 
 // What the scan wants of a token: a note counted, a refusal by its number, L set, M set; or nothing.
-#[derive(Drop)]
+#[derive(Clone, Copy)]
 pub enum Effect {
     Counts,
     Refuses(u8),
@@ -90,7 +90,7 @@ pub enum Effect {
     NoEffect,
 }
 
-#[derive(Drop)]
+#[derive(Clone, Copy)]
 pub struct Effected {
     pub effect: Effect,
     pub next: usize,

@@ -15,7 +15,7 @@ use store_sections::Wrote;
 use write_notes::PartTables;
 
 // How far records are written: up to where, and how many notes are sung up to there.
-#[derive(Drop)]
+#[derive(Clone, Copy)]
 enum Passed {
     To(usize, usize),
     NoRoom,

@@ -17,14 +17,14 @@ use reading_records::{COUNT, NOTE};
 use store_sections::Wrote;
 
 // The rows of a table in scratch: where they begin, and how many there are.
-#[derive(Drop)]
+#[derive(Clone, Copy)]
 pub struct Rows {
     pub at: usize,
     pub count: usize,
 }
 
 // The tables of a part, once it is ended.
-#[derive(Drop)]
+#[derive(Clone, Copy)]
 pub struct PartTables {
     pub measures: Rows,
     pub notes: Rows,
