@@ -10,40 +10,40 @@ use Rattle.part_stops.proofs.Forward.{mark_none, mark_passed}
 use Rattle.part_stops.proofs.mark_row.Statement.{statement}
 use Rattle.part_stops.proofs.mark_row.Tie as tie
 
-returns : tie.Need-returns
+returns : tie.Need-returns-then-not-is_sung
 returns c =
-    let a = c.before.before.before.before.args in
-    let q = mark_quiet a.scratch.now a.m.begun a.place (sym c.before.is-sung.ensures ∙ not_true _ c.if1.true) in
-    rw (q.0, q.1) (mark_none a.scratch.now a.stops a.m c.before.before.before.before.requires.0.low, refl)
+    let a = c.args in
+    let q = mark_quiet a.scratch.now a.m.begun a.place (sym c.is_sung.ensures ∙ not_true _ c.if-not-is_sung.true) in
+    rw (q.0, q.1) (mark_none a.scratch.now a.stops a.m c.requires.0.low, refl)
 
 -- the row is of a note that is sung
-sung : (c : tie.Else1) → sung_row c.before.before.before.before.args.scratch.now c.before.before.before.before.args.place ≡ true
-sung c = sym c.before.is-sung.ensures ∙ not_false _ c.if1.false
+sung : (c : tie.Else-not-is_sung) → sung_row c.args.scratch.now c.args.place ≡ true
+sung c = sym c.is_sung.ensures ∙ not_false _ c.if-not-is_sung.false
 
-put_stop_requires : tie.Need-put-stop-requires
+put_stop_requires : tie.Need-put_stop-requires
 put_stop_requires c κs =
-    let a = c.before.before.before.before.before.before.before.before.args in
-    let q = mark_grace a.scratch.now a.m.begun a.place (sung c.before.before.before.before) (sym c.before.before.is-grace.ensures ∙ c.before.if2.true) in
-    let p = rw q.0 at c.before.before.before.before.before.before.before.before.requires.0 in
+    let a = c.args in
+    let q = mark_grace a.scratch.now a.m.begun a.place (sung c.before.before.before.before) (sym c.is_grace.ensures ∙ c.if-is_grace.true) in
+    let p = rw q.0 at c.requires.0 in
     (p.inside, omega (arith, p.room), omega arith)
 
-returns_2 : tie.Need-returns-2
+returns_2 : tie.Need-returns-then-is_grace
 returns_2 c =
-    let a = c.before.before.before.before.before.before.before.before.before.before.before.before.args in
-    let q = mark_grace a.scratch.now a.m.begun a.place (sung c.before.before.before.before.before.before.before.before) (sym c.before.before.before.before.before.before.is-grace.ensures ∙ c.before.before.before.before.before.if2.true) in
-    rw (q.0, q.1) (mark_passed a.scratch.now _ a.stops a.m _ c.before.before.before.put-stop.ensures (rw q.0 at c.before.before.before.before.before.before.before.before.before.before.before.before.requires.0) refl refl, refl)
+    let a = c.args in
+    let q = mark_grace a.scratch.now a.m.begun a.place (sung c.before.before.before.before.before.before.before.before) (sym c.is_grace.ensures ∙ c.if-is_grace.true) in
+    rw (q.0, q.1) (mark_passed a.scratch.now _ a.stops a.m _ c.put_stop.ensures (rw q.0 at c.requires.0) refl refl, refl)
 
-mark_taker_requires : tie.Need-mark-taker-requires
+mark_taker_requires : tie.Need-mark_taker-requires
 mark_taker_requires c κs =
-    let a = c.before.before.before.before.before.before.before.before.args in
-    let q = mark_other a.scratch.now a.m.begun a.place (sung c.before.before.before.before) (sym c.before.before.is-grace.ensures ∙ c.before.if2.false) in
-    rw q.0 at c.before.before.before.before.before.before.before.before.requires.0
+    let a = c.args in
+    let q = mark_other a.scratch.now a.m.begun a.place (sung c.before.before.before.before) (sym c.is_grace.ensures ∙ c.if-is_grace.false) in
+    rw q.0 at c.requires.0
 
-returns_3 : tie.Need-returns-3
+returns_3 : tie.Need-returns
 returns_3 c =
-    let a = c.before.before.before.before.before.before.before.before.before.before.before.args in
-    let q = mark_other a.scratch.now a.m.begun a.place (sung c.before.before.before.before.before.before.before) (sym c.before.before.before.before.before.is-grace.ensures ∙ c.before.before.before.before.if2.false) in
-    rw (q.0, q.1) c.before.before.mark-taker.ensures
+    let a = c.args in
+    let q = mark_other a.scratch.now a.m.begun a.place (sung c.before.before.before.before.before.before.before) (sym c.is_grace.ensures ∙ c.if-is_grace.false) in
+    rw (q.0, q.1) c.mark_taker.ensures
 
 pub mark_row_spec : {M : Type 1} → statement M
 mark_row_spec = tie.close (tie.spec (λ c κs. search rules) (λ c. search rules) returns (λ c κs. search rules) put_stop_requires (λ c. search rules) (λ c. search rules) returns_2 mark_taker_requires (λ c. search rules) returns_3)

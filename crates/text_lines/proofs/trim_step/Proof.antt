@@ -11,26 +11,26 @@ use Rattle.text_lines.proofs.trim_step.Statement.{statement}
 use Rattle.text_lines.proofs.trim_step.Tie as tie
 
 -- the reading fails
-fails : (c : tie.Then1) → is_other (white_step (as_white c.before.before.before.args.t.q) c.before.before.before.args.b) ≡ true
-fails c = ap is_other (sym c.before.before.white-step.ensures) ∙ sym c.before.is-other.ensures ∙ c.if1.true
+fails : (c : tie.Then-is_other) → is_other (white_step (as_white c.args.t.q) c.args.b) ≡ true
+fails c = ap is_other (sym c.white_step-on.ensures) ∙ sym c.is_other.ensures ∙ c.if-is_other.true
 
-returns : tie.Need-returns
+returns : tie.Need-returns-then-is_other-2
 returns c =
     let t = c.before.before.before in
-    let a = t.before.before.before.args in
-    λ l. trim_past (as_white a.t.q) a.t.end a.b a.at l (fails t) (ap is_other (sym c.before.before.white-step2.ensures) ∙ sym c.before.is-other2.ensures ∙ c.if2.true)
+    let a = t.args in
+    λ l. trim_past (as_white a.t.q) a.t.end a.b a.at l (fails t) (ap is_other (sym c.white_step-first.ensures) ∙ sym c.is_other-then-is_other.ensures ∙ c.if-is_other-2.true)
 
-returns_2 : tie.Need-returns-2
+returns_2 : tie.Need-returns-then-is_other
 returns_2 c =
     let t = c.before.before.before in
-    let a = t.before.before.before.args in
-    λ l. ap (λ (p : White). trim_from p a.at (a.at + 1) l) c.before.before.white-step2.ensures ∙ trim_new (as_white a.t.q) a.t.end a.b a.at l (fails t)
+    let a = t.args in
+    λ l. ap (λ (p : White). trim_from p a.at (a.at + 1) l) c.white_step-first.ensures ∙ trim_new (as_white a.t.q) a.t.end a.b a.at l (fails t)
 
-returns_3 : tie.Need-returns-3
+returns_3 : tie.Need-returns
 returns_3 c =
-    let a = c.before.before.before.args in
-    λ l. ap (λ (p : White). trim_from p a.t.end (a.at + 1) l) c.before.before.white-step.ensures
-    ∙ trim_kept (as_white a.t.q) a.t.end a.b a.at l (ap is_other (sym c.before.before.white-step.ensures) ∙ sym c.before.is-other.ensures ∙ c.if1.false)
+    let a = c.args in
+    λ l. ap (λ (p : White). trim_from p a.t.end (a.at + 1) l) c.white_step-on.ensures
+    ∙ trim_kept (as_white a.t.q) a.t.end a.b a.at l (ap is_other (sym c.white_step-on.ensures) ∙ sym c.is_other.ensures ∙ c.if-is_other.false)
 
 pub trim_step_spec : {M : Type 1} → statement M
 trim_step_spec =

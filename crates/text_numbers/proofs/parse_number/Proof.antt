@@ -9,25 +9,25 @@ use Rattle.text_numbers.proofs.parse_number.Statement.{statement}
 use Rattle.text_numbers.proofs.parse_number.Tie as tie
 
 -- a plus sign
-plus : (c : tie.Then1) → get_or c.before.before.before.args.text.now 0 0 ≡ 43
-plus c = sym c.before.byte_at.ensures ∙ c.if1.true
+plus : (c : tie.Then-byte_at-eq43) → get_or c.args.text.now 0 0 ≡ 43
+plus c = sym c.byte_at.ensures ∙ c.if-byte_at-eq43.true
 
-within : (c : tie.Then1) → 1 ≤ length c.before.before.before.args.text.now
-within c = plus_within c.before.before.before.args.text.now (plus c)
+within : (c : tie.Then-byte_at-eq43) → 1 ≤ length c.args.text.now
+within c = plus_within c.args.text.now (plus c)
 
-sub_whole_number : tie.Need-overflow-sub-whole-number
+sub_whole_number : tie.Need-slice_bounds-whole_number-count
 sub_whole_number c = within c
 
-part_whole_number_start : tie.Need-slice-bounds-whole-number-start
-part_whole_number_start c = let h : 1 ≤ length c.before.before.before.args.text.now = within c in search rules
+part_whole_number_start : tie.Need-slice_bounds-whole_number-start
+part_whole_number_start c = let h : 1 ≤ length c.args.text.now = within c in search rules
 
-returns : tie.Need-returns
+returns : tie.Need-returns-then-byte_at-eq43
 returns c =
-    let s = c.before.before.before.before.before.args.text.now in
-    c.whole-number.ensures ∙ ap (digits _) (plus_rest s) ∙ sym (numeral_plus _ s (plus c.before.before))
+    let s = c.args.text.now in
+    c.whole_number.ensures ∙ ap (digits _) (plus_rest s) ∙ sym (numeral_plus _ s (plus c.before.before))
 
-returns_2 : tie.Need-returns-2
-returns_2 c = c.whole-number2.ensures ∙ sym (numeral_plain _ _ (λ e. c.before.if1.false (c.before.before.byte_at.ensures ∙ e)))
+returns_2 : tie.Need-returns
+returns_2 c = c.whole_number-2.ensures ∙ sym (numeral_plain _ _ (λ e. c.if-byte_at-eq43.false (c.byte_at.ensures ∙ e)))
 
 pub parse_number_spec : {M : Type 1} → statement M
 parse_number_spec =

@@ -6,33 +6,33 @@ use Rattle.text_words.proofs.Trims.{trims_lt, Trimming, trimming_on, trimming_of
 use Rattle.text_words.proofs.trim_end_lem.Statement.{statement}
 use Rattle.text_words.proofs.trim_end_lem.Tie as tie
 
-abbrev invariant_loop : tie.invariant_loop
+abbrev invariant_loop : tie.invariant-loop-e
 invariant_loop line a b e₀ e = Trimming line a b e
 
-abbrev decreases_loop : tie.decreases_loop
+abbrev decreases_loop : tie.decreases-loop-e
 decreases_loop line a b e₀ e = e
 
 -- white space stands within the part
-within : (c : tie.Then1 invariant_loop decreases_loop) → c.before.before.before.before.args.a < c.before.before.loop.e
-within c = trims_lt c.before.before.before.before.args.line.now c.before.before.before.before.args.a c.before.before.loop.e (sym c.before.space-before.ensures ∙ c.if1.true)
+within : (c : tie.In-loop-e invariant_loop decreases_loop) → c.args.a < c.loop-e.e
+within c = trims_lt c.args.line.now c.args.a c.loop-e.e (sym c.space_before.ensures ∙ c.loop-e-test.true)
 
-loop_holds : tie.Need-loop-init invariant_loop decreases_loop
+loop_holds : tie.Need-loop-e-init invariant_loop decreases_loop
 loop_holds c = record { low = omega arith; high = omega arith; same = refl }
 
-space_before_requires : tie.Need-space-before-requires invariant_loop decreases_loop
-space_before_requires c κs = omega (arith, c.loop.invariant.high, c.before.before.requires.1)
+space_before_requires : tie.Need-space_before-requires invariant_loop decreases_loop
+space_before_requires c κs = omega (arith, c.loop-e.invariant.high, c.requires.1)
 
-sub_e : tie.Need-overflow-sub-e invariant_loop decreases_loop
+sub_e : tie.Need-overflow_sub-e invariant_loop decreases_loop
 sub_e c = omega (arith, within c)
 
-loop_less : tie.Need-loop-smaller invariant_loop decreases_loop
+loop_less : tie.Need-loop-e-smaller invariant_loop decreases_loop
 loop_less c = omega (arith, within c)
 
-loop_again : tie.Need-loop-preserved invariant_loop decreases_loop
-loop_again c = trimming_on _ _ _ _ c.before.before.before.before.requires.1 c.before.before.loop.invariant (sym c.before.space-before.ensures ∙ c.if1.true)
+loop_again : tie.Need-loop-e-preserved invariant_loop decreases_loop
+loop_again c = trimming_on _ _ _ _ c.requires.1 c.loop-e.invariant (sym c.space_before.ensures ∙ c.loop-e-test.true)
 
 returns : tie.Need-returns invariant_loop decreases_loop
-returns c = trimming_off _ _ _ _ c.before.before.before.before.requires.1 c.before.before.loop.invariant (sym c.before.space-before.ensures ∙ c.if1.false)
+returns c = trimming_off _ _ _ _ c.requires.1 c.loop-e.invariant (sym c.space_before.ensures ∙ c.loop-e-test.false)
 
 pub trim_end_spec : {M : Type 1} → statement M
 trim_end_spec =

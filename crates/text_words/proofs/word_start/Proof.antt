@@ -8,33 +8,33 @@ use Rattle.text_words.proofs.Stands.{stands_lt, stands_on, stands_off}
 use Rattle.text_words.proofs.word_start.Statement.{statement}
 use Rattle.text_words.proofs.word_start.Tie as tie
 
-abbrev invariant_loop : tie.invariant_loop
+abbrev invariant_loop : tie.invariant-loop-i
 invariant_loop line a b i₀ i = end_in is_space line i b ≡ end_in is_space line a b
 
-abbrev decreases_loop : tie.decreases_loop
+abbrev decreases_loop : tie.decreases-loop-i
 decreases_loop line a b i₀ i = b - i
 
 -- a byte of the kind stands within the part
-within : (c : tie.Then1 invariant_loop decreases_loop) → c.before.before.loop.i < c.before.before.before.before.args.b
-within c = stands_lt is_space c.before.before.before.before.args.line.now c.before.before.loop.i c.before.before.before.before.args.b (sym c.before.space-at.ensures ∙ c.if1.true)
+within : (c : tie.In-loop-i invariant_loop decreases_loop) → c.loop-i.i < c.args.b
+within c = stands_lt is_space c.args.line.now c.loop-i.i c.args.b (sym c.space_at.ensures ∙ c.loop-i-test.true)
 
-loop_holds : tie.Need-loop-init invariant_loop decreases_loop
+loop_holds : tie.Need-loop-i-init invariant_loop decreases_loop
 loop_holds c = refl
 
-space_at_requires : tie.Need-space-at-requires invariant_loop decreases_loop
-space_at_requires c κs = c.before.before.requires
+space_at_requires : tie.Need-space_at-requires invariant_loop decreases_loop
+space_at_requires c κs = c.requires
 
-add_i : tie.Need-overflow-add-i invariant_loop decreases_loop
+add_i : tie.Need-overflow_add-i invariant_loop decreases_loop
 add_i c = omega (arith, within c)
 
-loop_less : tie.Need-loop-smaller invariant_loop decreases_loop
+loop_less : tie.Need-loop-i-smaller invariant_loop decreases_loop
 loop_less c = omega (arith, within c)
 
-loop_again : tie.Need-loop-preserved invariant_loop decreases_loop
-loop_again c = sym (stands_on is_space c.before.before.before.before.args.line.now c.before.before.loop.i c.before.before.before.before.args.b c.before.before.before.before.requires (sym c.before.space-at.ensures ∙ c.if1.true)) ∙ c.before.before.loop.invariant
+loop_again : tie.Need-loop-i-preserved invariant_loop decreases_loop
+loop_again c = sym (stands_on is_space c.args.line.now c.loop-i.i c.args.b c.requires (sym c.space_at.ensures ∙ c.loop-i-test.true)) ∙ c.loop-i.invariant
 
 returns : tie.Need-returns invariant_loop decreases_loop
-returns c = sym (stands_off is_space c.before.before.before.before.args.line.now c.before.before.loop.i c.before.before.before.before.args.b c.before.before.before.before.requires (sym c.before.space-at.ensures ∙ c.if1.false)) ∙ c.before.before.loop.invariant
+returns c = sym (stands_off is_space c.args.line.now c.loop-i.i c.args.b c.requires (sym c.space_at.ensures ∙ c.loop-i-test.false)) ∙ c.loop-i.invariant
 
 pub word_start_spec : {M : Type 1} → statement M
 word_start_spec =

@@ -20,52 +20,52 @@ use borrow.Author.Rules.{rules}
 use Rattle.token_passes.proofs.list_fault.Statement.{statement}
 use Rattle.token_passes.proofs.list_fault.Tie as tie
 
-abbrev invariant_loop : tie.invariant_loop
+abbrev invariant_loop : tie.invariant-loop-item_in_range
 invariant_loop line at in-range₀ i₀ in-range i = Faulting line at in-range i
 
-abbrev decreases_loop : tie.decreases_loop
+abbrev decreases_loop : tie.decreases-loop-item_in_range
 decreases_loop line at in-range₀ i₀ in-range i = length line - i
 
-loop_holds : tie.Need-loop-init invariant_loop decreases_loop
+loop_holds : tie.Need-loop-item_in_range-init invariant_loop decreases_loop
 loop_holds c = faulting_start _ _
 
-returns : tie.Need-returns invariant_loop decreases_loop
+returns : tie.Need-returns-in_default invariant_loop decreases_loop
 returns c =
     let l = c.before.before.before in
-    faulting_none _ _ _ _ l.loop.invariant (item_none _ _ (sym c.before.before.item-shape.ensures ∙ c.enum_told.given.1))
+    faulting_none _ _ _ _ l.loop-item_in_range.invariant (item_none _ _ (sym c.item_shape.ensures ∙ c.enum_told-1.given.1))
 
 -- an item was read
-item : (c : tie.After-item-in-range invariant_loop decreases_loop)
-    → (x : Item) × (list_item_at c.before.before.before.before.before.args.line.now c.before.before.before.loop.i ≡ some x) × (c.item-in-range.given.0.0 ≡ all is_pass (numbers_in (x ∷ []))) × (c.item-in-range.given.0.1.0 ≡ end_of is_item_byte c.before.before.before.before.before.args.line.now c.before.before.before.loop.i)
-item c = item_some _ _ _ _ (sym c.before.before.item-shape.ensures ∙ c.item-in-range.given.1)
+item : (c : tie.In-Right-2 invariant_loop decreases_loop)
+    → (x : Item) × (list_item_at c.args.line.now c.loop-item_in_range.i ≡ some x) × (c.item_in_range-1.given.0.0 ≡ all is_pass (numbers_in (x ∷ []))) × (c.item_in_range-1.given.0.1.0 ≡ end_of is_item_byte c.args.line.now c.loop-item_in_range.i)
+item c = item_some _ _ _ _ (sym c.item_shape.ensures ∙ c.item_in_range-1.given.1)
 
 -- a comma behind it
-comma : (c : tie.Else1 invariant_loop decreases_loop) → get_or c.before.before.before.before.before.before.before.before.before.args.line.now c.before.before.before.before.item-in-range.given.0.1.0 0 ≡ 44
-comma c = sym c.before.byte_at.ensures ∙ c.if1.false
+comma : (c : tie.Else-byte_at-ne44 invariant_loop decreases_loop) → get_or c.args.line.now c.item_in_range-1.given.0.1.0 0 ≡ 44
+comma c = sym c.byte_at.ensures ∙ c.if-byte_at-ne44.false
 
-within : (c : tie.Else1 invariant_loop decreases_loop) → c.before.before.before.before.item-in-range.given.0.1.0 < length c.before.before.before.before.before.before.before.before.before.args.line.now
-within c = run_within (λ x. eqb x 44) refl c.before.before.before.before.before.before.before.before.before.args.line.now _ (eq-eqb _ _ (comma c))
+within : (c : tie.Else-byte_at-ne44 invariant_loop decreases_loop) → c.item_in_range-1.given.0.1.0 < length c.args.line.now
+within c = run_within (λ x. eqb x 44) refl c.args.line.now _ (eq-eqb _ _ (comma c))
 
-returns_2 : tie.Need-returns-2 invariant_loop decreases_loop
+returns_2 : tie.Need-returns-then-byte_at-ne44 invariant_loop decreases_loop
 returns_2 c =
     let f = c.before.before.before.before.before in
     let l = f.before.before.before in
     let q = item f in
     c.pick.ensures
-    ∙ faulting_last _ _ _ _ l.loop.invariant q.0 q.1 _ q.3 _ (c.before.before.before.both.ensures ∙ ap (λ b. l.loop.in-range && b) q.2) (λ k. c.before.if1.true (c.before.before.byte_at.ensures ∙ k))
+    ∙ faulting_last _ _ _ _ l.loop-item_in_range.invariant q.0 q.1 _ q.3 _ (c.both-in_range.ensures ∙ ap (λ b. l.loop-item_in_range.in-range && b) q.2) (λ k. c.if-byte_at-ne44.true (c.byte_at.ensures ∙ k))
 
-add_i : tie.Need-overflow-add-i invariant_loop decreases_loop
+add_i : tie.Need-overflow_add-i invariant_loop decreases_loop
 add_i c = omega (arith, within c)
 
-loop_less : tie.Need-loop-smaller invariant_loop decreases_loop
+loop_less : tie.Need-loop-item_in_range-smaller invariant_loop decreases_loop
 loop_less c = omega (arith, within c, (item c.before.before.before.before).3)
 
-loop_again : tie.Need-loop-preserved invariant_loop decreases_loop
+loop_again : tie.Need-loop-item_in_range-preserved invariant_loop decreases_loop
 loop_again c =
     let f = c.before.before.before.before in
     let l = f.before.before.before in
     let q = item f in
-    faulting_on _ _ _ _ l.loop.invariant q.0 q.1 _ q.3 _ (c.before.before.both.ensures ∙ ap (λ b. l.loop.in-range && b) q.2) (comma c)
+    faulting_on _ _ _ _ l.loop-item_in_range.invariant q.0 q.1 _ q.3 _ (c.both-in_range.ensures ∙ ap (λ b. l.loop-item_in_range.in-range && b) q.2) (comma c)
 
 pub list_fault_spec : {M : Type 1} → statement M
 list_fault_spec =

@@ -14,42 +14,42 @@ use Rattle.token_passes.proofs.pass_number.Statement.{statement}
 use Rattle.token_passes.proofs.pass_number.Tie as tie
 
 -- the digits, as the definition writes them
-told : (c : tie.After-read-number) → written 32 (run is_digit (drop c.before.before.before.before.args.at c.before.before.before.before.args.line.now)) ≡ c.read_number.result.digits
+told : (c : tie.After-read_number-read) → written 32 (run is_digit (drop c.args.at c.args.line.now)) ≡ c.read_number-read.result.digits
 unfolding number_at
-told c = sym (ap (λ (r : Read). r.digits) c.read_number.ensures)
+told c = sym (ap (λ (r : Read). r.digits) c.read_number-read.ensures)
 
-returns : tie.Need-returns
+returns : tie.Need-returns-then-byte_at-eq48
 unfolding pass_for
 returns c =
-    let a = c.before.before.before.args in
-    rw (zero_leads a.line.now a.at (sym c.before.byte_at.ensures ∙ c.if1.true))
+    let a = c.args in
+    rw (zero_leads a.line.now a.at (sym c.byte_at.ensures ∙ c.if-byte_at-eq48.true))
 
-cast_t10 : tie.Need-overflow-cast-t10
+cast_t10 : tie.Need-overflow_cast-result
 cast_t10 c =
     let n = c.before.before.before in
-    let a = n.before.before.before.before.args in
-    omega (arith, value_le 32 (run is_digit (drop a.at a.line.now)) c.before.digits.given.0.0 (told n ∙ c.before.digits.given.1))
+    let a = n.args in
+    omega (arith, value_le 32 (run is_digit (drop a.at a.line.now)) c.digits-1.given.0.0 (told n ∙ c.digits-1.given.1))
 
-returns_2 : tie.Need-returns-2
+returns_2 : tie.Need-returns-in-Nothing
 unfolding pass_for
 returns_2 c =
     let n = c.before.before in
-    let a = n.before.before.before.before.args in
-    rw (number_by a.line.now a.at (λ k. n.before.if1.false (n.before.before.byte_at.ensures ∙ k)) _ (told n), c.enum_told.given.1)
+    let a = n.args in
+    rw (number_by a.line.now a.at (λ k. n.if-byte_at-eq48.false (n.byte_at.ensures ∙ k)) _ (told n), c.enum_told-1.given.1)
 
-returns_3 : tie.Need-returns-3
+returns_3 : tie.Need-returns-in-Past
 unfolding pass_for
 returns_3 c =
     let n = c.before.before in
-    let a = n.before.before.before.before.args in
-    rw (number_by a.line.now a.at (λ k. n.before.if1.false (n.before.before.byte_at.ensures ∙ k)) _ (told n), c.enum-told2.given.1)
+    let a = n.args in
+    rw (number_by a.line.now a.at (λ k. n.if-byte_at-eq48.false (n.byte_at.ensures ∙ k)) _ (told n), c.enum_told-in-Past-1.given.1)
 
-returns_4 : tie.Need-returns-4
+returns_4 : tie.Need-returns-in-Value
 unfolding pass_for number_at
 returns_4 c =
     let n = c.before.before.before in
-    let a = n.before.before.before.before.args in
-    rw (number_by a.line.now a.at (λ k. n.before.if1.false (n.before.before.byte_at.ensures ∙ k)) _ (told n), c.before.digits.given.1, n.read_number.ensures)
+    let a = n.args in
+    rw (number_by a.line.now a.at (λ k. n.if-byte_at-eq48.false (n.byte_at.ensures ∙ k)) _ (told n), c.digits-1.given.1, n.read_number-read.ensures)
 
 pub pass_number_spec : {M : Type 1} → statement M
 pass_number_spec =

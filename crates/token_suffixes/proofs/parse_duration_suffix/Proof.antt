@@ -8,42 +8,42 @@ use borrow.Author.Rules.{rules}
 use Rattle.token_suffixes.proofs.parse_duration_suffix.Statement.{statement}
 use Rattle.token_suffixes.proofs.parse_duration_suffix.Tie as tie
 
-returns : tie.Need-returns
+returns : tie.Need-returns-then-byte_at-ne47
 returns c =
     let b = c.before.before in
-    let h : get_or b.before.before.args.line.now b.number-or.result.next 0 ≡ 47 → ⊥ = λ e. c.if1.true (c.before.byte_at.ensures ∙ e) in
-    rw b.number-or.ensures (suffix_plain b.before.before.args.edition _ _ (rw b.number-or.ensures at h))
+    let h : get_or b.args.line.now b.number_or-num.result.next 0 ≡ 47 → ⊥ = λ e. c.if-byte_at-ne47.true (c.byte_at.ensures ∙ e) in
+    rw b.number_or-num.ensures (suffix_plain b.args.edition _ _ (rw b.number_or-num.ensures at h))
 
 -- a slash stands within the line
-slash : (c : tie.Else1) → get_or c.before.before.before.before.args.line.now c.before.before.number-or.result.next 0 ≡ 47
-slash c = sym c.before.byte_at.ensures ∙ c.if1.false
+slash : (c : tie.Else-byte_at-ne47) → get_or c.args.line.now c.number_or-num.result.next 0 ≡ 47
+slash c = sym c.byte_at.ensures ∙ c.if-byte_at-ne47.false
 
-within : (c : tie.Else1) → c.before.before.number-or.result.next < length c.before.before.before.before.args.line.now
-within c = slash_within c.before.before.before.before.args.line.now _ (slash c)
+within : (c : tie.Else-byte_at-ne47) → c.number_or-num.result.next < length c.args.line.now
+within c = slash_within c.args.line.now _ (slash c)
 
-is_run_requires : tie.Need-is-run-requires
+is_run_requires : tie.Need-is_run-requires
 is_run_requires c κs = within c
 
-returns_2 : tie.Need-returns-2
+returns_2 : tie.Need-returns-then-is_run
 returns_2 c =
     let e = c.before.before.before in
     let b = e.before.before in
-    let a = b.before.before.args in
-    let n = b.number-or.ensures in
-    let r = sym c.before.before.is-run.ensures ∙ c.before.if2.true in
+    let a = b.args in
+    let n = b.number_or-num.ensures in
+    let r = sym c.is_run.ensures ∙ c.if-is_run.true in
     rw (c.halvings.ensures, n) (suffix_run a.edition _ _ (rw n at (slash e)) (rw n at r))
 
-add_number_or : tie.Need-overflow-add-number-or
+add_number_or : tie.Need-overflow_add-slash
 add_number_or c = omega (arith, within c.before.before)
 
-returns_3 : tie.Need-returns-3
+returns_3 : tie.Need-returns
 returns_3 c =
     let e = c.before.before.before in
     let b = e.before.before in
-    let a = b.before.before.args in
-    let n = b.number-or.ensures in
-    let r = sym c.before.before.is-run.ensures ∙ c.before.if2.false in
-    rw (c.number-or2.ensures, n) (suffix_slash a.edition _ _ (rw n at (slash e)) (rw n at r))
+    let a = b.args in
+    let n = b.number_or-num.ensures in
+    let r = sym c.is_run.ensures ∙ c.if-is_run.false in
+    rw (c.number_or-den.ensures, n) (suffix_slash a.edition _ _ (rw n at (slash e)) (rw n at r))
 
 pub parse_duration_suffix_spec : {M : Type 1} → statement M
 parse_duration_suffix_spec =

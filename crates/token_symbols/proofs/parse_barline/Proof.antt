@@ -11,53 +11,53 @@ use Rattle.token_symbols.proofs.parse_barline.Statement.{statement}
 use Rattle.token_symbols.proofs.parse_barline.Tie as tie
 
 -- the second byte, as the definition sees it
-second : (c : tie.After-byte-at) → first (drop (c.before.before.before.args.at + 1) c.before.before.before.args.line.now) ≡ c.byte_at.result
-second c = first_at c.before.before.before.args.line.now (c.before.before.before.args.at + 1) ∙ sym c.byte_at.ensures
+second : (c : tie.After-byte_at-second) → first (drop (c.args.at + 1) c.args.line.now) ≡ c.byte_at-second.result
+second c = first_at c.args.line.now (c.args.at + 1) ∙ sym c.byte_at-second.ensures
 
 -- the line from its first byte on
-here : (c : tie.After-byte-at) → drop c.before.before.before.args.at c.before.before.before.args.line.now
-    ≡ get_or c.before.before.before.args.line.now c.before.before.before.args.at 0 ∷ drop (c.before.before.before.args.at + 1) c.before.before.before.args.line.now
-here c = drop_next c.before.before.before.args.line.now c.before.before.before.args.at 0 c.before.before.before.requires
+here : (c : tie.After-byte_at-second) → drop c.args.at c.args.line.now
+    ≡ get_or c.args.line.now c.args.at 0 ∷ drop (c.args.at + 1) c.args.line.now
+here c = drop_next c.args.line.now c.args.at 0 c.requires
 
-returns : tie.Need-returns
+returns : tie.Need-returns-in-58-second
 returns c =
     let b = c.before.before.before in
-    rw (c.read-bar.ensures, here b, c.before.before.match.keys1, start_symbol (drop (b.before.before.before.args.at + 1) b.before.before.before.args.line.now) (second b ∙ c.before.match2.keys1))
+    rw (c.read_bar.ensures, here b, c.in-124.keys1, start_symbol (drop (b.args.at + 1) b.args.line.now) (second b ∙ c.in-58-second.keys1))
 
-returns_2 : tie.Need-returns-2
+returns_2 : tie.Need-returns-in-124-second
 returns_2 c =
     let b = c.before.before.before in
-    rw (c.read-bar2.ensures, here b, c.before.before.match.keys1, double_symbol (drop (b.before.before.before.args.at + 1) b.before.before.before.args.line.now) (other_than _ 124 58 refl (second b ∙ c.before.match2.keys2)) (second b ∙ c.before.match2.keys2))
+    rw (c.read_bar-in-124-second.ensures, here b, c.in-124.keys1, double_symbol (drop (b.args.at + 1) b.args.line.now) (other_than _ 124 58 refl (second b ∙ c.in-124-second.keys2)) (second b ∙ c.in-124-second.keys2))
 
-returns_3 : tie.Need-returns-3
+returns_3 : tie.Need-returns-in-93
 returns_3 c =
     let b = c.before.before.before in
-    rw (c.read-bar3.ensures, here b, c.before.before.match.keys1, final_symbol (drop (b.before.before.before.args.at + 1) b.before.before.before.args.line.now) (other_than _ 93 58 refl (second b ∙ c.before.match2.keys3)) (other_than _ 93 124 refl (second b ∙ c.before.match2.keys3)) (second b ∙ c.before.match2.keys3))
+    rw (c.read_bar-in-93.ensures, here b, c.in-124.keys1, final_symbol (drop (b.args.at + 1) b.args.line.now) (other_than _ 93 58 refl (second b ∙ c.in-93.keys3)) (other_than _ 93 124 refl (second b ∙ c.in-93.keys3)) (second b ∙ c.in-93.keys3))
 
-returns_4 : tie.Need-returns-4
+returns_4 : tie.Need-returns-in_default-second
 returns_4 c =
     let b = c.before.before.before in
-    rw (c.read-bar4.ensures, here b, c.before.before.match.keys1, normal_symbol (drop (b.before.before.before.args.at + 1) b.before.before.before.args.line.now) (λ k. c.before.match2.rest.0.0.1 (sym (second b) ∙ k)) (λ k. c.before.match2.rest.0.1 (sym (second b) ∙ k)) (λ k. c.before.match2.rest.1 (sym (second b) ∙ k)))
+    rw (c.read_bar-in_default-second.ensures, here b, c.in-124.keys1, normal_symbol (drop (b.args.at + 1) b.args.line.now) (λ k. c.in_default-second.rest.0.0.1 (sym (second b) ∙ k)) (λ k. c.in_default-second.rest.0.1 (sym (second b) ∙ k)) (λ k. c.in_default-second.rest.1 (sym (second b) ∙ k)))
 
-returns_5 : tie.Need-returns-5
+returns_5 : tie.Need-returns-in-124-second-2
 returns_5 c =
     let b = c.before.before.before in
-    rw (c.read-bar5.ensures, here b, c.before.before.match.keys2, end_symbol (drop (b.before.before.before.args.at + 1) b.before.before.before.args.line.now) (second b ∙ c.before.match3.keys1))
+    rw (c.read_bar-in-124-second-2.ensures, here b, c.in-58.keys2, end_symbol (drop (b.args.at + 1) b.args.line.now) (second b ∙ c.in-124-second-2.keys1))
 
-returns_6 : tie.Need-returns-6
+returns_6 : tie.Need-returns-in-58-second-2
 returns_6 c =
     let b = c.before.before.before in
-    rw (c.read-bar6.ensures, here b, c.before.before.match.keys2, both_symbol (drop (b.before.before.before.args.at + 1) b.before.before.before.args.line.now) (other_than _ 58 124 refl (second b ∙ c.before.match3.keys2)) (second b ∙ c.before.match3.keys2))
+    rw (c.read_bar-in-58-second-2.ensures, here b, c.in-58.keys2, both_symbol (drop (b.args.at + 1) b.args.line.now) (other_than _ 58 124 refl (second b ∙ c.in-58-second-2.keys2)) (second b ∙ c.in-58-second-2.keys2))
 
-returns_7 : tie.Need-returns-7
+returns_7 : tie.Need-returns-in_default-second-2
 returns_7 c =
     let b = c.before.before in
-    rw (here b, c.before.match.keys2, colon_symbol (drop (b.before.before.before.args.at + 1) b.before.before.before.args.line.now) (λ k. c.match3.rest.0.1 (sym (second b) ∙ k)) (λ k. c.match3.rest.1 (sym (second b) ∙ k)))
+    rw (here b, c.in-58.keys2, colon_symbol (drop (b.args.at + 1) b.args.line.now) (λ k. c.in_default-second-2.rest.0.1 (sym (second b) ∙ k)) (λ k. c.in_default-second-2.rest.1 (sym (second b) ∙ k)))
 
-returns_8 : tie.Need-returns-8
+returns_8 : tie.Need-returns-in_default
 returns_8 c =
     let b = c.before in
-    rw (here b, other_symbol (drop (b.before.before.before.args.at + 1) b.before.before.before.args.line.now) (get_or b.before.before.before.args.line.now b.before.before.before.args.at 0) c.match.rest.0.1 c.match.rest.1)
+    rw (here b, other_symbol (drop (b.args.at + 1) b.args.line.now) (get_or b.args.line.now b.args.at 0) c.in_default.rest.0.1 c.in_default.rest.1)
 
 pub parse_barline_spec : {M : Type 1} → statement M
 parse_barline_spec =

@@ -12,29 +12,29 @@ use Rattle.token_symbols.proofs.positive.Statement.{statement}
 use Rattle.token_symbols.proofs.positive.Tie as tie
 
 -- the digits, as the definition writes them
-told : (c : tie.After-read-number) → written c.before.before.args.top (run is_digit (drop c.before.before.args.at c.before.before.args.line.now)) ≡ c.read_number.result.digits
+told : (c : tie.After-read_number-read) → written c.args.top (run is_digit (drop c.args.at c.args.line.now)) ≡ c.read_number-read.result.digits
 unfolding number_at
-told c = sym (ap (λ (r : Read). r.digits) c.read_number.ensures)
+told c = sym (ap (λ (r : Read). r.digits) c.read_number-read.ensures)
 
-returns : tie.Need-returns
+returns : tie.Need-returns-then-value-eq0
 unfolding number_for
 returns c =
     let b = c.before.before.before.before in
-    rw (is_zero _ _ _ (told b) _ c.before.before.digits.given.1 c.if1.true)
+    rw (is_zero _ _ _ (told b) _ c.digits-1.given.1 c.if-value-eq0.true)
 
-returns_2 : tie.Need-returns-2
+returns_2 : tie.Need-returns-in-Nothing
 unfolding number_for
-returns_2 c = rw (no_digits _ _ _ (told c.before.before) c.enum_told.given.1)
+returns_2 c = rw (no_digits _ _ _ (told c.before.before) c.enum_told-1.given.1)
 
-returns_3 : tie.Need-returns-3
+returns_3 : tie.Need-returns-in-Past
 unfolding number_for
-returns_3 c = rw (past_top _ _ _ (told c.before.before) c.enum-told2.given.1)
+returns_3 c = rw (past_top _ _ _ (told c.before.before) c.enum_told-in-Past-1.given.1)
 
-returns_4 : tie.Need-returns-4
+returns_4 : tie.Need-returns-else-value-eq0
 unfolding number_for number_at
 returns_4 c =
     let b = c.before.before.before.before in
-    rw (is_value _ _ _ (told b) _ c.before.before.digits.given.1 c.if1.false, b.read_number.ensures)
+    rw (is_value _ _ _ (told b) _ c.digits-1.given.1 c.if-value-eq0.false, b.read_number-read.ensures)
 
 pub positive_spec : {M : Type 1} → statement M
 positive_spec =

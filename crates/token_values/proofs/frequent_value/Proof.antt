@@ -18,55 +18,55 @@ begin : (num parts : ℕ) → Left 0 num parts
 unfolding frequent_of
 begin num parts = refl
 
-returns : tie.Need-returns
+returns : tie.Need-returns-then-parts-length
 unfolding ticks
-returns c = ap found_as (exact_first (written 5 0) _ _ _ c.if1.true ∙ begin _ _)
+returns c = ap found_as (exact_first (written 5 0) _ _ _ c.if-parts-length.true ∙ begin _ _)
 
-left_1 : (c : tie.Else1) → Left 1 c.before.args.num c.before.args.parts
+left_1 : (c : tie.Else-parts-length) → Left 1 c.args.num c.args.parts
 unfolding ticks
-left_1 c = exact_later (written 5 0) _ _ _ c.if1.false ∙ begin _ _
+left_1 c = exact_later (written 5 0) _ _ _ c.if-parts-length.false ∙ begin _ _
 
-returns_2 : tie.Need-returns-2
+returns_2 : tie.Need-returns-then-parts-length-2
 unfolding ticks
-returns_2 c = ap found_as (exact_first (written 4 0) _ _ _ c.if2.true ∙ left_1 c.before)
+returns_2 c = ap found_as (exact_first (written 4 0) _ _ _ c.if-parts-length-2.true ∙ left_1 c.before)
 
-left_2 : (c : tie.Else2) → Left 2 c.before.before.args.num c.before.before.args.parts
+left_2 : (c : tie.Else-parts-length-2) → Left 2 c.args.num c.args.parts
 unfolding ticks
-left_2 c = exact_later (written 4 0) _ _ _ c.if2.false ∙ left_1 c.before
+left_2 c = exact_later (written 4 0) _ _ _ c.if-parts-length-2.false ∙ left_1 c.before
 
-returns_3 : tie.Need-returns-3
+returns_3 : tie.Need-returns-then-parts-length-3
 unfolding ticks
-returns_3 c = ap found_as (exact_first (written 6 0) _ _ _ c.if3.true ∙ left_2 c.before)
+returns_3 c = ap found_as (exact_first (written 6 0) _ _ _ c.if-parts-length-3.true ∙ left_2 c.before)
 
-left_3 : (c : tie.Else3) → Left 3 c.before.before.before.args.num c.before.before.before.args.parts
+left_3 : (c : tie.Else-parts-length-3) → Left 3 c.args.num c.args.parts
 unfolding ticks
-left_3 c = exact_later (written 6 0) _ _ _ c.if3.false ∙ left_2 c.before
+left_3 c = exact_later (written 6 0) _ _ _ c.if-parts-length-3.false ∙ left_2 c.before
 
-returns_4 : tie.Need-returns-4
+returns_4 : tie.Need-returns-then-parts-length-4
 unfolding ticks
-returns_4 c = ap found_as (exact_first (written 3 0) _ _ _ c.if4.true ∙ left_3 c.before)
+returns_4 c = ap found_as (exact_first (written 3 0) _ _ _ c.if-parts-length-4.true ∙ left_3 c.before)
 
-left_4 : (c : tie.Else4) → Left 4 c.before.before.before.before.args.num c.before.before.before.before.args.parts
+left_4 : (c : tie.Else-parts-length-4) → Left 4 c.args.num c.args.parts
 unfolding ticks
-left_4 c = exact_later (written 3 0) _ _ _ c.if4.false ∙ left_3 c.before
+left_4 c = exact_later (written 3 0) _ _ _ c.if-parts-length-4.false ∙ left_3 c.before
 
-returns_5 : tie.Need-returns-5
+returns_5 : tie.Need-returns-then-parts-length-5
 unfolding ticks
-returns_5 c = ap found_as (exact_first (written 5 1) _ _ _ c.if5.true ∙ left_4 c.before)
+returns_5 c = ap found_as (exact_first (written 5 1) _ _ _ c.if-parts-length-5.true ∙ left_4 c.before)
 
-left_5 : (c : tie.Else5) → Left 5 c.before.before.before.before.before.args.num c.before.before.before.before.before.args.parts
+left_5 : (c : tie.Else-parts-length-5) → Left 5 c.args.num c.args.parts
 unfolding ticks
-left_5 c = exact_later (written 5 1) _ _ _ c.if5.false ∙ left_4 c.before
+left_5 c = exact_later (written 5 1) _ _ _ c.if-parts-length-5.false ∙ left_4 c.before
 
-returns_6 : tie.Need-returns-6
+returns_6 : tie.Need-returns-then-parts-length-6
 unfolding ticks
-returns_6 c = ap found_as (exact_first (written 4 1) _ _ _ c.if6.true ∙ left_5 c.before)
+returns_6 c = ap found_as (exact_first (written 4 1) _ _ _ c.if-parts-length-6.true ∙ left_5 c.before)
 
-left_6 : (c : tie.Else6) → Left 6 c.before.before.before.before.before.before.args.num c.before.before.before.before.before.before.args.parts
+left_6 : (c : tie.Else-parts-length-6) → Left 6 c.args.num c.args.parts
 unfolding ticks
-left_6 c = exact_later (written 4 1) _ _ _ c.if6.false ∙ left_5 c.before
+left_6 c = exact_later (written 4 1) _ _ _ c.if-parts-length-6.false ∙ left_5 c.before
 
-returns_7 : tie.Need-returns-7
+returns_7 : tie.Need-returns
 unfolding first_exact
 returns_7 c = ap found_as (left_6 c)
 

@@ -20,54 +20,54 @@ use Rattle.token_values.proofs.Sizes.{size_le}
 use Rattle.token_values.proofs.search_value.Statement.{statement}
 use Rattle.token_values.proofs.search_value.Tie as tie
 
-abbrev invariant_loop : tie.invariant_loop
+abbrev invariant_loop : tie.invariant-loop-dots
 invariant_loop num parts length met₀ below₀ k value dots₀ met below dots = (dots ≤ 4) × (met ≡ found.Nothing) × Counting length parts (4 * k + dots) below
 
-abbrev decreases_loop : tie.decreases_loop
+abbrev decreases_loop : tie.decreases-loop-dots
 decreases_loop num parts length met₀ below₀ k value dots₀ met below dots = 4 - dots
 
-abbrev invariant_search : tie.invariant_search
+abbrev invariant_search : tie.invariant-search
 invariant_search num parts length met₀ below₀ k₀ met below k = (k ≤ 10) × (met ≡ found.Nothing) × Counting length parts (4 * k) below
 
-abbrev decreases_search : tie.decreases_search
+abbrev decreases_search : tie.decreases-search
 decreases_search num parts length met₀ below₀ k₀ met below k = 10 - k
 
 search_holds : tie.Need-search-init invariant_loop decreases_loop invariant_search decreases_search
 search_holds c = (omega arith, refl, counting_start _ _)
 
-loop_holds : tie.Need-loop-init invariant_loop decreases_loop invariant_search decreases_search
-loop_holds c = let i = c.before.before.search.invariant in (omega arith, i.1, rw add-zero i.2)
+loop_holds : tie.Need-loop-dots-init invariant_loop decreases_loop invariant_search decreases_search
+loop_holds c = let i = c.search.invariant in (omega arith, i.1, rw add-zero i.2)
 
 -- within the loops the value and the dots are those of one of the forty
-k_lt : (c : tie.In-loop invariant_loop decreases_loop invariant_search decreases_search) → c.before.before.before.before.search.k < 10
+k_lt : (c : tie.In-loop-dots invariant_loop decreases_loop invariant_search decreases_search) → c.search.k < 10
 k_lt c = omega arith
 
-dots_lt : (c : tie.In-loop invariant_loop decreases_loop invariant_search decreases_search) → c.before.loop.dots < 4
+dots_lt : (c : tie.In-loop-dots invariant_loop decreases_loop invariant_search decreases_search) → c.loop-dots.dots < 4
 dots_lt c = omega arith
 
-value_lt : (c : tie.In-loop invariant_loop decreases_loop invariant_search decreases_search) → c.before.before.outward-value.result < 10
-value_lt c = rw c.before.before.outward-value.ensures (nth_lt _ (k_lt c))
+value_lt : (c : tie.In-loop-dots invariant_loop decreases_loop invariant_search decreases_search) → c.outward_value-value.result < 10
+value_lt c = rw c.outward_value-value.ensures (nth_lt _ (k_lt c))
 
 size_requires : tie.Need-size-requires invariant_loop decreases_loop invariant_search decreases_search
 size_requires c κs = (value_lt c, dots_lt c)
 
-mul_scaled : tie.Need-overflow-mul-scaled invariant_loop decreases_loop invariant_search decreases_search
+mul_scaled : tie.Need-overflow_mul-scaled invariant_loop decreases_loop invariant_search decreases_search
 mul_scaled c =
     let fit : c.size.result ≤ 7680 = rw c.size.ensures (size_le _ _ (value_lt c.before) (dots_lt c.before)) in
-    omega (arith, mul-le-mul fit c.before.before.before.before.before.before.requires.1)
+    omega (arith, mul-le-mul fit c.requires.1)
 
-add_below : tie.Need-overflow-add-below invariant_loop decreases_loop invariant_search decreases_search
-add_below c = omega (arith, count_le _ _ _ _ c.before.before.before.before.loop.invariant.2)
+add_below : tie.Need-overflow_add-below invariant_loop decreases_loop invariant_search decreases_search
+add_below c = omega (arith, count_le _ _ _ _ c.loop-dots.invariant.2)
 
-loop_again : tie.Need-loop-preserved invariant_loop decreases_loop invariant_search decreases_search
+loop_again : tie.Need-loop-dots-preserved invariant_loop decreases_loop invariant_search decreases_search
 loop_again c =
     let z = c.before.before in
     let l = z.before.before in
     let hk = k_lt z.before in
     let hd = dots_lt z.before in
-    let a = l.before.before.before.before.args in
-    let v = l.before.outward-value in
-    let i = l.loop.invariant in (
+    let a = l.args in
+    let v = l.outward_value-value in
+    let i = l.loop-dots.invariant in (
       omega arith,
       i.1,
       ⊎_elim
@@ -75,14 +75,14 @@ loop_again c =
           rw w.1 (count_below _ _ _ _ _ i.2 hk hd (rw (z.size.ensures, v.ensures) at p)))
           (λ w. let p : a.num * 1024 < z.size.result * a.parts = omega arith in
           rw w.1 (count_above _ _ _ _ _ i.2 hk hd (rw (z.size.ensures, v.ensures) at p)))
-          c.if2.branch,
+          c.if-scaled-length-2.branch,
     )
 
 search_again : tie.Need-search-preserved invariant_loop decreases_loop invariant_search decreases_search
 search_again c =
     let l = c.before in
-    let i = l.loop.invariant in
-    let e : 4 * (l.before.before.before.search.k + 1) ≡ 4 * l.before.before.before.search.k + l.loop.dots = omega arith in
+    let i = l.loop-dots.invariant in
+    let e : 4 * (l.search.k + 1) ≡ 4 * l.search.k + l.loop-dots.dots = omega arith in
     (omega arith, i.1, rw e i.2)
 
 -- WHAT THE SEARCH LEAVES: a value that meets the length, or how many are below it
@@ -91,37 +91,37 @@ Ended num parts found.Nothing n = (n ≤ 40) × (written_as (fraction num parts)
 Ended num parts (found.Value v d) n = written_as (fraction num parts) ≡ written v d
 
 left : (c : tie.Left-search invariant_loop decreases_loop invariant_search decreases_search)
-    → Ended c.before.before.args.num c.before.before.args.parts c.search-test.met c.search-test.below
+    → Ended c.args.num c.args.parts c.search-test.met c.search-test.below
 left c =
-    let a = c.before.before.args in
-    let i = c.before.search.invariant in
+    let a = c.args in
+    let i = c.search.invariant in
     ⊎_elim
-    (λ w. let e : 4 * c.before.search.k ≡ 40 = omega arith in
-    rw (w.1, w.2, i.1) (count_le _ _ _ _ i.2, written_count a.num a.parts _ c.before.before.requires.0 (count_over _ _ _ _ i.2 e)))
-    (λ w. let hk : c.before.search.k < 10 = omega arith in
+    (λ w. let e : 4 * c.search.k ≡ 40 = omega arith in
+    rw (w.1, w.2, i.1) (count_le _ _ _ _ i.2, written_count a.num a.parts _ c.requires.0 (count_over _ _ _ _ i.2 e)))
+    (λ w. let hk : c.search.k < 10 = omega arith in
     let hd : w.2.dots < 4 = omega arith in
     let hv : w.1.result < 10 = rw w.1.ensures (nth_lt _ hk) in
-    rw w.6 (written_met (fraction a.num a.parts) _ _ c.before.before.requires.0 hv hd (rw w.4.ensures at w.5.taken)))
+    rw w.6 (written_met (fraction a.num a.parts) _ _ c.requires.0 hv hd (rw w.4.ensures at w.5.taken)))
     c.search-test.branch
 
 -- which is what a search in that order answers
 answers : (c : tie.Left-search invariant_loop decreases_loop invariant_search decreases_search)
-    → search_in outward (fraction c.before.before.args.num c.before.before.args.parts) ≡ written_as (fraction c.before.before.args.num c.before.before.args.parts)
-answers c = outward_as_written (fraction c.before.before.args.num c.before.before.args.parts) (omega (arith, c.before.before.requires.0))
+    → search_in outward (fraction c.args.num c.args.parts) ≡ written_as (fraction c.args.num c.args.parts)
+answers c = outward_as_written (fraction c.args.num c.args.parts) (omega (arith, c.requires.0))
 
 -- none is met
-none_met : (c : tie.After-enum-told invariant_loop decreases_loop invariant_search decreases_search)
-    → Ended c.before.before.before.before.args.num c.before.before.before.before.args.parts found.Nothing c.before.before.search-test.below
-none_met c = rw c.enum_told.given.1 at (left c.before.before)
+none_met : (c : tie.In_default invariant_loop decreases_loop invariant_search decreases_search)
+    → Ended c.args.num c.args.parts found.Nothing c.search-test.below
+none_met c = rw c.enum_told-1.given.1 at (left c.before.before)
 
-longest_of_requires : tie.Need-longest-of-requires invariant_loop decreases_loop invariant_search decreases_search
+longest_of_requires : tie.Need-longest_of-requires invariant_loop decreases_loop invariant_search decreases_search
 longest_of_requires c κs = (none_met c).0
 
-returns : tie.Need-returns invariant_loop decreases_loop invariant_search decreases_search
-returns c = c.longest-of.ensures ∙ ap length_as (sym (none_met c.before).1 ∙ sym (answers c.before.before.before))
+returns : tie.Need-returns-in_default invariant_loop decreases_loop invariant_search decreases_search
+returns c = c.longest_of.ensures ∙ ap length_as (sym (none_met c.before).1 ∙ sym (answers c.before.before.before))
 
-returns_2 : tie.Need-returns-2 invariant_loop decreases_loop invariant_search decreases_search
-returns_2 c = ap length_as (sym (rw c.before.met.given.1 at (left c.before.before.before)) ∙ sym (answers c.before.before.before))
+returns_2 : tie.Need-returns invariant_loop decreases_loop invariant_search decreases_search
+returns_2 c = ap length_as (sym (rw c.met-1.given.1 at (left c.before.before.before)) ∙ sym (answers c.before.before.before))
 
 pub search_value_spec : {M : Type 1} → statement M
 search_value_spec =

@@ -1,0 +1,14 @@
+-- `abc::abc_parse_2_1` meets its contract: the answer of `parse_abc` in the second edition, packed.
+use mathlib.Core.Path.{ap, ◌∙◌}
+use borrow.Author.Rules.{rules}
+use Rattle.abc.specs.Packed.{packed}
+use Rattle.abc.proofs.Packs.{short_as}
+use Rattle.abc.proofs.abc_parse_2_1.Goals as goal
+
+pub pack-requires : goal.pack-requires
+pack-requires c = short_as _ _ _ _ _ c.parse_abc.ensures.result_value
+
+pub returns : goal.returns
+returns c =
+    let p = c.parse_abc.ensures in
+    (c.pack.ensures.value ∙ ap packed p.0, (c.pack.ensures.result_value ∙ p.0, (p.1.0, p.1.1)))

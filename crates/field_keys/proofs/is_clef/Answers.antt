@@ -1,0 +1,34 @@
+-- `field_keys::is_clef` meets its contract: the names one after the other.
+use mathlib.Core.Path.{sym, ◌∙◌}
+use Rattle.reader.specs.Keys.{clefs}
+use Rattle.laws.proofs.Bools.{or_false}
+use borrow.Author.Rules.{rules}
+use Rattle.field_keys.proofs.is_clef.Goals as goal
+
+pub returns-then-is_named : goal.returns-then-is_named
+unfolding clefs
+returns-then-is_named c = rw (sym c.is_named.ensures ∙ c.if-is_named.true)
+
+pub returns-then-is_named-2 : goal.returns-then-is_named-2
+unfolding clefs
+returns-then-is_named-2 c = rw (sym c.is_named.ensures ∙ c.if-is_named.false, sym c.is_named-2.ensures ∙ c.if-is_named-2.true)
+
+pub returns-then-is_named-3 : goal.returns-then-is_named-3
+unfolding clefs
+returns-then-is_named-3 c = rw (sym c.is_named.ensures ∙ c.if-is_named.false, sym c.is_named-2.ensures ∙ c.if-is_named-2.false, sym c.is_named-3.ensures ∙ c.if-is_named-3.true)
+
+pub returns-then-is_named-4 : goal.returns-then-is_named-4
+unfolding clefs
+returns-then-is_named-4 c = rw (sym c.is_named.ensures ∙ c.if-is_named.false, sym c.is_named-2.ensures ∙ c.if-is_named-2.false, sym c.is_named-3.ensures ∙ c.if-is_named-3.false, sym c.is_named-4.ensures ∙ c.if-is_named-4.true)
+
+pub returns-then-is_named-5 : goal.returns-then-is_named-5
+unfolding clefs
+returns-then-is_named-5 c = rw (sym c.is_named.ensures ∙ c.if-is_named.false, sym c.is_named-2.ensures ∙ c.if-is_named-2.false, sym c.is_named-3.ensures ∙ c.if-is_named-3.false, sym c.is_named-4.ensures ∙ c.if-is_named-4.false, sym c.is_named-5.ensures ∙ c.if-is_named-5.true)
+
+pub returns-then-is_named-6 : goal.returns-then-is_named-6
+unfolding clefs
+returns-then-is_named-6 c = rw (sym c.is_named.ensures ∙ c.if-is_named.false, sym c.is_named-2.ensures ∙ c.if-is_named-2.false, sym c.is_named-3.ensures ∙ c.if-is_named-3.false, sym c.is_named-4.ensures ∙ c.if-is_named-4.false, sym c.is_named-5.ensures ∙ c.if-is_named-5.false, sym c.is_named-6.ensures ∙ c.if-is_named-6.true)
+
+pub returns : goal.returns
+unfolding clefs
+returns c = rw (sym c.is_named.ensures ∙ c.if-is_named.false, sym c.is_named-2.ensures ∙ c.if-is_named-2.false, sym c.is_named-3.ensures ∙ c.if-is_named-3.false, sym c.is_named-4.ensures ∙ c.if-is_named-4.false, sym c.is_named-5.ensures ∙ c.if-is_named-5.false, sym c.is_named-6.ensures ∙ c.if-is_named-6.false, or_false) c.is_named-7.ensures

@@ -1,0 +1,8 @@
+-- `field_modal::is_beyond` meets its contract.
+use Rattle.reader.specs.Keys.{is_beyond}
+use borrow.Author.Rules.{rules}
+use Rattle.field_modal.proofs.is_beyond.Goals as goal
+
+pub returns : goal.returns
+unfolding is_beyond
+returns c = rw c.is_within.ensures

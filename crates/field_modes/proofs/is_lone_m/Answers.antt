@@ -1,0 +1,27 @@
+-- `field_modes::is_lone_m` meets its contract: an m, and behind it the part's end or no letter.
+use Prim.Native.Nat.{◌+◌, ◌<◌}
+use mathlib.Core.Path.{sym, ◌∙◌, ap}
+use mathlib.Core.Bool.{not}
+use native.Mathlib.Omega.{arith}
+use Rattle.field_modes.specs.Modes.{lone_m}
+use Rattle.field_modes.proofs.Words.{says_m, second_none, second_between, lower_letter}
+use borrow.Author.Rules.{rules}
+use Rattle.laws.proofs.Bools.{not_true, not_false}
+use Rattle.field_modes.proofs.is_lone_m.Goals as goal
+
+pub returns-then-not-says : goal.returns-then-not-says
+unfolding lone_m
+returns-then-not-says c = rw (← says_m, sym c.says.ensures ∙ not_true _ c.if-not-says.true)
+
+pub returns-then-e-i : goal.returns-then-e-i
+unfolding lone_m
+returns-then-e-i c =
+    let a = c in
+    rw (← says_m, sym c.says.ensures ∙ not_false _ c.if-not-says.false, second_none a.args.line.now a.args.i a.args.e c.if-e-i.true a.requires.1)
+
+pub returns : goal.returns
+unfolding lone_m
+returns c =
+    let a = c in
+    let h : a.args.i + 1 < a.args.e = omega arith in
+    rw (← says_m, sym c.says.ensures ∙ not_false _ c.if-not-says.false, second_between a.args.line.now a.args.i a.args.e h a.requires.1, lower_letter) (ap not c.is_letter.ensures)

@@ -1,0 +1,7 @@
+-- `lyric_lines::taken` meets its contract.
+use mathlib.Core.Path.{refl}
+use borrow.Author.Rules.{rules}
+use Rattle.lyric_lines.proofs.taken.Goals as goal
+
+pub returns : goal.returns
+returns c = record { note = c.note_from-next.ensures; before = refl; reached = refl }

@@ -1,0 +1,15 @@
+-- `lyric_spans::past_white` meets its contract.
+use borrow.Author.Rules.{rules}
+use mathlib.Core.Path.{◌≡◌, refl, sym, ◌∙◌}
+use Prim.Native.Nat.{◌-◌, ◌≤◌}
+use native.Mathlib.Omega.{arith}
+use Rattle.laws.specs.Bytes.{between}
+use Rattle.reader.specs.Pieces.{words, white_at}
+use Rattle.lyric_spans.proofs.Whites.{white_in, white_past, start_here}
+use Rattle.lyric_spans.proofs.past_white.Given as goal
+
+abbrev pub invariant-loop-i : goal.invariant-loop-i
+invariant-loop-i l = (l.at ≤ l.i) × (l.i ≤ l.end) × (words white_at (between l.text l.at l.end) ≡ words white_at (between l.text l.i l.end))
+
+abbrev pub decreases-loop-i : goal.decreases-loop-i
+decreases-loop-i l = l.end - l.i

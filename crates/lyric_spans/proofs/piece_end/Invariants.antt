@@ -1,0 +1,16 @@
+-- `lyric_spans::piece_end` meets its contract.
+use borrow.Author.Rules.{rules}
+use mathlib.Core.Path.{◌≡◌, refl, sym, ap, ◌∙◌}
+use Prim.Native.Nat.{◌-◌, ◌≤◌}
+use mathlib.Core.Bool.{not}
+use borrow.Author.Tests.{eq-eqb, ne_eqb}
+use Rattle.laws.specs.Spans.{end_in}
+use Rattle.laws.proofs.Parts.{end_in_more, end_in_stop, end_in_over}
+use Rattle.lyric_spans.specs.Spans.{no_hyphen}
+use Rattle.lyric_spans.proofs.piece_end.Given as goal
+
+abbrev pub invariant-loop-i : goal.invariant-loop-i
+invariant-loop-i l = (l.i ≤ l.end) × (end_in no_hyphen l.text l.i l.end ≡ end_in no_hyphen l.text l.at l.end)
+
+abbrev pub decreases-loop-i : goal.decreases-loop-i
+decreases-loop-i l = l.end - l.i

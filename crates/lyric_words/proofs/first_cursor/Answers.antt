@@ -1,0 +1,7 @@
+-- `lyric_words::first_cursor` meets its contract.
+use borrow.Author.Rules.{rules}
+use Rattle.lyric_words.proofs.Tokens.{first_start}
+use Rattle.lyric_words.proofs.first_cursor.Goals as goal
+
+pub returns : goal.returns
+returns c = first_start c.args.text.now c.args.end c.args.at _ c.next_start-start.ensures

@@ -1,0 +1,8 @@
+-- `part_accidentals::enter` meets its contract.
+use borrow.Author.Rules.{rules}
+use Rattle.part_accidentals.proofs.enter.Goals as goal
+
+pub returns : goal.returns
+returns c =
+    let state = c.args.state in
+    λ i. record { fifths = state.fifths; minor = state.minor; scopes = c.with_place-scopes.ensures i }

@@ -1,0 +1,6 @@
+-- `part_append::after_note` meets its contract.
+use borrow.Author.Rules.{rules}
+use Rattle.part_append.proofs.after_note.Goals as goal
+
+pub returns : goal.returns
+returns c = rw (c.count_sounded-x.ensures, c.one_fewer.ensures, c.with_run-x.ensures, c.update_abc_beam_run.ensures, c.place-x.ensures)

@@ -1,0 +1,6 @@
+-- `part_bars::open_measure` meets its contract.
+use borrow.Author.Rules.{rules}
+use Rattle.part_bars.proofs.open_measure.Goals as goal
+
+pub returns : goal.returns
+returns c = rw (c.with_heads-x.ensures, c.end_measure-x.ensures)

@@ -1,0 +1,17 @@
+-- `part_items::on_key` meets its contract.
+use Rattle.field_keys.specs.Passed.{key_as}
+use Rattle.part_items.proofs.Each.{simulates_item_as, key_none, key_some}
+use borrow.Author.Rules.{rules}
+use native.Mathlib.Omega.{arith}
+use Rattle.part_items.proofs.on_key.Goals as goal
+
+pub returns-then-counts-eq0 : goal.returns-then-counts-eq0
+returns-then-counts-eq0 c =
+    let a = c.args in
+    λ ed. simulates_item_as c.hear.ensures (key_none ed c.requires.0 (key_as a.header) (key_as a.key) c.if-counts-eq0.true)
+
+pub returns : goal.returns
+returns c =
+    let c0 = c in
+    λ ed. simulates_item_as c.hear-2.ensures
+    (key_some ed c0.requires.0 (key_as c0.args.header) (key_as c0.args.key) (omega (arith, c.if-counts-eq0.false)) c0.requires.1 _ c.set_key_mark.ensures)

@@ -1,0 +1,11 @@
+-- `part_rhythm::break_note` meets its contract.
+use Prim.Native.Nat.{◌+◌, ◌*◌}
+use Rattle.part_rhythm.proofs.Rhythm.{broken_written}
+use borrow.Author.Rules.{rules}
+use Rattle.part_rows.specs.Encoded.{note_row_width}
+use Rattle.part_rhythm.proofs.break_note.Goals as goal
+
+pub returns : goal.returns
+returns c =
+    let a = c.args in
+    broken_written a.store.now (a.at + note_row_width * a.i) a.up a.times _ c.get_written-w.ensures _ c.broken-m.ensures _ c.set_note_value.ensures

@@ -1,0 +1,6 @@
+-- `part_sounds::defer_nothing` meets its contract.
+use borrow.Author.Rules.{rules}
+use Rattle.part_sounds.proofs.defer_nothing.Goals as goal
+
+pub returns : goal.returns
+returns c = rw c.rest_row.ensures

@@ -1,0 +1,6 @@
+-- `part_sounds::rest_row` meets its contract.
+use borrow.Author.Rules.{rules}
+use Rattle.part_sounds.proofs.rest_row.Goals as goal
+
+pub returns : goal.returns
+returns c = rw (c.dots_of.ensures, c.value_of.ensures)

@@ -1,0 +1,6 @@
+-- `part_steps::hear` meets its contract.
+use borrow.Author.Rules.{rules}
+use Rattle.part_steps.proofs.hear.Goals as goal
+
+pub returns : goal.returns
+returns c = rw c.with_heads-x.ensures

@@ -1,0 +1,9 @@
+-- `part_steps::on_tuplet` meets its contract.
+use Rattle.part_steps.proofs.Registers.{tuplet_simulates}
+use borrow.Author.Rules.{rules}
+use Rattle.part_steps.proofs.on_tuplet.Goals as goal
+
+pub returns : goal.returns
+returns c =
+    let a = c.args in
+    λ t s. tuplet_simulates a.r t s a.actual a.normal a.count c.normal_in.result c.normal_in.ensures

@@ -1,0 +1,10 @@
+-- `part_stops::aim_stops` meets its contract.
+use native.Mathlib.Omega.{arith}
+use Rattle.part_stops.proofs.Backward.{Aiming, aiming_start, aiming_on, aiming_next, aiming_end}
+use Rattle.part_stops.proofs.aim_stops.Given as goal
+
+abbrev pub invariant-loop-j : goal.invariant-loop-j
+invariant-loop-j l = Aiming l.initial.scratch l.stops l.scratch l.a l.j
+
+abbrev pub decreases-loop-j : goal.decreases-loop-j
+decreases-loop-j l = l.j

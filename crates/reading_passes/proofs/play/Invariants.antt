@@ -1,0 +1,13 @@
+-- `reading_passes::play` meets its contract: pass after pass, as proofs/Playing has it.
+use mathlib.Core.Path.{refl}
+use native.Mathlib.Omega.{arith}
+use lib.ListN.{get_or-replicate}
+use borrow.Author.Rules.{rules}
+use Rattle.reading_passes.proofs.Playing.{Playing, rank_of, rank_less, went_in, playing_start, playing_lists, playing_starts, playing_end, playing_full, playing_on, room_same}
+use Rattle.reading_passes.proofs.play.Given as goal
+
+abbrev pub invariant-loop-x : goal.invariant-loop-x
+invariant-loop-x l = Playing l.reading l.part l.n l.room l.initial.list l.list l.kept l.x l.count
+
+abbrev pub decreases-loop-x : goal.decreases-loop-x
+decreases-loop-x l = rank_of l.n l.x

@@ -1,0 +1,46 @@
+-- `reading_played::write_list` meets its contract.
+use mathlib.Core.Path.{refl, ap, ◌∙◌}
+use native.Mathlib.Omega.{arith}
+use borrow.Author.Rules.{rules}
+use Rattle.reading_walk.specs.Played.{Outcome, refused_with}
+use Rattle.reading_passes.specs.Walks.{all_of}
+use Rattle.reading_played.proofs.Calls.{list_short, list_full, list_fits}
+use Rattle.reading_played.proofs.write_list.Goals as goal
+
+pub returns-then-list-lt-COUNT : goal.returns-then-list-lt-COUNT
+returns-then-list-lt-COUNT c =
+    let r = c.refuse.ensures in
+    let e = list_short _ _ c.if-list-lt-COUNT.true in
+    (r.0 ∙ ap (λ (o : Outcome). o.answer) e, r.1 ∙ ap (λ (o : Outcome). o.store) e)
+
+pub play-c-requires : goal.play-c-requires
+play-c-requires c = search rules
+
+pub returns-then-c : goal.returns-then-c
+returns-then-c c =
+    let a = c.args in
+    let r = c.refuse-then-c.ensures in
+    let e =
+    ap (refused_with 20) c.list-2-1.given
+    ∙ list_full (all_of a.reading.now a.part) _ _ c.if-list-lt-COUNT.false c.room_of-room.ensures (c.play-c.ensures.no_room c.if-c.true) in
+    (r.0 ∙ ap (λ (o : Outcome). o.answer) e, r.1 ∙ ap (λ (o : Outcome). o.store) e)
+
+pub overflow_cast-c : goal.overflow_cast-c
+overflow_cast-c c = let p = c.play-c.ensures.count_is c.if-c.false in omega (arith, p.1, c.room_of-room.ensures)
+
+pub overflow_mul-end : goal.overflow_mul-end
+overflow_mul-end c = let p = c.play-c.ensures.count_is c.if-c.false in omega (arith, p.1, c.room_of-room.ensures)
+
+pub overflow_add-end : goal.overflow_add-end
+overflow_add-end c = let p = c.play-c.ensures.count_is c.if-c.false in omega (arith, p.1, c.room_of-room.ensures)
+
+pub clear-requires : goal.clear-requires
+clear-requires c =
+    let p = c.play-c.ensures.count_is c.if-c.false in
+    omega (arith, p.1, c.room_of-room.ensures, c.if-list-lt-COUNT.false, c.list-3-1.given, c.list-2-1.given)
+
+pub returns : goal.returns
+returns c =
+    let p = c.play-c.ensures in
+    let f = c.if-c.false in
+    list_fits _ _ _ _ _ _ _ _ c.if-list-lt-COUNT.false c.room_of-room.ensures (p.count_is f).0 (p.count_is f).1 refl (p.store f) c.put_u32.ensures c.clear.ensures

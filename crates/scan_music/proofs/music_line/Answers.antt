@@ -1,0 +1,30 @@
+-- `scan_music::music_line` meets its contract.
+use mathlib.Core.Path.{refl, sym, ◌∙◌}
+use native.Mathlib.Omega.{arith}
+use Rattle.reader.specs.Scan.{act}
+use Rattle.scan_states.proofs.Items.{stays}
+use Rattle.scan_music.proofs.MusicLines.{line_high, lent_line, line_refused, line_counted, count_of}
+use borrow.Author.Rules.{rules}
+use Rattle.scan_music.proofs.music_line.Goals as goal
+
+pub returns-then-st : goal.returns-then-st
+unfolding act
+returns-then-st c = rw (c.next_line.ensures, c.if-st.true) (record { is = stays _ _; follows = (refl, (omega arith, (omega arith, omega arith))) })
+
+pub returns-then-is_high : goal.returns-then-is_high
+returns-then-is_high c =
+    let a = c.args in
+    rw c.refuse.ensures (line_high _ a.text.now a.scratch.now _ a.st a.from a.end c.if-st.false (sym c.is_high.ensures ∙ c.if-is_high.true))
+
+pub returns-in-On : goal.returns-in-On
+returns-in-On c =
+    let a = c.args in
+    line_counted _ a.text.now a.scratch.now a.st a.from a.end c.if-st.false (sym c.is_high.ensures ∙ c.if-is_high.false) _ _ _
+    (lent_line _ a.text.now a.from a.end (count_of a.st) _ _ c.in-On.is c.count_line-s.ensures) c.requires.ready.voices_fit c.requires.ready.part_fits c.add_music_line.ensures.value (c.add_music_line.ensures.by_index a.text.now)
+
+pub returns-in-Refused : goal.returns-in-Refused
+returns-in-Refused c =
+    let a = c.args in
+    rw c.refuse-in-Refused.ensures
+    (line_refused _ a.text.now a.scratch.now a.st a.from a.end c.if-st.false (sym c.is_high.ensures ∙ c.if-is_high.false) _ _
+    (lent_line _ a.text.now a.from a.end (count_of a.st) _ _ c.in-Refused.is c.count_line-s.ensures))

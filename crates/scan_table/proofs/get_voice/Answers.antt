@@ -1,0 +1,13 @@
+-- `scan_table::get_voice` meets its contract: the two numbers of its row, cut to the text.
+use Prim.Native.Nat.{◌*◌}
+use Rattle.scan_table.specs.Rows.{voice_row_width}
+use Rattle.scan_table.proofs.Rows.{voice_read}
+use borrow.Author.Rules.{rules}
+use Rattle.scan_table.proofs.get_voice.Goals as goal
+
+pub returns : goal.returns
+returns c =
+    let a = c.args in
+    let t = a.text.now in
+    let s = a.scratch.now in
+    voice_read t s (voice_row_width * a.i) _ (rw (← c.get_u32-at.ensures, ← c.get_u32-end.ensures) c.cut_place.ensures)

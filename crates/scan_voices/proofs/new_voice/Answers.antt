@@ -1,0 +1,19 @@
+-- `scan_voices::new_voice` meets its contract: its row, and two items more.
+use mathlib.Core.Path.{refl, ◌∙◌}
+use native.Mathlib.Omega.{arith}
+use Rattle.reader.specs.Scan.{voice_declared}
+use Rattle.scan_table.specs.Rows.{item_in, item_as}
+use Rattle.scan_voices.specs.Voices.{moved_to}
+use Rattle.scan_voices.proofs.Voices.{new_voice}
+use borrow.Author.Rules.{rules}
+use Rattle.scan_voices.proofs.new_voice.Goals as goal
+
+pub returns : goal.returns
+unfolding item_in item_as
+returns c =
+    let a = c.args in (
+      rw c.add_item.ensures.value (record { lines = refl; voices = refl; part = refl; items = omega arith }),
+      λ text. c.add_item.ensures.by_index text
+          ∙ new_voice text a.scratch.now _ _ a.n a.st.items a.a a.b _ a.st.in_header c.push_voice.ensures c.put_item.ensures (search rules) (search rules) (search rules)
+          (search rules) (search rules) (search rules) (λ i. (a.n, voice_declared (c.flag.ensures i))) (search rules) (moved_to a.st a.n) _ refl,
+    )

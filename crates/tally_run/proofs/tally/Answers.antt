@@ -1,0 +1,34 @@
+-- `tally_run::tally` meets its contract: too long, read, or refused.
+use mathlib.Core.Path.{◌∙◌}
+use borrow.Author.Rules.{rules}
+use Rattle.tally_run.proofs.Told.{whole, short, long, reading_short, scratch_short, reading_long, scratch_long, refused_text_lem, read_text}
+use Rattle.tally_run.proofs.tally.Goals as goal
+
+pub returns-then-input-gt-MOST_INPUT : goal.returns-then-input-gt-MOST_INPUT
+returns-then-input-gt-MOST_INPUT c =
+    let l = c.if-input-gt-MOST_INPUT.true in
+    let h = whole _ c.append_bytes.ensures.adds (long _ l) in
+    (h.counts, (h.text, (h.rest, (reading_long _ _ l, scratch_long _ _ l))))
+
+pub append_reading-requires : goal.append_reading-requires
+append_reading-requires c =
+    let p = c.parse_abc.ensures in
+    ((read_text _ _ _ _ _ _ p.0 c.in-Read.is p.1.0).room, search rules)
+
+pub returns-in-Read : goal.returns-in-Read
+returns-in-Read c =
+    let p = c.parse_abc.ensures in
+    let q = c.requires in
+    let l = c.if-input-gt-MOST_INPUT.false in
+    let t = (read_text _ _ _ _ _ _ p.0 c.in-Read.is p.1.0).is in
+    let h = whole _ c.append_reading.ensures (t ∙ short _ _ _ l q.0 q.1) in
+    (h.counts, (h.text, (h.rest, (p.1.0 ∙ reading_short _ _ _ _ l q.0 q.1, p.1.1 ∙ scratch_short _ _ _ _ l q.0 q.1))))
+
+pub returns-in-Refused : goal.returns-in-Refused
+returns-in-Refused c =
+    let p = c.parse_abc.ensures in
+    let q = c.requires in
+    let l = c.if-input-gt-MOST_INPUT.false in
+    let t = refused_text_lem _ _ _ _ p.0 c.in-Refused.is in
+    let h = whole _ c.append_refusal.ensures (t ∙ short _ _ _ l q.0 q.1) in
+    (h.counts, (h.text, (h.rest, (p.1.0 ∙ reading_short _ _ _ _ l q.0 q.1, p.1.1 ∙ scratch_short _ _ _ _ l q.0 q.1))))

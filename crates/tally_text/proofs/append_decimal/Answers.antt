@@ -1,0 +1,21 @@
+-- `tally_text::append_decimal` meets its contract: the digits that `io::decimal` writes, 20 at most.
+use Prim.Native.Nat.{◌<◌}
+use mathlib.Core.Path.{◌∙◌}
+use native.Mathlib.Omega.{arith}
+use borrow.Author.Rules.{rules}
+use lib.ListN.{length-take}
+use Rattle.tally_text.proofs.Texts.{called}
+use Rattle.tally_text.proofs.Digits.{decimal_is, few_digits}
+use Rattle.tally_text.proofs.append_decimal.Goals as goal
+
+pub append_bytes-requires : goal.append_bytes-requires
+append_bytes-requires c =
+    let d = c.type_inv.digits in
+    let m : c.args.n < 18446744073709551616 = search rules in
+    omega (arith, few_digits d.result c.args.n m d.ensures.1.0, length-take d.result d.new.1.0, c.requires)
+
+pub returns : goal.returns
+returns c =
+    let d = c.type_inv.digits.ensures in
+    let m : c.args.n < 18446744073709551616 = search rules in
+    called _ _ c.append_bytes.ensures.adds (d.1.1 ∙ decimal_is _ _ (few_digits _ _ m d.1.0) d.1.0)

@@ -1,0 +1,12 @@
+-- `tally_text::append_lines` meets its contract: what is written, and what is still to come, are all lines.
+use Prim.Native.Nat.{ℕ, ◌+◌, ◌-◌}
+use native.Mathlib.Omega.{arith}
+use borrow.Author.Rules.{rules}
+use Rattle.tally_text.proofs.Lines.{Doing, nothing, part_there, line_there, next, finished}
+use Rattle.tally_text.proofs.append_lines.Given as goal
+
+abbrev pub invariant-loop-i : goal.invariant-loop-i
+invariant-loop-i l = Doing l.reading l.n l.initial.out l.at l.out l.end l.place l.i
+
+abbrev pub decreases-loop-i : goal.decreases-loop-i
+decreases-loop-i l = l.n - l.i

@@ -1,0 +1,19 @@
+-- `text_lines::has_high` meets its contract. The loop's invariant: the greatest byte so far or what is left is above 127 where the line is.
+use borrow.Author.Rules.{rules}
+use mathlib.Core.Path.{◌≡◌, refl}
+use mathlib.Core.Bool.{◌||◌}
+use Prim.Native.Nat.{◌-◌}
+use lib.Dec.{ltb}
+use lib.ListN.{length, drop}
+use Rattle.reader.specs.Text.{has_high}
+use Rattle.text_lines.proofs.LineEnds.{high_next, high_over}
+use Rattle.text_lines.proofs.has_high.Goals as goal
+
+pub loop-i-init : goal.loop-i-init
+loop-i-init c = refl
+
+pub loop-i-preserved : goal.loop-i-preserved
+loop-i-preserved c = high_next _ _ c.loop-i.most c.greater-most.result c.loop-i-test.true c.greater-most.ensures c.loop-i.invariant
+
+pub returns : goal.returns
+returns c = high_over _ _ c.loop-i.most c.loop-i-test.false c.loop-i.invariant

@@ -1,0 +1,13 @@
+-- `text_lines::trim_bytes` meets its contract. The loop's invariant is `Trimming`.
+use borrow.Author.Rules.{rules}
+use Prim.Native.Nat.{◌-◌}
+use native.Mathlib.Omega.{arith}
+use Rattle.text_white.specs.States.{as_white}
+use Rattle.text_lines.proofs.Cleaning.{Trimming, trimming_start, trimming_on, trimming_end}
+use Rattle.text_lines.proofs.trim_bytes.Given as goal
+
+abbrev pub invariant-loop-i : goal.invariant-loop-i
+invariant-loop-i l = Trimming l.text l.from l.to (as_white l.t.q) l.t.end l.i
+
+abbrev pub decreases-loop-i : goal.decreases-loop-i
+decreases-loop-i l = l.to - l.i

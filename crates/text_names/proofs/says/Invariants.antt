@@ -1,0 +1,19 @@
+-- `text_names::says` meets its contract. The loop's invariant: what is left of the comparison from j on is the whole.
+use Prim.Native.Nat.{◌-◌, ◌≤◌, ◌<◌}
+use mathlib.Core.Path.{◌≡◌, refl, sym, ◌∙◌}
+use native.Mathlib.Omega.{arith}
+use lib.ListN.{length, drop}
+use Rattle.laws.specs.Lists.{starts_with}
+use Rattle.laws.specs.Bytes.{between}
+use Rattle.laws.proofs.Lists.{starts_with_end}
+use mathlib.Core.List.{map}
+use Rattle.standard.specs.Bytes.{lower}
+use Rattle.text_names.proofs.Texts.{length_lower, part_lower, starts_short, starts_on, starts_off}
+use borrow.Author.Rules.{rules}
+use Rattle.text_names.proofs.says.Given as goal
+
+abbrev pub invariant-loop-j : goal.invariant-loop-j
+invariant-loop-j l = (l.j ≤ length l.name) × (starts_with (drop l.j l.name) (drop l.j (map lower (between l.line l.i l.e))) ≡ starts_with l.name (map lower (between l.line l.i l.e)))
+
+abbrev pub decreases-loop-j : goal.decreases-loop-j
+decreases-loop-j l = length l.name - l.j

@@ -1,0 +1,20 @@
+-- `text_numbers::whole_number` meets its contract: the text is a number where its digits end with it.
+use mathlib.Core.Path.{sym}
+use Prim.Native.Nat.{◌≤◌, ◌<◌}
+use native.Mathlib.Omega.{arith}
+use lib.ListN.{length}
+use Rattle.text_numbers.proofs.Numbers.{whole_short, whole_all}
+use borrow.Author.Rules.{rules}
+use Rattle.text_numbers.proofs.whole_number.Goals as goal
+
+pub returns-then-next-text : goal.returns-then-next-text
+returns-then-next-text c =
+    let b = c in
+    let h : b.read_number-read.result.next < length b.args.text.now = omega arith in
+    sym (whole_short _ _ _ b.read_number-read.ensures h)
+
+pub returns : goal.returns
+returns c =
+    let b = c in
+    let h : length b.args.text.now ≤ b.read_number-read.result.next = omega arith in
+    whole_all _ _ _ b.read_number-read.ensures h

@@ -1,0 +1,22 @@
+-- `text_utf8::reads_utf8` meets its contract. The loop's invariant: the reading from here over what is left ends as that of the whole.
+use borrow.Author.Rules.{rules}
+use mathlib.Core.Path.{◌≡◌, refl, sym, ap, ◌∙◌}
+use Prim.Native.Nat.{◌-◌}
+use lib.ListN.{length, drop}
+use Rattle.laws.specs.Lists.{foldl}
+use Rattle.laws.proofs.Lists.{foldl_at, foldl_end}
+use Rattle.reader.specs.Text.{between, utf8_step, is_between, is_utf8}
+use Rattle.text_utf8.specs.States.{as_utf8}
+use Rattle.text_utf8.proofs.reads_utf8.Goals as goal
+
+pub loop-i-init : goal.loop-i-init
+loop-i-init c = refl
+
+pub loop-i-preserved : goal.loop-i-preserved
+loop-i-preserved c =
+    let l = c in
+    rw c.utf8_step-q.ensures (sym (foldl_at utf8_step _ _ _ 0 c.loop-i-test.true) ∙ l.loop-i.invariant)
+
+pub returns : goal.returns
+unfolding is_utf8
+returns c = c.is_between.ensures ∙ ap is_between (sym (foldl_end utf8_step _ _ _ c.loop-i-test.false) ∙ c.loop-i.invariant)

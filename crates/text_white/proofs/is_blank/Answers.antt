@@ -1,0 +1,30 @@
+-- `text_white::is_blank` meets its contract. The loop's invariant: the reading from here over what is left ends as that of the whole.
+use borrow.Author.Rules.{rules}
+use mathlib.Core.Path.{◌≡◌, refl, sym, ap, ◌∙◌}
+use Prim.Native.Nat.{◌-◌}
+use lib.ListN.{length, drop}
+use Rattle.laws.specs.Lists.{foldl}
+use Rattle.laws.proofs.Lists.{foldl_at, foldl_end}
+use Rattle.reader.specs.Text.{white, white_step, is_all_white, is_blank}
+use Rattle.text_white.specs.States.{as_white, is_other}
+use Rattle.text_white.proofs.Whites.{other_is_not_blank}
+use Rattle.text_white.proofs.is_blank.Goals as goal
+
+pub loop-i-init : goal.loop-i-init
+loop-i-init c = refl
+
+pub returns-then-is_other : goal.returns-then-is_other
+returns-then-is_other c =
+    let w = c in
+    other_is_not_blank _ _ (as_white w.loop-i.q) w.loop-i-test.true w.loop-i.invariant
+    (ap is_other (sym w.white_step-q.ensures) ∙ sym c.is_other.ensures ∙ c.if-is_other.true)
+
+pub loop-i-preserved : goal.loop-i-preserved
+loop-i-preserved c =
+    let w = c in
+    let l = w in
+    rw w.white_step-q.ensures (sym (foldl_at white_step _ _ _ 0 w.loop-i-test.true) ∙ l.loop-i.invariant)
+
+pub returns : goal.returns
+unfolding is_blank
+returns c = c.is_all_white.ensures ∙ ap is_all_white (sym (foldl_end white_step _ _ _ c.loop-i-test.false) ∙ c.loop-i.invariant)

@@ -1,0 +1,14 @@
+-- `token_lexemes::broken` meets its contract.
+use Rattle.token_lexemes.proofs.Closed.{too_many, not_too_many}
+use borrow.Author.Rules.{rules}
+use Rattle.token_lexemes.proofs.broken.Goals as goal
+
+pub returns-then-count-gt255 : goal.returns-then-count-gt255
+returns-then-count-gt255 c =
+    let a = c.args in
+    too_many a.line.now a.at a.b c.run_end-end.result a.up c.requires c.run_end-end.ensures c.if-count-gt255.true
+
+pub returns : goal.returns
+returns c =
+    let a = c.args in
+    not_too_many a.line.now a.at a.b c.run_end-end.result a.up c.requires c.run_end-end.ensures c.if-count-gt255.false

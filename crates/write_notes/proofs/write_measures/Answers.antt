@@ -1,0 +1,16 @@
+-- `write_notes::write_measures` meets its contract: the count, and the rows as they are.
+use native.Mathlib.Omega.{arith}
+use Rattle.write_notes.proofs.Out.{measures_none, measures_wrote, measures_say}
+use borrow.Author.Rules.{rules}
+use Rattle.write_notes.proofs.write_measures.Goals as goal
+
+pub returns-then-to-lt-COUNT : goal.returns-then-to-lt-COUNT
+returns-then-to-lt-COUNT c = let s = c in measures_say (measures_none s.args.store.now s.args.t s.requires (omega arith))
+
+pub returns-then-to-len : goal.returns-then-to-len
+returns-then-to-len c = let s = c in measures_say (measures_none s.args.store.now s.args.t s.requires (omega arith))
+
+pub returns : goal.returns
+returns c =
+    let s = c in
+    measures_say (measures_wrote s.args.store.now s.args.t s.requires c.put_u32.ensures c.copy.ensures (omega arith))

@@ -1,0 +1,18 @@
+-- `write_notes::write_overlays` meets its contract: voice after voice.
+use Prim.Native.Nat.{◌+◌, ◌-◌, ◌≤◌}
+use mathlib.Core.Path.{◌≡◌, refl}
+use native.Mathlib.Omega.{arith}
+use lib.ListN.{length}
+use Rattle.store_sections.proofs.Writes.{told}
+use Rattle.write_notes.specs.Out.{voices_out}
+use Rattle.write_notes.proofs.Written.{Written, begin, written_in, written_on_lem, written_none, written_all}
+use Rattle.write_notes.proofs.Out.{voices_step, voices_none}
+use borrow.Author.Rules.{rules}
+use Rattle.write_notes.proofs.write_overlays.Given as goal
+
+abbrev pub invariant-loop-voice : goal.invariant-loop-voice
+invariant-loop-voice l =
+    (l.voice ≤ 4) × (length l.to ≡ length l.initial.to) × Written l.initial.to (voices_out l.store l.place l.k 1 3) (voices_out l.store l.place l.k l.voice (4 - l.voice)) l.to l.at
+
+abbrev pub decreases-loop-voice : goal.decreases-loop-voice
+decreases-loop-voice l = 4 - l.voice

@@ -1,0 +1,34 @@
+-- `write_pitches::write_pitches` meets its contract: the count, and the pitches where it ended.
+use native.Mathlib.Omega.{arith}
+use Rattle.store_sections.proofs.Writes.{told, in_store, next_to, next_none, none}
+use Rattle.write_pitches.proofs.Out.{pitches_say}
+use borrow.Author.Rules.{rules}
+use Rattle.write_pitches.proofs.write_pitches.Goals as goal
+
+-- the count has no room
+pub returns-in_default : goal.returns-in_default
+returns-in_default c =
+    pitches_say (none (told c.write_u32.ensures c.in_default.is) _)
+
+pub slice_bounds-write_all-count : goal.slice_bounds-write_all-count
+slice_bounds-write_all-count c = omega (arith, (in_store (told c.write_u32.ensures c.in-To.is)).0)
+
+pub slice_bounds-write_all-start : goal.slice_bounds-write_all-start
+slice_bounds-write_all-start c = omega (arith, (in_store (told c.write_u32.ensures c.in-To.is)).0)
+
+-- the pitches have none
+pub returns-in_default-write_all : goal.returns-in_default-write_all
+returns-in_default-write_all c =
+    let at = c in
+    pitches_say (next_none (told at.write_u32.ensures at.in-To.is) (told c.write_all.ensures c.in_default-write_all.is))
+
+pub overflow_add-result : goal.overflow_add-result
+overflow_add-result c =
+    let at = c in
+    omega (arith, (next_to (told at.write_u32.ensures at.in-To.is) (told c.write_all.ensures c.in-To-write_all.is)).says.1, at.well_formed)
+
+-- both wrote
+pub returns : goal.returns
+returns c =
+    let at = c in
+    pitches_say (next_to (told at.write_u32.ensures at.in-To.is) (told c.write_all.ensures c.in-To-write_all.is))

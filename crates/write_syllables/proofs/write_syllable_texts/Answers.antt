@@ -1,0 +1,51 @@
+-- `write_syllables::write_syllable_texts` meets its contract: what is said of the chain is said of the note whose chain it is.
+use mathlib.Core.Path.{sym, ap, ◌∙◌}
+use mathlib.Core.Bool.{true}
+use native.Mathlib.Omega.{arith}
+use borrow.Author.Rules.{rules}
+use Rattle.store_sections.proofs.Writes.{start}
+use Rattle.write_notes.proofs.Out.{wrote_as_lem}
+use Rattle.lyrics.specs.Sheet.{syllables_in}
+use Rattle.lyrics.proofs.Sheets.{how_many}
+use Rattle.lyric_walk.specs.Walks.{syllable_is}
+use Rattle.write_syllables.specs.Pieces.{pieces}
+use Rattle.write_syllables.proofs.Pieces.{pieces_past, sole_none, sole_one, sole_in}
+use Rattle.write_syllables.proofs.write_syllable_texts.Goals as goal
+
+-- past the last of the sheet
+pub returns-then-sheet-sung : goal.returns-then-sheet-sung
+returns-then-sheet-sung c =
+    let a = c.args in
+    wrote_as_lem (start _) (sym (pieces_past true 0 (syllables_in a.text.now a.store.now a.sheet) a.sung (omega (arith, how_many a.text.now a.store.now a.sheet, c.if-sheet-sung.true))))
+
+pub sole_syllable-sole-requires : goal.sole_syllable-sole-requires
+sole_syllable-sole-requires c = omega (arith, c.head-k.ensures.low, c.requires.0.log)
+
+pub write_text-requires : goal.write_text-requires
+write_text-requires c =
+    let a = c.args in
+    sole_in a.text.now a.store.now a.sheet.log c.head-k.result _ _ c.sole_syllable-sole.ensures c.in-One.is
+
+pub write_verses-requires : goal.write_verses-requires
+write_verses-requires c = omega (arith, c.head-k.ensures.low, c.requires.0.log)
+
+-- no row
+pub returns-in-Nothing : goal.returns-in-Nothing
+returns-in-Nothing c =
+    let a = c.args in
+    let head = c.head-k in
+    wrote_as_lem (start _) (sym (sole_none true 0 a.text.now a.store.now a.sheet.log head.result _ c.sole_syllable-sole.ensures c.in-Nothing.is) ∙ ap (pieces true 0) (sym (head.ensures.sung a.text.now)))
+
+-- one
+pub returns-in-One : goal.returns-in-One
+unfolding syllable_is
+returns-in-One c =
+    let a = c.args in
+    let head = c.head-k in
+    wrote_as_lem c.write_text.ensures (sym (sole_one true 0 a.text.now a.store.now a.sheet.log head.result _ _ c.sole_syllable-sole.ensures c.in-One.is) ∙ ap (pieces true 0) (sym (head.ensures.sung a.text.now)))
+
+-- several
+pub returns-in-Several : goal.returns-in-Several
+returns-in-Several c =
+    let a = c.args in
+    wrote_as_lem c.write_verses.ensures (ap (pieces true 0) (sym (c.head-k.ensures.sung a.text.now)))
