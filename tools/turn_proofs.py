@@ -226,6 +226,26 @@ class Proof:
     def turn_body(self, text, places, arms, keep_before):
         """Turns the paths of a body. places: variable -> place index."""
         places = dict(places)
+        # a local name for a place, or for what a match told, is written out
+        locals_ = re.compile(r"\blet (" + WORD + r") = (" + WORD + r")((?:\." + WORD + r")*) in[ \n]\s*")
+        at = 0
+        while not keep_before:
+            m = locals_.search(text, at)
+            if m is None:
+                break
+            at = m.end()
+            if m[2] not in places:
+                continue
+            i, rest, _ = self.names.walk(places[m[2]], m[3].split(".")[1:])
+            behind = text[m.end() :]
+            if rest and not (rest[-1] == "given" and len(rest) == 2):
+                continue
+            put = m[2] + m[3]
+            behind = re.sub(r"(?<![^\s(){};,\[])" + re.escape(m[1]) + r"(?=\.)", lambda _: put, behind)
+            if re.search(r"(?<![^\s(){};,\[])" + re.escape(m[1]) + r"(?![^\s(){};,])", behind):
+                continue
+            text = text[: m.start()] + behind
+            at = m.start()
         for m in re.finditer(r"\blet (" + WORD + r") = (" + WORD + r")((?:\.before)*) in\b", text):
             if m[2] in places:
                 i, _, _ = self.names.walk(places[m[2]], m[3].split(".")[1:])
@@ -472,7 +492,9 @@ class Proof:
                 clauses.append(" ".join([d["name"]] + params) + " =" + text)
             out.append(self.shown(d, d["marks"], d["name"], sig, clauses))
         with open(f"crates/{self.crate}/proofs/{self.path}/Proof.antt", "w", encoding="utf-8") as f:
-            f.write("\n".join(self.head + self.uses + [""]) + "\n" + "\n\n".join(out) + "\n")
+            where = f"Rattle.{self.crate}.proofs.{self.path.replace('/', '.')}."
+            uses = [re.sub(r"Rattle\.\S+?\.proofs\.\S+?\.(?=Statement|Tie\b)", where, u) for u in self.uses]
+            f.write("\n".join(self.head + uses + [""]) + "\n" + "\n\n".join(out) + "\n")
         return "proof"
 
 
