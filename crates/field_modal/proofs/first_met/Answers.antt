@@ -21,32 +21,27 @@ word_end-e-requires c = c.requires.1
 
 pub word_met-met-requires : goal.word_met-met-requires
 word_met-met-requires c =
-    let a = c in
-    rw c.word_end-e.ensures (word_inside a.args.line.now a.args.b c.loop-i.i a.requires.1 c.loop-i.invariant.at c.loop-i-test.true)
+    rw c.word_end-e.ensures (word_inside c.args.line.now c.args.b c.loop-i.i c.requires.1 c.loop-i.invariant.at c.loop-i-test.true)
 
 pub returns-in_default : goal.returns-in_default
 returns-in_default c =
-    let g = c.enum_told-in_default-1.given in
-    let a = c in
-    ap met_as g.1
-    ∙ meeting_here _ _ _ _ _ a.requires.1 c.loop-i.invariant c.loop-i-test.true g.0.0
-    (rw (← c.word_end-e.ensures) (sym c.word_met-met.ensures ∙ ap met_as g.1))
+    ap met_as c.in_default.is
+    ∙ meeting_here _ _ _ _ _ c.requires.1 c.loop-i.invariant c.loop-i-test.true c.in_default.field-0
+    (rw (← c.word_end-e.ensures) (sym c.word_met-met.ensures ∙ ap met_as c.in_default.is))
 
 pub word_start-i-requires-in-loop-i : goal.word_start-i-requires-in-loop-i
 word_start-i-requires-in-loop-i c = c.requires.1
 
 pub loop-i-smaller : goal.loop-i-smaller
 loop-i-smaller c =
-    let a = c in
     let l = c.loop-i in
-    let past : l.i < c.word_start-i-in-loop-i.result = rw (c.word_start-i-in-loop-i.ensures, c.word_end-e.ensures) (next_past a.args.line.now a.args.b l.i a.requires.1 l.invariant.at c.loop-i-test.true) in
+    let past : l.i < c.word_start-i-in-loop-i.result = rw (c.word_start-i-in-loop-i.ensures, c.word_end-e.ensures) (next_past c.args.line.now c.args.b l.i c.requires.1 l.invariant.at c.loop-i-test.true) in
     omega arith
 
 pub loop-i-preserved : goal.loop-i-preserved
 loop-i-preserved c =
-    let a = c in
     rw (c.word_start-i-in-loop-i.ensures, c.word_end-e.ensures)
-    (meeting_on _ _ _ _ _ a.requires.1 c.loop-i.invariant c.loop-i-test.true
+    (meeting_on _ _ _ _ _ c.requires.1 c.loop-i.invariant c.loop-i-test.true
     (rw (← c.word_end-e.ensures) (sym c.word_met-met.ensures ∙ ap met_as c.in-Nothing.is)))
 
 pub returns : goal.returns

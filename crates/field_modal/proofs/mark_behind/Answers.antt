@@ -16,20 +16,17 @@ returns-then-e-i c = rw (between_none _ _ _ c.if-e-i.true)
 pub returns-then-c-eq35 : goal.returns-then-c-eq35
 unfolding mark_behind
 returns-then-c-eq35 c =
-    let a = c in
-    let f = first_between a.args.line.now (a.args.i + 1) a.args.e (omega arith) a.requires.1 in
+    let f = first_between c.args.line.now (c.args.i + 1) c.args.e (omega arith) c.requires.1 in
     rw (f, eq-eqb _ _ c.if-c-eq35.true)
 
 pub returns-then-c-eq98 : goal.returns-then-c-eq98
 unfolding mark_behind
 returns-then-c-eq98 c =
-    let a = c in
-    let f = first_between a.args.line.now (a.args.i + 1) a.args.e (omega arith) a.requires.1 in
+    let f = first_between c.args.line.now (c.args.i + 1) c.args.e (omega arith) c.requires.1 in
     rw (f, ne_eqb _ _ c.if-c-eq35.false, eq-eqb _ _ c.if-c-eq98.true)
 
 pub returns-else-c-eq98 : goal.returns-else-c-eq98
 unfolding mark_behind
 returns-else-c-eq98 c =
-    let a = c in
-    let f = first_between a.args.line.now (a.args.i + 1) a.args.e (omega arith) a.requires.1 in
+    let f = first_between c.args.line.now (c.args.i + 1) c.args.e (omega arith) c.requires.1 in
     rw (f, ne_eqb _ _ c.if-c-eq35.false, ne_eqb _ _ c.if-c-eq98.false)

@@ -16,12 +16,10 @@ returns-then-not-says c = rw (← says_m, sym c.says.ensures ∙ not_true _ c.if
 pub returns-then-e-i : goal.returns-then-e-i
 unfolding lone_m
 returns-then-e-i c =
-    let a = c in
-    rw (← says_m, sym c.says.ensures ∙ not_false _ c.if-not-says.false, second_none a.args.line.now a.args.i a.args.e c.if-e-i.true a.requires.1)
+    rw (← says_m, sym c.says.ensures ∙ not_false _ c.if-not-says.false, second_none c.args.line.now c.args.i c.args.e c.if-e-i.true c.requires.1)
 
 pub returns : goal.returns
 unfolding lone_m
 returns c =
-    let a = c in
-    let h : a.args.i + 1 < a.args.e = omega arith in
-    rw (← says_m, sym c.says.ensures ∙ not_false _ c.if-not-says.false, second_between a.args.line.now a.args.i a.args.e h a.requires.1, lower_letter) (ap not c.is_letter.ensures)
+    let h : c.args.i + 1 < c.args.e = omega arith in
+    rw (← says_m, sym c.says.ensures ∙ not_false _ c.if-not-says.false, second_between c.args.line.now c.args.i c.args.e h c.requires.1, lower_letter) (ap not c.is_letter.ensures)

@@ -18,31 +18,27 @@ word_end-e-requires c = c.requires.1
 
 pub is_key_word-requires : goal.is_key_word-requires
 is_key_word-requires c =
-    let a = c in
-    rw c.word_end-e.ensures (word_inside a.args.line.now a.args.b c.loop-i.i a.requires.1 c.loop-i.invariant.at c.loop-i-test.true)
+    rw c.word_end-e.ensures (word_inside c.args.line.now c.args.b c.loop-i.i c.requires.1 c.loop-i.invariant.at c.loop-i-test.true)
 
 pub returns-then-is_key_word : goal.returns-then-is_key_word
 returns-then-is_key_word c =
     let l = c.loop-i in
-    let a = c in
     rw c.word_end-e.ensures
-    (seeking_here _ _ _ _ a.requires.1 l.invariant c.loop-i-test.true (rw (← c.word_end-e.ensures) (sym c.is_key_word.ensures ∙ c.if-is_key_word.true)))
+    (seeking_here _ _ _ _ c.requires.1 l.invariant c.loop-i-test.true (rw (← c.word_end-e.ensures) (sym c.is_key_word.ensures ∙ c.if-is_key_word.true)))
 
 pub word_start-i-requires-in-loop-i : goal.word_start-i-requires-in-loop-i
 word_start-i-requires-in-loop-i c = c.requires.1
 
 pub loop-i-smaller : goal.loop-i-smaller
 loop-i-smaller c =
-    let a = c in
     let l = c.loop-i in
-    let past : l.i < c.word_start-i-in-loop-i.result = rw (c.word_start-i-in-loop-i.ensures, c.word_end-e.ensures) (next_past a.args.line.now a.args.b l.i a.requires.1 l.invariant.at c.loop-i-test.true) in
+    let past : l.i < c.word_start-i-in-loop-i.result = rw (c.word_start-i-in-loop-i.ensures, c.word_end-e.ensures) (next_past c.args.line.now c.args.b l.i c.requires.1 l.invariant.at c.loop-i-test.true) in
     omega arith
 
 pub loop-i-preserved : goal.loop-i-preserved
 loop-i-preserved c =
-    let a = c in
     rw (c.word_start-i-in-loop-i.ensures, c.word_end-e.ensures)
-    (seeking_on _ _ _ _ a.requires.1 c.loop-i.invariant c.loop-i-test.true
+    (seeking_on _ _ _ _ c.requires.1 c.loop-i.invariant c.loop-i-test.true
     (rw (← c.word_end-e.ensures) (sym c.is_key_word.ensures ∙ c.if-is_key_word.false)))
 
 pub returns : goal.returns

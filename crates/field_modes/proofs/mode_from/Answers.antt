@@ -13,9 +13,8 @@ use Rattle.field_modes.proofs.mode_from.Goals as goal
 pub returns-then-i-e : goal.returns-then-i-e
 unfolding mode_from
 returns-then-i-e c =
-    let a = c in
-    let l : a.args.e ≤ length a.args.line.now = omega (arith, a.requires.1, a.requires.2) in
-    rw (between_first a.args.line.now a.args.i a.args.e c.if-i-e.true l) (rw (← between_first a.args.line.now a.args.i a.args.e c.if-i-e.true l) c.mode_at.ensures)
+    let l : c.args.e ≤ length c.args.line.now = omega (arith, c.requires.1, c.requires.2) in
+    rw (between_first c.args.line.now c.args.i c.args.e c.if-i-e.true l) (rw (← between_first c.args.line.now c.args.i c.args.e c.if-i-e.true l) c.mode_at.ensures)
 
 pub mode_at-requires-2 : goal.mode_at-requires-2
 mode_at-requires-2 c = (c.key_word-w.ensures.order, omega (arith, c.key_word-w.ensures.high, c.requires.2))
@@ -23,5 +22,4 @@ mode_at-requires-2 c = (c.key_word-w.ensures.order, omega (arith, c.key_word-w.e
 pub returns : goal.returns
 unfolding mode_from
 returns c =
-    let a = c in
-    rw (between_none a.args.line.now a.args.i a.args.e c.if-i-e.false) (c.mode_at-2.ensures ∙ ap flatter (next_mode _ _ _ _ c.key_word-w.ensures))
+    rw (between_none c.args.line.now c.args.i c.args.e c.if-i-e.false) (c.mode_at-2.ensures ∙ ap flatter (next_mode _ _ _ _ c.key_word-w.ensures))

@@ -14,10 +14,8 @@ returns-then-get_volta-ne-VOLTA_BEGINS c = (only_none _ _ _, λ x y m o h s. non
 pub returns-then-ends_at : goal.returns-then-ends_at
 returns-then-ends_at c =
     let e = c.set_volta_code.ensures in
-    let d = c in
-    (only_splice _ _ _ _ _ _ e (omega arith) (omega arith), λ x y m o h s. none_alone h o _ _ c.requires.2 s (sym (starts_code m _ (d.get_volta.ensures ∙ byte_of h volta_at (omega arith))) ∙ eq-eqb _ 1 d.if1.false) (sym (c.ends_at.ensures x y m h) ∙ c.if-ends_at.true) e)
+    (only_splice _ _ _ _ _ _ e (omega arith) (omega arith), λ x y m o h s. none_alone h o _ _ c.requires.2 s (sym (starts_code m _ (c.get_volta.ensures ∙ byte_of h volta_at (omega arith))) ∙ eq-eqb _ 1 c.if-get_volta-ne-VOLTA_BEGINS.false) (sym (c.ends_at.ensures x y m h) ∙ c.if-ends_at.true) e)
 
 pub returns : goal.returns
 returns c =
-    let d = c in
-    (only_none _ _ _, λ x y m o h s. none_starts h o _ _ c.requires.2 s (sym (starts_code m _ (d.get-volta.ensures ∙ byte_of h volta_at (omega arith))) ∙ eq-eqb _ 1 d.if1.false) (sym (c.ends_at.ensures x y m h) ∙ c.if-ends_at.false) refl c.get_first_pass.ensures c.get_passes.ensures)
+    (only_none _ _ _, λ x y m o h s. none_starts h o _ _ c.requires.2 s (sym (starts_code m _ (c.get_volta.ensures ∙ byte_of h volta_at (omega arith))) ∙ eq-eqb _ 1 c.if-get_volta-ne-VOLTA_BEGINS.false) (sym (c.ends_at.ensures x y m h) ∙ c.if-ends_at.false) refl c.get_first_pass.ensures c.get_passes.ensures)

@@ -13,6 +13,5 @@ returns-then-get_mode-ne0 c = (only_none _ _ _, λ heads t h. marked_already _ h
 
 pub returns : goal.returns
 returns c =
-    let d = c in
     let e = c.set_key_mark.ensures in
-    (only_splice _ _ _ _ _ _ e (omega arith) (omega arith), λ heads t h. marked_now _ heads _ t h c.if-n-eq0.false _ d.get_mode.ensures d.if-get_mode-ne0.false e)
+    (only_splice _ _ _ _ _ _ e (omega arith) (omega arith), λ heads t h. marked_now _ heads _ t h c.if-n-eq0.false _ c.get_mode.ensures c.if-get_mode-ne0.false e)

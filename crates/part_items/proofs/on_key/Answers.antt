@@ -12,6 +12,5 @@ returns-then-counts-eq0 c =
 
 pub returns : goal.returns
 returns c =
-    let c0 = c in
     λ ed. simulates_item_as c.hear-2.ensures
-    (key_some ed c0.requires.0 (key_as c0.args.header) (key_as c0.args.key) (omega (arith, c.if-counts-eq0.false)) c0.requires.1 _ c.set_key_mark.ensures)
+    (key_some ed c.requires.0 (key_as c.args.header) (key_as c.args.key) (omega (arith, c.if-counts-eq0.false)) c.requires.1 _ c.set_key_mark.ensures)

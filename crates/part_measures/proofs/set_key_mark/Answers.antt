@@ -11,10 +11,7 @@ use Rattle.part_measures.proofs.set_key_mark.Goals as goal
 
 pub returns : goal.returns
 returns c =
-    let c2 = c in
-    let c1 = c2 in
-    let c0 = c1 in
-    let a = c0.args in
-    let m = c0.mode_code-mode.ensures in
-    let f = c0.signed-fifths.ensures in
-    spliced_next _ _ _ _ _ _ _ c1.put_u8.ensures c2.put_u8-2.ensures refl ∙ (λ j. splice a.store.now (a.at + measure_width * a.i + key_mark_at) (m j ∷ f j ∷ []))
+    let a = c.args in
+    let m = c.mode_code-mode.ensures in
+    let f = c.signed-fifths.ensures in
+    spliced_next _ _ _ _ _ _ _ c.put_u8.ensures c.put_u8-2.ensures refl ∙ (λ j. splice a.store.now (a.at + measure_width * a.i + key_mark_at) (m j ∷ f j ∷ []))

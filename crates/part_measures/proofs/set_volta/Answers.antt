@@ -6,8 +6,5 @@ use Rattle.part_measures.proofs.set_volta.Goals as goal
 
 pub returns : goal.returns
 returns c =
-    let c3 = c in
-    let c2 = c3 in
-    let c1 = c2 in
-    let e2 = spliced_next _ _ _ _ _ _ _ c1.put_u8.ensures c2.put_u8-2.ensures refl in
-    spliced_next _ _ _ _ _ _ _ e2 c3.put_u32.ensures refl
+    let e2 = spliced_next _ _ _ _ _ _ _ c.put_u8.ensures c.put_u8-2.ensures refl in
+    spliced_next _ _ _ _ _ _ _ e2 c.put_u32.ensures refl

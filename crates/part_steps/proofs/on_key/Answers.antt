@@ -14,5 +14,4 @@ set_key_mark-requires c = let room = c.requires.0 in omega (arith, room, represe
 
 pub returns : goal.returns
 returns c =
-    let c0 = c in
-    key_simulates (key_as c0.args.key) c0.requires.0 c0.requires.1 _ c.set_key_mark.ensures _ c.hear.ensures
+    key_simulates (key_as c.args.key) c.requires.0 c.requires.1 _ c.set_key_mark.ensures _ c.hear.ensures

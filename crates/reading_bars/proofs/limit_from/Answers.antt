@@ -35,12 +35,11 @@ bar_at-bar-requires c = search rules
 
 pub returns-then-opens : goal.returns-then-opens
 returns-then-opens c =
-    let b = c in
-    let l = b.loop-i in
-    let a = b.args in
+    let l = c.loop-i in
+    let a = c.args in
     let s = a.reading.now in
-    let h : l.i < u32_at s a.at = omega (arith, b.loop-i-test.true, b.requires.at_in_bounds) in
-    let o = bar_opens s a.at l.i l.span b.bar_at-bar.result b.bar_at-bar.ensures l.invariant.1 c.opens.ensures c.if-opens.true in
+    let h : l.i < u32_at s a.at = omega (arith, c.loop-i-test.true, c.requires.at_in_bounds) in
+    let o = bar_opens s a.at l.i l.span c.bar_at-bar.result c.bar_at-bar.ensures l.invariant.1 c.opens.ensures c.if-opens.true in
     let seen = l.invariant.2 in
     (seen.some c.if-start-i.true, record { holds = part_all _ _ _ _ _ _ seen (top_open s a.at l.i h o) })
 
@@ -49,19 +48,18 @@ raised-limit-requires c = (c.loop-i.invariant.2.two, search rules)
 
 pub loop-i-preserved : goal.loop-i-preserved
 loop-i-preserved c =
-    let b = c in
-    let l = b.loop-i in
-    let a = b.args in
+    let l = c.loop-i in
+    let a = c.args in
     let s = a.reading.now in
-    let h : l.i < u32_at s a.at = omega (arith, b.loop-i-test.true, b.requires.at_in_bounds) in
+    let h : l.i < u32_at s a.at = omega (arith, c.loop-i-test.true, c.requires.at_in_bounds) in
     let k : l.i + 1 ≡ suc l.i = omega arith in
     rw (k, c.raised-limit.ensures.0, c.raised-limit.ensures.1) (
-      omega (arith, b.loop-i-test.true),
-      bar_after s a.at l.i l.span b.bar_at-bar.result b.bar_at-bar.ensures l.invariant.1,
+      omega (arith, c.loop-i-test.true),
+      bar_after s a.at l.i l.span c.bar_at-bar.result c.bar_at-bar.ensures l.invariant.1,
       part_more s a.at a.start l.i l.limit.most l.limit.end l.invariant.2 c.greatest_pass.result h
-          (c.greatest_pass.ensures ∙ ap walk.top_of (bar_span s a.at l.i l.span b.bar_at-bar.result b.bar_at-bar.ensures l.invariant.1))
+          (c.greatest_pass.ensures ∙ ap walk.top_of (bar_span s a.at l.i l.span c.bar_at-bar.result c.bar_at-bar.ensures l.invariant.1))
           (⊎_elim
-          (λ w g. bar_opens s a.at l.i l.span b.bar_at-bar.result b.bar_at-bar.ensures l.invariant.1 w.1.ensures w.2.left)
+          (λ w g. bar_opens s a.at l.i l.span c.bar_at-bar.result c.bar_at-bar.ensures l.invariant.1 w.1.ensures w.2.left)
           (λ w g. absurd (omega (arith, w.left, g)))
           c.else-start-i.branch),
     )

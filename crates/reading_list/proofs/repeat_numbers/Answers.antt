@@ -27,16 +27,14 @@ shape_of-list-then-count-room c = search (rules, c.loop-i.invariant.same)
 -- src/lib.rt:54:17
 pub returns-then-count-room : goal.returns-then-count-room
 returns-then-count-room c =
-    let b = c in
-    let p = b.requires in
-    copying_full _ _ _ _ _ _ _ _ _ b.loop.invariant c.loop-i-test.true p.2 (omega (arith, c.number_at-number.ensures.0, c.if-least-number.true)) c.if-count-room.true
+    let p = c.requires in
+    copying_full _ _ _ _ _ _ _ _ _ c.loop-i.invariant c.loop-i-test.true p.2 (omega (arith, c.number_at-number.ensures.0, c.if-least-number.true)) c.if-count-room.true
 
 -- src/lib.rt:56:13
 pub put_number-requires : goal.put_number-requires
 put_number-requires c =
-    let b = c in
-    let p = b.requires in
-    (omega (arith, b.loop.invariant.same, b.loop.invariant.fits, p.0.fits, c.if-count-room.false), c.number_at-number.ensures.1)
+    let p = c.requires in
+    (omega (arith, c.loop-i.invariant.same, c.loop-i.invariant.fits, p.0.fits, c.if-count-room.false), c.number_at-number.ensures.1)
 
 -- src/lib.rt:57:13
 pub overflow_add-count : goal.overflow_add-count
@@ -53,13 +51,12 @@ loop-i-smaller c = search rules
 -- src/lib.rt:50:5
 pub loop-i-preserved : goal.loop-i-preserved
 loop-i-preserved c =
-    let b = c in
-    let p = b.requires in
+    let p = c.requires in
     let x = c.number_at-number.ensures.0 in
     let h = c.loop-i-test.true in
     ⊎_elim
-    (λ w. rw (w.6, w.7) (copying_keep _ _ _ _ _ _ _ _ _ b.loop.invariant _ h p.2 (omega (arith, x, w.0.taken)) w.1.left (w.3.ensures ∙ ap (λ (n : ℕ). splice b.loop.list (number_at b.loop.count) (le32 n)) x)))
-    (λ w. rw (w.1, w.2) (copying_leave _ _ _ _ _ _ _ _ _ b.loop.invariant h p.2 (omega (arith, x, w.0.left))))
+    (λ w. rw (w.6, w.7) (copying_keep _ _ _ _ _ _ _ _ _ c.loop-i.invariant _ h p.2 (omega (arith, x, w.0.taken)) w.1.left (w.3.ensures ∙ ap (λ (n : ℕ). splice c.loop-i.list (number_at c.loop-i.count) (le32 n)) x)))
+    (λ w. rw (w.1, w.2) (copying_leave _ _ _ _ _ _ _ _ _ c.loop-i.invariant h p.2 (omega (arith, x, w.0.left))))
     c.if-least-number.branch
 
 -- src/lib.rt:37:1

@@ -16,14 +16,12 @@ returns-then-line-eq1 c = class_one c.args.line.now c.if-line-eq1.true
 
 pub returns-then-line-eq58 : goal.returns-then-line-eq58
 returns-then-line-eq58 c =
-    let b = c in
-    let l = b.args.line.now in
-    let most : 2 ≤ length l = omega (arith, b.if-line-eq0.false, b.if-line-eq1.false) in
+    let l = c.args.line.now in
+    let most : 2 ≤ length l = omega (arith, c.if-line-eq0.false, c.if-line-eq1.false) in
     c.colon_class.ensures ∙ class_colon l most c.if-line-eq58.true
 
 pub returns : goal.returns
 returns c =
-    let b = c in
-    let l = b.args.line.now in
-    let most : 2 ≤ length l = omega (arith, b.if-line-eq0.false, b.if-line-eq1.false) in
+    let l = c.args.line.now in
+    let most : 2 ≤ length l = omega (arith, c.if-line-eq0.false, c.if-line-eq1.false) in
     class_other l most (ne_eqb _ _ c.if-line-eq58.false)

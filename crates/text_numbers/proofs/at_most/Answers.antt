@@ -7,12 +7,10 @@ use Rattle.text_numbers.proofs.at_most.Goals as goal
 
 pub returns-then-v-top : goal.returns-then-v-top
 returns-then-v-top c =
-    let b = c in
-    let near : b.in-Value.v ≤ b.args.top = omega arith in
-    rw (b.in-Value.is, le-leb _ _ near)
+    let near : c.in-Value.v ≤ c.args.top = omega arith in
+    rw (c.in-Value.is, le-leb _ _ near)
 
 pub returns-else-v-top : goal.returns-else-v-top
 returns-else-v-top c =
-    let b = c in
-    let far : b.args.top < b.in-Value.v = omega arith in
-    rw (b.in-Value.is, lt-leb _ _ far)
+    let far : c.args.top < c.in-Value.v = omega arith in
+    rw (c.in-Value.is, lt-leb _ _ far)

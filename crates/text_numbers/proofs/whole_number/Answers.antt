@@ -9,12 +9,10 @@ use Rattle.text_numbers.proofs.whole_number.Goals as goal
 
 pub returns-then-next-text : goal.returns-then-next-text
 returns-then-next-text c =
-    let b = c in
-    let h : b.read_number-read.result.next < length b.args.text.now = omega arith in
-    sym (whole_short _ _ _ b.read_number-read.ensures h)
+    let h : c.read_number-read.result.next < length c.args.text.now = omega arith in
+    sym (whole_short _ _ _ c.read_number-read.ensures h)
 
 pub returns : goal.returns
 returns c =
-    let b = c in
-    let h : length b.args.text.now ≤ b.read_number-read.result.next = omega arith in
-    whole_all _ _ _ b.read_number-read.ensures h
+    let h : length c.args.text.now ≤ c.read_number-read.result.next = omega arith in
+    whole_all _ _ _ c.read_number-read.ensures h

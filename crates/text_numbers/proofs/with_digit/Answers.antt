@@ -14,16 +14,14 @@ overflow_sub-d c = digit_low _ c.requires
 pub returns-then-v-gt1844674407370955161 : goal.returns-then-v-gt1844674407370955161
 unfolding with_digit
 returns-then-v-gt1844674407370955161 c =
-    let g = c.n-1.given in
-    let far : most < g.0.0 * 10 + (c.args.b - 48) = omega arith in
-    rw (g.1, lt-leb _ _ far)
+    let far : most < c.in-Value.v * 10 + (c.args.b - 48) = omega arith in
+    rw (c.in-Value.is, lt-leb _ _ far)
 
 pub returns-then-d-v : goal.returns-then-d-v
 unfolding with_digit
 returns-then-d-v c =
-    let g = c.n-1.given in
-    let far : most < g.0.0 * 10 + (c.args.b - 48) = omega arith in
-    rw (g.1, lt-leb _ _ far)
+    let far : most < c.in-Value.v * 10 + (c.args.b - 48) = omega arith in
+    rw (c.in-Value.is, lt-leb _ _ far)
 
 pub returns-in-Nothing : goal.returns-in-Nothing
 unfolding with_digit
@@ -39,7 +37,5 @@ returns-in-Past c = rw c.in-Past.is
 pub returns-else-d-v : goal.returns-else-d-v
 unfolding with_digit
 returns-else-d-v c =
-    let g = c.n-1.given in
-    let b = c in
-    let near : g.0.0 * 10 + (b.args.b - 48) ≤ most = omega (arith, b.ranges.b) in
-    rw (g.1, le-leb _ _ near)
+    let near : c.in-Value.v * 10 + (c.args.b - 48) ≤ most = omega (arith, c.ranges.b) in
+    rw (c.in-Value.is, le-leb _ _ near)

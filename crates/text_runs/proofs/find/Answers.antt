@@ -14,20 +14,17 @@ loop-k-init c = refl
 
 pub returns-then-line-k : goal.returns-then-line-k
 returns-then-line-k c =
-    let l = c in
     let h = c.loop-k-test.true in
-    let b = l.args.b in
-    sym (end_in_stop (λ x. not (eqb x b)) l.args.line.now l.loop-k.k l.args.to h l.requires (ap not (eq-eqb _ _ c.if-line-k.true))) ∙ l.loop-k.invariant
+    let b = c.args.b in
+    sym (end_in_stop (λ x. not (eqb x b)) c.args.line.now c.loop-k.k c.args.to h c.requires (ap not (eq-eqb _ _ c.if-line-k.true))) ∙ c.loop-k.invariant
 
 pub loop-k-preserved : goal.loop-k-preserved
 loop-k-preserved c =
-    let l = c in
     let h = c.loop-k-test.true in
-    let b = l.args.b in
-    sym (end_in_more (λ x. not (eqb x b)) l.args.line.now l.loop-k.k l.args.to h l.requires (ap not (ne_eqb _ _ c.if-line-k.false))) ∙ l.loop-k.invariant
+    let b = c.args.b in
+    sym (end_in_more (λ x. not (eqb x b)) c.args.line.now c.loop-k.k c.args.to h c.requires (ap not (ne_eqb _ _ c.if-line-k.false))) ∙ c.loop-k.invariant
 
 pub returns : goal.returns
 returns c =
-    let l = c in
-    let b = l.args.b in
-    sym (end_in_over (λ x. not (eqb x b)) l.args.line.now l.loop-k.k l.args.to c.loop-k-test.false) ∙ l.loop-k.invariant
+    let b = c.args.b in
+    sym (end_in_over (λ x. not (eqb x b)) c.args.line.now c.loop-k.k c.args.to c.loop-k-test.false) ∙ c.loop-k.invariant

@@ -14,20 +14,17 @@ loop-i-init c = refl
 
 pub returns-then-line-i : goal.returns-then-line-i
 returns-then-line-i c =
-    let l = c in
     let h = c.loop-i-test.true in
-    let b = l.args.b in
-    sym (end_stop (λ x. eqb x b) l.args.line.now l.loop-i.i 0 h (ne_eqb _ _ c.if-line-i.true)) ∙ l.loop-i.invariant
+    let b = c.args.b in
+    sym (end_stop (λ x. eqb x b) c.args.line.now c.loop-i.i 0 h (ne_eqb _ _ c.if-line-i.true)) ∙ c.loop-i.invariant
 
 pub loop-i-preserved : goal.loop-i-preserved
 loop-i-preserved c =
-    let l = c in
     let h = c.loop-i-test.true in
-    let b = l.args.b in
-    sym (end_more (λ x. eqb x b) l.args.line.now l.loop-i.i 0 h (eq-eqb _ _ c.if-line-i.false)) ∙ l.loop-i.invariant
+    let b = c.args.b in
+    sym (end_more (λ x. eqb x b) c.args.line.now c.loop-i.i 0 h (eq-eqb _ _ c.if-line-i.false)) ∙ c.loop-i.invariant
 
 pub returns : goal.returns
 returns c =
-    let l = c in
-    let b = l.args.b in
-    sym (end_past (λ x. eqb x b) l.args.line.now l.loop-i.i c.loop-i-test.false) ∙ l.loop-i.invariant
+    let b = c.args.b in
+    sym (end_past (λ x. eqb x b) c.args.line.now c.loop-i.i c.loop-i-test.false) ∙ c.loop-i.invariant

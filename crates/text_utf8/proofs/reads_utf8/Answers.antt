@@ -14,8 +14,7 @@ loop-i-init c = refl
 
 pub loop-i-preserved : goal.loop-i-preserved
 loop-i-preserved c =
-    let l = c in
-    rw c.utf8_step-q.ensures (sym (foldl_at utf8_step _ _ _ 0 c.loop-i-test.true) ∙ l.loop-i.invariant)
+    rw c.utf8_step-q.ensures (sym (foldl_at utf8_step _ _ _ 0 c.loop-i-test.true) ∙ c.loop-i.invariant)
 
 pub returns : goal.returns
 unfolding is_utf8

@@ -15,15 +15,12 @@ loop-i-init c = refl
 
 pub returns-then-is_other : goal.returns-then-is_other
 returns-then-is_other c =
-    let w = c in
-    other_is_not_blank _ _ (as_white w.loop-i.q) w.loop-i-test.true w.loop-i.invariant
-    (ap is_other (sym w.white_step-q.ensures) ∙ sym c.is_other.ensures ∙ c.if-is_other.true)
+    other_is_not_blank _ _ (as_white c.loop-i.q) c.loop-i-test.true c.loop-i.invariant
+    (ap is_other (sym c.white_step-q.ensures) ∙ sym c.is_other.ensures ∙ c.if-is_other.true)
 
 pub loop-i-preserved : goal.loop-i-preserved
 loop-i-preserved c =
-    let w = c in
-    let l = w in
-    rw w.white_step-q.ensures (sym (foldl_at white_step _ _ _ 0 w.loop-i-test.true) ∙ l.loop-i.invariant)
+    rw c.white_step-q.ensures (sym (foldl_at white_step _ _ _ 0 c.loop-i-test.true) ∙ c.loop-i.invariant)
 
 pub returns : goal.returns
 unfolding is_blank

@@ -17,5 +17,4 @@ trim_end-end-requires c =
 
 pub returns : goal.returns
 returns c =
-    let s = c in
-    trims_both _ _ _ s.requires.0 s.requires.1 _ c.word_start-start.ensures (rw (← c.word_start-start.ensures) c.trim_end-end.ensures)
+    trims_both _ _ _ c.requires.0 c.requires.1 _ c.word_start-start.ensures (rw (← c.word_start-start.ensures) c.trim_end-end.ensures)

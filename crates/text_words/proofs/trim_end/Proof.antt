@@ -3,8 +3,8 @@ use Prim.Native.Nat.{◌-◌, ◌<◌}
 use mathlib.Core.Path.{refl, sym, ◌∙◌}
 use native.Mathlib.Omega.{arith}
 use Rattle.text_words.proofs.Trims.{trims_lt, Trimming, trimming_on, trimming_off}
-use Rattle.text_words.proofs.trim_end_lem.Statement.{statement}
-use Rattle.text_words.proofs.trim_end_lem.Tie as tie
+use Rattle.text_words.proofs.trim_end.Statement.{statement}
+use Rattle.text_words.proofs.trim_end.Tie as tie
 
 abbrev invariant_loop : tie.invariant-loop-e
 invariant_loop line a b e₀ e = Trimming line a b e

@@ -6,20 +6,15 @@ use Rattle.token_lexemes.proofs.note.Goals as goal
 
 pub returns-then-line-place : goal.returns-then-line-place
 returns-then-line-place c =
-    let b = c in
-    let a = b.args in
-    note_ends a.edition a.line.now a.at b.accidental_before-before.result b.accidental_before-before.ensures c.if-line-place.true
+    let a = c.args in
+    note_ends a.edition a.line.now a.at c.accidental_before-before.result c.accidental_before-before.ensures c.if-line-place.true
 
 pub returns-then-is_letter : goal.returns-then-is_letter
 returns-then-is_letter c =
-    let e = c in
-    let b = e in
-    let a = b.args in
-    c.note_from_letter.ensures ∙ note_letter a.edition a.line.now a.at b.accidental_before-before.result b.accidental_before-before.ensures e.if-line-place.false (sym c.is_letter.ensures ∙ c.if-is_letter.true)
+    let a = c.args in
+    c.note_from_letter.ensures ∙ note_letter a.edition a.line.now a.at c.accidental_before-before.result c.accidental_before-before.ensures c.if-line-place.false (sym c.is_letter.ensures ∙ c.if-is_letter.true)
 
 pub returns : goal.returns
 returns c =
-    let e = c in
-    let b = e in
-    let a = b.args in
-    note_other a.edition a.line.now a.at b.accidental_before-before.result b.accidental_before-before.ensures e.if-line-place.false (sym c.is_letter.ensures ∙ c.if-is_letter.false)
+    let a = c.args in
+    note_other a.edition a.line.now a.at c.accidental_before-before.result c.accidental_before-before.ensures c.if-line-place.false (sym c.is_letter.ensures ∙ c.if-is_letter.false)

@@ -10,37 +10,20 @@ use Rattle.token_lexemes.proofs.note_from_letter.Goals as goal
 
 pub returns-then-is_plain : goal.returns-then-is_plain
 returns-then-is_plain c =
-    let p = c in
-    let n = p in
-    let s = n in
-    let e : is_plain (get_or s.args.line.now (s.args.at + 1) 0) ≡ true = ap is_plain (sym p.byte_at.ensures) ∙ sym p.is_plain.ensures ∙ c.if-is_plain.true in
-    letter_plain s.args.edition s.args.line.now s.args.at s.requires s.args.sign n.abc_note_char-letter.result n.abc_note_char-letter.ensures e
+    let e : is_plain (get_or c.args.line.now (c.args.at + 1) 0) ≡ true = ap is_plain (sym c.byte_at.ensures) ∙ sym c.is_plain.ensures ∙ c.if-is_plain.true in
+    letter_plain c.args.edition c.args.line.now c.args.at c.requires c.args.sign c.abc_note_char-letter.result c.abc_note_char-letter.ensures e
 
 pub returns-in_default : goal.returns-in_default
 returns-in_default c =
-    let o = c in
-    let n = o in
-    let s = n in
-    letter_out s.args.edition s.args.line.now s.args.at s.requires s.args.sign n.abc_note_char-letter.result n.abc_note_char-letter.ensures (sym o.octave_marks.ensures ∙ c.in_default.is)
+    letter_out c.args.edition c.args.line.now c.args.at c.requires c.args.sign c.abc_note_char-letter.result c.abc_note_char-letter.ensures (sym c.octave_marks.ensures ∙ c.in_default.is)
 
 -- the octave marks, behind which the length begins
 pub returns-in_default-parse_duration_suffix : goal.returns-in_default-parse_duration_suffix
 returns-in_default-parse_duration_suffix c =
-    let p = c in
-    let o = p in
-    let n = o in
-    let s = n in
-    let g = p.octave-1.given in
-    letter_many s.args.edition s.args.line.now s.args.at s.requires s.args.sign n.abc_note_char-letter.result n.abc_note_char-letter.ensures g.0.0 g.0.1.0 (sym o.octave_marks.ensures ∙ g.1)
-    (sym p.parse_duration_suffix.ensures ∙ c.in_default-parse_duration_suffix.is)
+    letter_many c.args.edition c.args.line.now c.args.at c.requires c.args.sign c.abc_note_char-letter.result c.abc_note_char-letter.ensures c.in-At.octave c.in-At.after_octave (sym c.octave_marks.ensures ∙ c.in-At.is)
+    (sym c.parse_duration_suffix.ensures ∙ c.in_default-parse_duration_suffix.is)
 
 pub returns : goal.returns
 returns c =
-    let p = c in
-    let o = p in
-    let n = o in
-    let s = n in
-    let g = p.octave-1.given in
-    let l = c.num-1.given in
-    letter_in s.args.edition s.args.line.now s.args.at s.requires s.args.sign n.abc_note_char-letter.result n.abc_note_char-letter.ensures g.0.0 g.0.1.0 (sym o.octave_marks.ensures ∙ g.1)
-    l.0.0 l.0.1.0 l.0.1.1.0 (sym p.parse_duration_suffix.ensures ∙ l.1) c.apply_abc_note_annotations-behind.result c.apply_abc_note_annotations-behind.ensures
+    letter_in c.args.edition c.args.line.now c.args.at c.requires c.args.sign c.abc_note_char-letter.result c.abc_note_char-letter.ensures c.in-At.octave c.in-At.after_octave (sym c.octave_marks.ensures ∙ c.in-At.is)
+    c.in-Read.num c.in-Read.den c.in-Read.after_length (sym c.parse_duration_suffix.ensures ∙ c.in-Read.is) c.apply_abc_note_annotations-behind.result c.apply_abc_note_annotations-behind.ensures

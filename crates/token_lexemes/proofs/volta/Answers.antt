@@ -6,10 +6,8 @@ use Rattle.token_lexemes.proofs.volta.Goals as goal
 
 pub returns-in_default : goal.returns-in_default
 returns-in_default c =
-    let s = c in
-    no_passes s.args.line.now s.args.at s.requires _ c.list_fault.ensures (sym c.parse_passes.ensures ∙ c.in_default.is)
+    no_passes c.args.line.now c.args.at c.requires _ c.list_fault.ensures (sym c.parse_passes.ensures ∙ c.in_default.is)
 
 pub returns : goal.returns
 returns c =
-    let s = c in
-    passes_read s.args.line.now s.args.at s.requires _ _ _ (sym c.parse_passes.ensures ∙ c.in-Read.is)
+    passes_read c.args.line.now c.args.at c.requires _ _ _ (sym c.parse_passes.ensures ∙ c.in-Read.is)

@@ -12,30 +12,25 @@ use Rattle.token_pitches.proofs.accidental_before.Goals as goal
 
 pub returns-then-first-eq94 : goal.returns-then-first-eq94
 returns-then-first-eq94 c =
-    let b = c in
-    let a = b.args in
-    c.signs.ensures ∙ ap (before_for a.at) (sym (before_up a.line.now a.at (sym b.byte_at-first.ensures ∙ c.if-first-eq94.true)))
+    let a = c.args in
+    c.signs.ensures ∙ ap (before_for a.at) (sym (before_up a.line.now a.at (sym c.byte_at-first.ensures ∙ c.if-first-eq94.true)))
 
 pub returns-then-first-eq95 : goal.returns-then-first-eq95
 returns-then-first-eq95 c =
-    let b = c in
-    let a = b.args in
-    c.signs-then-first-eq95.ensures ∙ ap (before_for a.at) (sym (before_down a.line.now a.at (sym b.byte_at-first.ensures ∙ c.if-first-eq95.true)))
+    let a = c.args in
+    c.signs-then-first-eq95.ensures ∙ ap (before_for a.at) (sym (before_down a.line.now a.at (sym c.byte_at-first.ensures ∙ c.if-first-eq95.true)))
 
 pub overflow_add-result : goal.overflow_add-result
 overflow_add-result c =
-    let b = c in
-    let a = b.args in
-    omega (arith, run_within (λ x. eqb x 61) refl a.line.now a.at (eq-eqb _ _ (sym b.byte_at-first.ensures ∙ c.if-first-eq61.true)))
+    let a = c.args in
+    omega (arith, run_within (λ x. eqb x 61) refl a.line.now a.at (eq-eqb _ _ (sym c.byte_at-first.ensures ∙ c.if-first-eq61.true)))
 
 pub returns-then-first-eq61 : goal.returns-then-first-eq61
 returns-then-first-eq61 c =
-    let b = c in
-    let a = b.args in
-    rw (before_natural a.line.now a.at (sym b.byte_at-first.ensures ∙ c.if-first-eq61.true))
+    let a = c.args in
+    rw (before_natural a.line.now a.at (sym c.byte_at-first.ensures ∙ c.if-first-eq61.true))
 
 pub returns : goal.returns
 returns c =
-    let b = c in
-    let a = b.args in
-    rw (before_none a.line.now a.at (λ k. c.if-first-eq94.false (b.byte_at-first.ensures ∙ k)) (λ k. c.if-first-eq95.false (b.byte_at-first.ensures ∙ k)) (λ k. c.if-first-eq61.false (b.byte_at-first.ensures ∙ k)), add-zero)
+    let a = c.args in
+    rw (before_none a.line.now a.at (λ k. c.if-first-eq94.false (c.byte_at-first.ensures ∙ k)) (λ k. c.if-first-eq95.false (c.byte_at-first.ensures ∙ k)) (λ k. c.if-first-eq61.false (c.byte_at-first.ensures ∙ k)), add-zero)

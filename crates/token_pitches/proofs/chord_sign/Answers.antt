@@ -11,25 +11,21 @@ use Rattle.token_pitches.proofs.chord_sign.Goals as goal
 
 pub overflow_add-result : goal.overflow_add-result
 overflow_add-result c =
-    let b = c in
-    let a = b.args in
-    omega (arith, run_within (λ x. eqb x 47) refl a.line.now (a.at + 1) (eq-eqb _ _ (sym b.byte_at.ensures ∙ c.if-byte_at-eq47.true)))
+    let a = c.args in
+    omega (arith, run_within (λ x. eqb x 47) refl a.line.now (a.at + 1) (eq-eqb _ _ (sym c.byte_at.ensures ∙ c.if-byte_at-eq47.true)))
 
 pub returns-then-byte_at-eq47 : goal.returns-then-byte_at-eq47
 returns-then-byte_at-eq47 c =
-    let b = c in
-    let a = b.args in
+    let a = c.args in
     rw c.quarter_tone.ensures
-    (sign_first_quarter a.line.now a.at a.up a.waits b.in-Nothing.is (sym b.byte_at.ensures ∙ c.if-byte_at-eq47.true))
+    (sign_first_quarter a.line.now a.at a.up a.waits c.in-Nothing.is (sym c.byte_at.ensures ∙ c.if-byte_at-eq47.true))
 
 pub returns-else-byte_at-eq47 : goal.returns-else-byte_at-eq47
 returns-else-byte_at-eq47 c =
-    let b = c in
-    let a = b.args in
-    sign_first a.line.now a.at a.up a.waits b.in-Nothing.is (λ k. c.if-byte_at-eq47.false (b.byte_at.ensures ∙ k)) c.moved.result c.moved.ensures
+    let a = c.args in
+    sign_first a.line.now a.at a.up a.waits c.in-Nothing.is (λ k. c.if-byte_at-eq47.false (c.byte_at.ensures ∙ k)) c.moved.result c.moved.ensures
 
 pub returns-in-Written : goal.returns-in-Written
 returns-in-Written c =
-    let g = c.waits-1.given in
     let a = c.args in
-    sign_next a.line.now a.at a.up a.waits g.0.0 g.0.1.0 g.1 c.moved-in-Written.result c.moved-in-Written.ensures
+    sign_next a.line.now a.at a.up a.waits c.in-Written.alter c.in-Written.cents c.in-Written.is c.moved-in-Written.result c.moved-in-Written.ensures

@@ -16,59 +16,48 @@ loop-i-init c = refl
 
 pub returns-then-c-eq93 : goal.returns-then-c-eq93
 returns-then-c-eq93 c =
-    let l = c in
-    sym (met_close l.args.line.now l.loop-i.i (sign_of l.loop-i.waits) c.loop-i-test.true c.if-c-eq93.true) ∙ l.loop-i.invariant
+    sym (met_close c.args.line.now c.loop-i.i (sign_of c.loop-i.waits) c.loop-i-test.true c.if-c-eq93.true) ∙ c.loop-i.invariant
 
 pub loop-i-smaller-then-c-eq94 : goal.loop-i-smaller-then-c-eq94
 loop-i-smaller-then-c-eq94 c =
-    let l = c in
-    rw c.chord_sign-sign.ensures (omega (arith, sign_takes true (sign_of l.loop-i.waits) (drop (l.loop-i.i + 1) l.args.line.now)))
+    rw c.chord_sign-sign.ensures (omega (arith, sign_takes true (sign_of c.loop-i.waits) (drop (c.loop-i.i + 1) c.args.line.now)))
 
 pub loop-i-preserved-then-c-eq94 : goal.loop-i-preserved-then-c-eq94
 loop-i-preserved-then-c-eq94 c =
-    let l = c in
-    let a = l.args in
+    let a = c.args in
     rw (c.chord_sign-sign.ensures, mark_back)
-    (sym (met_up a.line.now l.loop-i.i (sign_of l.loop-i.waits) c.loop-i-test.true c.if-c-eq94.true) ∙ l.loop-i.invariant)
+    (sym (met_up a.line.now c.loop-i.i (sign_of c.loop-i.waits) c.loop-i-test.true c.if-c-eq94.true) ∙ c.loop-i.invariant)
 
 pub loop-i-smaller-then-c-eq95 : goal.loop-i-smaller-then-c-eq95
 loop-i-smaller-then-c-eq95 c =
-    let l = c in
-    rw c.chord_sign-sign-then-c-eq95.ensures (omega (arith, sign_takes false (sign_of l.loop-i.waits) (drop (l.loop-i.i + 1) l.args.line.now)))
+    rw c.chord_sign-sign-then-c-eq95.ensures (omega (arith, sign_takes false (sign_of c.loop-i.waits) (drop (c.loop-i.i + 1) c.args.line.now)))
 
 pub loop-i-preserved-then-c-eq95 : goal.loop-i-preserved-then-c-eq95
 loop-i-preserved-then-c-eq95 c =
-    let l = c in
-    let a = l.args in
+    let a = c.args in
     rw (c.chord_sign-sign-then-c-eq95.ensures, mark_back)
-    (sym (met_down a.line.now l.loop-i.i (sign_of l.loop-i.waits) c.loop-i-test.true c.if-c-eq95.true) ∙ l.loop-i.invariant)
+    (sym (met_down a.line.now c.loop-i.i (sign_of c.loop-i.waits) c.loop-i-test.true c.if-c-eq95.true) ∙ c.loop-i.invariant)
 
 pub loop-i-preserved-then-c-eq61 : goal.loop-i-preserved-then-c-eq61
 loop-i-preserved-then-c-eq61 c =
-    let l = c in
-    let a = l.args in
-    sym (met_natural a.line.now l.loop-i.i (sign_of l.loop-i.waits) c.loop-i-test.true c.if-c-eq61.true) ∙ l.loop-i.invariant
+    let a = c.args in
+    sym (met_natural a.line.now c.loop-i.i (sign_of c.loop-i.waits) c.loop-i-test.true c.if-c-eq61.true) ∙ c.loop-i.invariant
 
 pub returns-then-is_letter : goal.returns-then-is_letter
 returns-then-is_letter c =
-    let f = c in
-    let l = f in
-    let a = l.args in
+    let a = c.args in
     c.chord_letter.ensures
-    ∙ sym (met_letter a.line.now l.loop-i.i (sign_of l.loop-i.waits) f.loop-i-test.true f.if-c-eq93.false f.if-c-eq94.false f.if-c-eq95.false f.if-c-eq61.false
+    ∙ sym (met_letter a.line.now c.loop-i.i (sign_of c.loop-i.waits) c.loop-i-test.true c.if-c-eq93.false c.if-c-eq94.false c.if-c-eq95.false c.if-c-eq61.false
     (sym c.is_letter.ensures ∙ c.if-is_letter.true))
-    ∙ l.loop-i.invariant
+    ∙ c.loop-i.invariant
 
 pub loop-i-preserved : goal.loop-i-preserved
 loop-i-preserved c =
-    let f = c in
-    let l = f in
-    let a = l.args in
-    sym (met_other a.line.now l.loop-i.i (sign_of l.loop-i.waits) f.loop-i-test.true f.if-c-eq93.false f.if-c-eq94.false f.if-c-eq95.false f.if-c-eq61.false
+    let a = c.args in
+    sym (met_other a.line.now c.loop-i.i (sign_of c.loop-i.waits) c.loop-i-test.true c.if-c-eq93.false c.if-c-eq94.false c.if-c-eq95.false c.if-c-eq61.false
     (sym c.is_letter.ensures ∙ c.if-is_letter.false))
-    ∙ l.loop-i.invariant
+    ∙ c.loop-i.invariant
 
 pub returns : goal.returns
 returns c =
-    let l = c in
-    sym (met_end l.args.line.now l.loop-i.i (sign_of l.loop-i.waits) c.loop-i-test.false) ∙ l.loop-i.invariant
+    sym (met_end c.args.line.now c.loop-i.i (sign_of c.loop-i.waits) c.loop-i-test.false) ∙ c.loop-i.invariant

@@ -12,20 +12,17 @@ returns-then-byte_at-gt44 c =
 
 pub returns-then-first-down : goal.returns-then-first-down
 returns-then-first-down c =
-    let b = c in
-    let a = b.args in
-    marks_low a.line.now a.at a.start b.run_end-down.result c.run_end-up.result b.run_end-down.ensures c.run_end-up.ensures c.if-first-down.true
+    let a = c.args in
+    marks_low a.line.now a.at a.start c.run_end-down.result c.run_end-up.result c.run_end-down.ensures c.run_end-up.ensures c.if-first-down.true
 
 pub returns-then-low-up : goal.returns-then-low-up
 returns-then-low-up c =
-    let b = c in
-    let a = b.args in
+    let a = c.args in
     let l : a.start ≤ 255 = omega arith in
-    marks_high a.line.now a.at a.start b.run_end-down.result c.run_end-up.result b.run_end-down.ensures c.run_end-up.ensures c.if-first-down.false c.if-low-up.true l
+    marks_high a.line.now a.at a.start c.run_end-down.result c.run_end-up.result c.run_end-down.ensures c.run_end-up.ensures c.if-first-down.false c.if-low-up.true l
 
 pub returns : goal.returns
 returns c =
-    let b = c in
-    let a = b.args in
+    let a = c.args in
     let l : a.start ≤ 255 = omega arith in
-    marks_at a.line.now a.at a.start b.run_end-down.result c.run_end-up.result b.run_end-down.ensures c.run_end-up.ensures c.if-first-down.false c.if-low-up.false l
+    marks_at a.line.now a.at a.start c.run_end-down.result c.run_end-up.result c.run_end-down.ensures c.run_end-up.ensures c.if-first-down.false c.if-low-up.false l

@@ -12,23 +12,20 @@ use Rattle.token_pitches.proofs.signs.Goals as goal
 
 pub overflow_add-result : goal.overflow_add-result
 overflow_add-result c =
-    let b = c in
-    let g : get_or b.args.line.now b.run_end-end.result 0 ≡ 47 = sym c.byte_at.ensures ∙ eqb-true _ _ c.if-byte_at-eq47.true in
-    omega (arith, run_within (λ x. eqb x 47) refl b.args.line.now b.run_end-end.result (eq-eqb _ _ g))
+    let g : get_or c.args.line.now c.run_end-end.result 0 ≡ 47 = sym c.byte_at.ensures ∙ eqb-true _ _ c.if-byte_at-eq47.true in
+    omega (arith, run_within (λ x. eqb x 47) refl c.args.line.now c.run_end-end.result (eq-eqb _ _ g))
 
 pub returns-then-byte_at-eq47 : goal.returns-then-byte_at-eq47
 returns-then-byte_at-eq47 c =
-    let b = c in
     rw c.quarter_tone.ensures
-    (signs_quarter b.args.line.now b.args.at b.args.up b.args.b b.run_end-end.result b.run_end-end.ensures
+    (signs_quarter c.args.line.now c.args.at c.args.up c.args.b c.run_end-end.result c.run_end-end.ensures
     c.if-n-eq1.true (sym c.byte_at.ensures ∙ eqb-true _ _ c.if-byte_at-eq47.true))
 
 pub returns : goal.returns
 returns c =
-    let b = c in
     rw c.moved.ensures
     (⊎_elim
-    (λ w. signs_plain b.args.line.now b.args.at b.args.up b.args.b b.run_end-end.result b.run_end-end.ensures
+    (λ w. signs_plain c.args.line.now c.args.at c.args.up c.args.b c.run_end-end.result c.run_end-end.ensures
     (λ k. eqb-false _ _ w.2.left (w.1.ensures ∙ k)))
-    (λ w. signs_many b.args.line.now b.args.at b.args.up b.args.b b.run_end-end.result b.run_end-end.ensures w.left)
+    (λ w. signs_many c.args.line.now c.args.at c.args.up c.args.b c.run_end-end.result c.run_end-end.ensures w.left)
     c.else-n-eq1.branch)

@@ -10,23 +10,20 @@ use Rattle.tokens.proofs.effect_at.Goals as goal
 pub returns-then-class-eq-PITCHED : goal.returns-then-class-eq-PITCHED
 unfolding by_code token_as
 returns-then-class-eq-PITCHED c =
-    let k = c in
-    let a = k.args in
-    c.note_effect.ensures ∙ ap (effected_for a.at) (sym (classed _ a.line.now a.at k.class_of-class.result 17 k.class_of-class.ensures c.if-class-eq-PITCHED.true))
+    let a = c.args in
+    c.note_effect.ensures ∙ ap (effected_for a.at) (sym (classed _ a.line.now a.at c.class_of-class.result 17 c.class_of-class.ensures c.if-class-eq-PITCHED.true))
 
 pub returns-then-class-eq-WHITE : goal.returns-then-class-eq-WHITE
 unfolding by_code token_as effect_of effect_for
 returns-then-class-eq-WHITE c =
-    let k = c in
-    let a = k.args in
-    ap (effected_for a.at) (sym (classed _ a.line.now a.at k.class_of-class.result 1 k.class_of-class.ensures c.if-class-eq-WHITE.true))
+    let a = c.args in
+    ap (effected_for a.at) (sym (classed _ a.line.now a.at c.class_of-class.result 1 c.class_of-class.ensures c.if-class-eq-WHITE.true))
 
 pub returns-then-class-eq-SKIP : goal.returns-then-class-eq-SKIP
 unfolding by_code token_as effect_of effect_for
 returns-then-class-eq-SKIP c =
-    let k = c in
-    let a = k.args in
-    ap (effected_for a.at) (sym (classed _ a.line.now a.at k.class_of-class.result 0 k.class_of-class.ensures c.if-class-eq-SKIP.true))
+    let a = c.args in
+    ap (effected_for a.at) (sym (classed _ a.line.now a.at c.class_of-class.result 0 c.class_of-class.ensures c.if-class-eq-SKIP.true))
 
 pub returns : goal.returns
 returns c =

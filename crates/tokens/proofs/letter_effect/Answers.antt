@@ -18,59 +18,41 @@ use Rattle.tokens.proofs.letter_effect.Goals as goal
 pub returns-then-is_plain : goal.returns-then-is_plain
 unfolding effect_in
 returns-then-is_plain c =
-    let p = c in
-    let s = p in
-    let line = s.args.line.now in
-    let at = s.args.at in
-    let e : is_plain (get_or line (at + 1) 0) ≡ true = ap is_plain (sym p.byte_at-behind.ensures) ∙ sym p.is_plain.ensures ∙ c.if-is_plain.true in
-    ap effected_in (letter_plain s.args.edition line at s.requires sign.Nothing (note_char (get_or line at 0)) refl e) ∙ effected at (note_as s.args.edition (record { sign = none; used = 0 }) (get_or line at 0) (drop (at + 1) line))
+    let line = c.args.line.now in
+    let at = c.args.at in
+    let e : is_plain (get_or line (at + 1) 0) ≡ true = ap is_plain (sym c.byte_at-behind.ensures) ∙ sym c.is_plain.ensures ∙ c.if-is_plain.true in
+    ap effected_in (letter_plain c.args.edition line at c.requires sign.Nothing (note_char (get_or line at 0)) refl e) ∙ effected at (note_as c.args.edition (record { sign = none; used = 0 }) (get_or line at 0) (drop (at + 1) line))
 
 pub returns-then-is_short : goal.returns-then-is_short
 unfolding effect_of effect_for
 returns-then-is_short c =
-    let p = c in
-    let s = p in
-    let line = s.args.line.now in
-    let at = s.args.at in
-    let e : is_short (get_or line (at + 1) 0) (get_or line (at + 2) 0) ≡ true = (λ i. is_short (sym p.byte_at-behind.ensures i) (sym p.byte_at.ensures i)) ∙ sym c.is_short.ensures ∙ c.if-is_short.true in
-    ap (effected_for at) (sym (letter_short s.args.edition line at s.requires sign.Nothing (note_char (get_or line at 0)) refl e (record { sign = none; used = 0 })))
+    let line = c.args.line.now in
+    let at = c.args.at in
+    let e : is_short (get_or line (at + 1) 0) (get_or line (at + 2) 0) ≡ true = (λ i. is_short (sym c.byte_at-behind.ensures i) (sym c.byte_at.ensures i)) ∙ sym c.is_short.ensures ∙ c.if-is_short.true in
+    ap (effected_for at) (sym (letter_short c.args.edition line at c.requires sign.Nothing (note_char (get_or line at 0)) refl e (record { sign = none; used = 0 })))
 
 pub returns-in_default : goal.returns-in_default
 unfolding effect_in
 returns-in_default c =
-    let o = c in
-    let n = o in
-    let s = n in
-    let line = s.args.line.now in
-    let at = s.args.at in
-    ap effected_in (letter_out s.args.edition line at s.requires sign.Nothing n.abc_note_char-letter.result n.abc_note_char-letter.ensures (sym o.octave_marks.ensures ∙ c.in_default.is))
-    ∙ effected at (note_as s.args.edition (record { sign = none; used = 0 }) (get_or line at 0) (drop (at + 1) line))
+    let line = c.args.line.now in
+    let at = c.args.at in
+    ap effected_in (letter_out c.args.edition line at c.requires sign.Nothing c.abc_note_char-letter.result c.abc_note_char-letter.ensures (sym c.octave_marks.ensures ∙ c.in_default.is))
+    ∙ effected at (note_as c.args.edition (record { sign = none; used = 0 }) (get_or line at 0) (drop (at + 1) line))
 
 pub returns-in_default-parse_duration_suffix : goal.returns-in_default-parse_duration_suffix
 unfolding effect_in
 returns-in_default-parse_duration_suffix c =
-    let p = c in
-    let o = p in
-    let n = o in
-    let s = n in
-    let line = s.args.line.now in
-    let at = s.args.at in
-    let g = p.after_octave-1.given in
-    ap effected_in (letter_many s.args.edition line at s.requires sign.Nothing n.abc_note_char-letter.result n.abc_note_char-letter.ensures g.0.0 g.0.1.0 (sym o.octave_marks.ensures ∙ g.1)
-    (sym p.parse_duration_suffix.ensures ∙ c.in_default-parse_duration_suffix.is))
-    ∙ effected at (note_as s.args.edition (record { sign = none; used = 0 }) (get_or line at 0) (drop (at + 1) line))
+    let line = c.args.line.now in
+    let at = c.args.at in
+    ap effected_in (letter_many c.args.edition line at c.requires sign.Nothing c.abc_note_char-letter.result c.abc_note_char-letter.ensures c.in-At.octave c.in-At.after_octave (sym c.octave_marks.ensures ∙ c.in-At.is)
+    (sym c.parse_duration_suffix.ensures ∙ c.in_default-parse_duration_suffix.is))
+    ∙ effected at (note_as c.args.edition (record { sign = none; used = 0 }) (get_or line at 0) (drop (at + 1) line))
 
 pub returns : goal.returns
 unfolding effect_in
 returns c =
-    let p = c in
-    let o = p in
-    let n = o in
-    let s = n in
-    let line = s.args.line.now in
-    let at = s.args.at in
-    let g = p.after_octave-1.given in
-    let l = c.after_length-1.given in
-    ap effected_in (letter_in s.args.edition line at s.requires sign.Nothing n.abc_note_char-letter.result n.abc_note_char-letter.ensures g.0.0 g.0.1.0 (sym o.octave_marks.ensures ∙ g.1)
-    l.0.0 l.0.1.0 l.0.1.1.0 (sym p.parse_duration_suffix.ensures ∙ l.1) c.apply_abc_note_annotations-annotations.result c.apply_abc_note_annotations-annotations.ensures)
-    ∙ effected at (note_as s.args.edition (record { sign = none; used = 0 }) (get_or line at 0) (drop (at + 1) line))
+    let line = c.args.line.now in
+    let at = c.args.at in
+    ap effected_in (letter_in c.args.edition line at c.requires sign.Nothing c.abc_note_char-letter.result c.abc_note_char-letter.ensures c.in-At.octave c.in-At.after_octave (sym c.octave_marks.ensures ∙ c.in-At.is)
+    c.in-Read.num c.in-Read.den c.in-Read.after_length (sym c.parse_duration_suffix.ensures ∙ c.in-Read.is) c.apply_abc_note_annotations-annotations.result c.apply_abc_note_annotations-annotations.ensures)
+    ∙ effected at (note_as c.args.edition (record { sign = none; used = 0 }) (get_or line at 0) (drop (at + 1) line))

@@ -14,29 +14,24 @@ use Rattle.tokens.proofs.note_effect.Goals as goal
 pub returns-then-line-place : goal.returns-then-line-place
 unfolding effect_in
 returns-then-line-place c =
-    let b = c in
-    let a = b.args in
-    ap effected_in (note_ends a.edition a.line.now a.at b.accidental_before-before.result b.accidental_before-before.ensures c.if-line-place.true) ∙ effected a.at (note_of a.edition (drop a.at a.line.now))
+    let a = c.args in
+    ap effected_in (note_ends a.edition a.line.now a.at c.accidental_before-before.result c.accidental_before-before.ensures c.if-line-place.true) ∙ effected a.at (note_of a.edition (drop a.at a.line.now))
 
 pub returns-then-is_letter : goal.returns-then-is_letter
 returns-then-is_letter c =
-    let e = c in
-    let b = e in
-    let a = b.args in
-    let before = b.accidental_before-before.result in
+    let a = c.args in
+    let before = c.accidental_before-before.result in
     let place = before.next in
     let line = a.line.now in
     c.letter_effect.ensures
     ∙ marked a.edition place none (sign_of before.sign) (get_or line place 0) (drop (place + 1) line)
     ∙ sym (effected place (note_as a.edition (record { sign = sign_of before.sign; used = 0 }) (get_or line place 0) (drop (place + 1) line)))
-    ∙ ap effected_in (note_letter a.edition line a.at before b.accidental_before-before.ensures e.if-line-place.false (sym c.is_letter.ensures ∙ c.if-is_letter.true))
+    ∙ ap effected_in (note_letter a.edition line a.at before c.accidental_before-before.ensures c.if-line-place.false (sym c.is_letter.ensures ∙ c.if-is_letter.true))
     ∙ effected a.at (note_of a.edition (drop a.at line))
 
 pub returns : goal.returns
 unfolding effect_in
 returns c =
-    let e = c in
-    let b = e in
-    let a = b.args in
-    ap effected_in (note_other a.edition a.line.now a.at b.accidental_before-before.result b.accidental_before-before.ensures e.if-line-place.false (sym c.is_letter.ensures ∙ c.if-is_letter.false))
+    let a = c.args in
+    ap effected_in (note_other a.edition a.line.now a.at c.accidental_before-before.result c.accidental_before-before.ensures c.if-line-place.false (sym c.is_letter.ensures ∙ c.if-is_letter.false))
     ∙ effected a.at (note_of a.edition (drop a.at a.line.now))

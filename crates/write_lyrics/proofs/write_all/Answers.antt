@@ -8,8 +8,7 @@ use Rattle.write_lyrics.proofs.write_all.Goals as goal
 
 pub returns-then-lead : goal.returns-then-lead
 returns-then-lead c =
-    let start = c in
-    let a = start.args in
+    let a = c.args in
     let t = a.t in
-    passed_all false (syllables_in a.text.now a.store.now a.sheet) a.store.now t.measures.at t.notes.at t.measures.count t.notes.count (sym start.requires.1.all_notes_lem) (sym start.requires.2 ∙ c.if-lead.true)
+    passed_all false (syllables_in a.text.now a.store.now a.sheet) a.store.now t.measures.at t.notes.at t.measures.count t.notes.count (sym c.requires.1.all_notes_lem) (sym c.requires.2 ∙ c.if-lead.true)
     c.write_rows.ensures

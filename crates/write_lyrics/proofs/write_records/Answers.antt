@@ -14,8 +14,7 @@ returns-in_default c = record { says = counted_none false _ c.args.to.now c.if-t
 
 pub overflow_add-result : goal.overflow_add-result
 overflow_add-result c =
-    let start = c in
-    omega (arith, counted_fits false _ start.args.to.now c.if-to-lt-COUNT.false (passed_to c.write_all.ensures c.in-To.is).0, start.well_formed)
+    omega (arith, counted_fits false _ c.args.to.now c.if-to-lt-COUNT.false (passed_to c.write_all.ensures c.in-To.is).0, c.well_formed)
 
 pub returns : goal.returns
 returns c =

@@ -15,8 +15,7 @@ returns-in_default c = counted_none true _ c.args.to.now c.if-to-lt-COUNT.false 
 
 pub overflow_add-result : goal.overflow_add-result
 overflow_add-result c =
-    let start = c in
-    omega (arith, counted_fits true _ start.args.to.now c.if-to-lt-COUNT.false (told c.write_texts.ensures c.in-To.is), start.well_formed)
+    omega (arith, counted_fits true _ c.args.to.now c.if-to-lt-COUNT.false (told c.write_texts.ensures c.in-To.is), c.well_formed)
 
 pub returns : goal.returns
 returns c =

@@ -6,6 +6,5 @@ use Rattle.write_notes.proofs.put_record.Goals as goal
 
 pub returns : goal.returns
 returns c =
-    let start = c in
-    let a = start.args in
-    note_wrote a.store.now a.place _ _ start.note_start-n.ensures c.put_4.ensures c.copy_note_rest.ensures c.flags_of-flags.ensures (omega arith) (omega arith)
+    let a = c.args in
+    note_wrote a.store.now a.place _ _ c.note_start-n.ensures c.put_4.ensures c.copy_note_rest.ensures c.flags_of-flags.ensures (omega arith) (omega arith)

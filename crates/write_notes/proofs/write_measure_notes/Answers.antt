@@ -25,17 +25,14 @@ slice_bounds-write_overlays-start c = omega (arith, (in_store (told c.write_voic
 
 pub returns-in_default-write_overlays : goal.returns-in_default-write_overlays
 returns-in_default-write_overlays c =
-    let at = c in
-    let a = at.args in
-    wrote_as_lem (next_none (told at.write_voice.ensures at.in-To.is) (told c.write_overlays.ensures c.in_default-write_overlays.is)) (sym (voices_first a.store.now a.place a.k))
+    let a = c.args in
+    wrote_as_lem (next_none (told c.write_voice.ensures c.in-To.is) (told c.write_overlays.ensures c.in_default-write_overlays.is)) (sym (voices_first a.store.now a.place a.k))
 
 pub overflow_add-result : goal.overflow_add-result
 overflow_add-result c =
-    let at = c in
-    omega (arith, (next_to (told at.write_voice.ensures at.in-To.is) (told c.write_overlays.ensures c.in-To-write_overlays.is)).says.1, at.well_formed)
+    omega (arith, (next_to (told c.write_voice.ensures c.in-To.is) (told c.write_overlays.ensures c.in-To-write_overlays.is)).says.1, c.well_formed)
 
 pub returns : goal.returns
 returns c =
-    let at = c in
-    let a = at.args in
-    wrote_as_lem (next_to (told at.write_voice.ensures at.in-To.is) (told c.write_overlays.ensures c.in-To-write_overlays.is)) (sym (voices_first a.store.now a.place a.k))
+    let a = c.args in
+    wrote_as_lem (next_to (told c.write_voice.ensures c.in-To.is) (told c.write_overlays.ensures c.in-To-write_overlays.is)) (sym (voices_first a.store.now a.place a.k))

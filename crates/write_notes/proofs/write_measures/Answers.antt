@@ -12,5 +12,4 @@ returns-then-to-len c = let s = c in measures_say (measures_none s.args.store.no
 
 pub returns : goal.returns
 returns c =
-    let s = c in
-    measures_say (measures_wrote s.args.store.now s.args.t s.requires c.put_u32.ensures c.copy.ensures (omega arith))
+    measures_say (measures_wrote c.args.store.now c.args.t c.requires c.put_u32.ensures c.copy.ensures (omega arith))

@@ -11,10 +11,9 @@ use Rattle.write_pitches.proofs.write_all.Goals as goal
 
 pub returns-then-lead : goal.returns-then-lead
 returns-then-lead c =
-    let start = c in
-    let s = start.args.store.now in
-    let t = start.args.t in
-    let i = start.requires.0 in
+    let s = c.args.store.now in
+    let t = c.args.t in
+    let i = c.requires.0 in
     let all : t.pitches.count ≡ pitch_total s t.notes.at t.notes.count = sym i.all_pitches ∙ ap (pitch_total s t.notes.at) i.all_notes_lem in
     wrote_as_lem c.write_run.ensures
-    (ap (λ (k : ℕ). part s t.pitches.at (pitch_row_width * k)) all ∙ lead_measures s t.measures.at t.notes.at t.pitches.at t.measures.count t.notes.count (sym i.all_notes_lem) (sym start.requires.1 ∙ c.if-lead.true))
+    (ap (λ (k : ℕ). part s t.pitches.at (pitch_row_width * k)) all ∙ lead_measures s t.measures.at t.notes.at t.pitches.at t.measures.count t.notes.count (sym i.all_notes_lem) (sym c.requires.1 ∙ c.if-lead.true))

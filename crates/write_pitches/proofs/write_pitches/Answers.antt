@@ -19,16 +19,13 @@ slice_bounds-write_all-start c = omega (arith, (in_store (told c.write_u32.ensur
 -- the pitches have none
 pub returns-in_default-write_all : goal.returns-in_default-write_all
 returns-in_default-write_all c =
-    let at = c in
-    pitches_say (next_none (told at.write_u32.ensures at.in-To.is) (told c.write_all.ensures c.in_default-write_all.is))
+    pitches_say (next_none (told c.write_u32.ensures c.in-To.is) (told c.write_all.ensures c.in_default-write_all.is))
 
 pub overflow_add-result : goal.overflow_add-result
 overflow_add-result c =
-    let at = c in
-    omega (arith, (next_to (told at.write_u32.ensures at.in-To.is) (told c.write_all.ensures c.in-To-write_all.is)).says.1, at.well_formed)
+    omega (arith, (next_to (told c.write_u32.ensures c.in-To.is) (told c.write_all.ensures c.in-To-write_all.is)).says.1, c.well_formed)
 
 -- both wrote
 pub returns : goal.returns
 returns c =
-    let at = c in
-    pitches_say (next_to (told at.write_u32.ensures at.in-To.is) (told c.write_all.ensures c.in-To-write_all.is))
+    pitches_say (next_to (told c.write_u32.ensures c.in-To.is) (told c.write_all.ensures c.in-To-write_all.is))

@@ -11,7 +11,6 @@ returns-then-to-lt-LYRIC c text h = record_none text _ _ c.if-to-lt-LYRIC.true
 pub returns : goal.returns
 unfolding bit
 returns c text h =
-    let calls = c in
-    record_wrote text _ _ _ _ _ _ calls.low32-index.ensures calls.low32-len.ensures calls.syllabic_of-code.ensures calls.one_if-extend.ensures.0 c.put_u32.ensures c.put_3.ensures c.put_u32-2.ensures
+    record_wrote text _ _ _ _ _ _ c.low32-index.ensures c.low32-len.ensures c.syllabic_of-code.ensures c.one_if-extend.ensures.0 c.put_u32.ensures c.put_3.ensures c.put_u32-2.ensures
     (omega (arith, c.if-to-lt-LYRIC.false))
     h
