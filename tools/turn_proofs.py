@@ -323,9 +323,100 @@ class Proof:
                 of_need.setdefault(w, []).append(k)
         helpers = [d for d in self.decls if d is not final and d["name"] not in of_need and d["name"] not in invariants]
         speaking = [d for d in helpers if "tie." in d["sig"]]
-        if speaking:
-            return self.as_proof(final, given, answers, of_need, invariants, helpers)
+        # a helper that speaks of a place becomes a local name of each goal that cites it
+        self.inlined = {}
+        grew = True
+        while grew:
+            grew = False
+            for d in helpers:
+                if d["name"] in self.inlined:
+                    continue
+                cites = any(self.cites(x, "\n".join(d["clauses"] + [d["sig"]])) for x in self.inlined)
+                if d in speaking or cites:
+                    if len(d["clauses"]) != 1 or self.clause_parts(d["clauses"][0], d["name"]) is None:
+                        self.say(f"helper {d['name']}: by hand")
+                        return self.as_proof(final, given, answers, of_need, invariants, helpers)
+                    self.inlined[d["name"]] = d
+                    grew = True
+        helpers = [d for d in helpers if d["name"] not in self.inlined]
         return self.as_answers(final, given, answers, of_need, invariants, helpers, by)
+
+    def cites(self, name, text):
+        return re.search(r"(?<![^\s(){};,\[])" + re.escape(name) + r"(?![^\s(){}.;,])", text)
+
+    def inline(self, text, var):
+        """A goal's body with the helpers that speak of places as local names: the text, and what it unfolds."""
+        lets, unfolds, seen = [], [], []
+
+        place_words = {x for x, d in self.inlined.items() if re.search(r"→ tie\.\S+$|→ tie\.\S+ (?:invariant|decreases)\S*(?: \S+)?$", " ".join(d["sig"].split()))}
+
+        def strip(t, variables):
+            # a place that is led to by name is the goal's own; then `(h c.before)` and `h c.before` become `h`
+            vs = "(?:" + "|".join(map(re.escape, sorted(variables, key=len, reverse=True))) + r")(?:\.before)*(?![^\s(){};,])"
+            for x in place_words:
+                t = re.sub(r"\(" + re.escape(x) + r" (" + vs + r")\)", r"\1", t)
+                t = re.sub(r"(?<![^\s(){};,\[])" + re.escape(x) + r" (" + vs + ")", r"\1", t)
+            rest = sorted((x for x in self.inlined if x not in place_words), key=len, reverse=True)
+            if rest:
+                hs = "(" + "|".join(map(re.escape, rest)) + ")"
+                t = re.sub(r"\(" + hs + " " + vs + r"\)|(?<![^\s(){};,\[])" + hs + " " + vs, lambda m: m[1] or m[2], t)
+            return t
+
+        def strip_places(t):
+            vs = re.escape(var) + r"(?:\.before)*(?![^\s(){};,])"
+            for x in place_words:
+                t = re.sub(r"\(" + re.escape(x) + r" (" + vs + r")\)", r"\1", t)
+                t = re.sub(r"(?<![^\s(){};,\[])" + re.escape(x) + r" (" + vs + ")", r"\1", t)
+            return t
+
+        def visit(name):
+            if name in seen:
+                return
+            seen.append(name)
+            d = self.inlined[name]
+            params, body = self.clause_parts(d["clauses"][0], name)
+            types = explicit_types(d["sig"])
+            at = self.place_of(d["sig"])
+            places = {params[k]: i for k, (_, i) in at.items() if k < len(params)}
+            sig = d["sig"]
+            names_in_sig = {n: i for n, i in at.values() if n}
+            full = sig
+            k0 = min(at) if at else None
+            for x in self.inlined:
+                if x != name and x not in place_words and (self.cites(x, body) or self.cites(x, sig)):
+                    visit(x)
+            body = strip(body, set(places) | {var})
+            sig = strip(sig, set(names_in_sig) | set(places) | {var})
+            body = self.turn_body(body, places, True, False)
+            sig = self.turn_body(sig, names_in_sig, True, False)
+            for v in places:
+                if v != var:
+                    body = re.sub(r"(?<![^\s(){};,\[])" + re.escape(v) + r"(?=\.)", var, body)
+            for v in names_in_sig:
+                if v != var:
+                    sig = re.sub(r"(?<![^\s(){};,\[])" + re.escape(v) + r"(?=\.)", var, sig)
+            # the type without the place
+            rest = re.sub(r"^\(" + WORD + r" : tie\.[^()]*\)\s*(→\s*)?", "", sig) if k0 == 0 else sig
+            rest = re.sub(r"^tie\.\S+(?: (?:invariant|decreases)\S*)*\s*→\s*", "", rest)
+            others = [q for k, q in enumerate(params) if k not in at]
+            body = body.strip()
+            if others:
+                body = "λ " + " ".join(others) + ". " + body
+            lets.append(f"    let {name} : {' '.join(rest.split())} = {body} in")
+            if d["unfolding"]:
+                unfolds.append(d["unfolding"])
+
+        # local names of places are written out first
+        while True:
+            text = strip_places(text)
+            m = re.search(r"\blet (" + WORD + r") = (" + re.escape(var) + r"(?:\.before)*) in[ \n]\s*", text)
+            if m is None:
+                break
+            text = text[: m.start()] + re.sub(r"(?<![^\s(){};,\[])" + re.escape(m[1]) + r"(?![^\s(){}.;,])", m[2], text[m.end() :])
+        for x in self.inlined:
+            if x not in place_words and self.cites(x, text):
+                visit(x)
+        return strip(text, {var} | set(re.findall(r"\blet (" + WORD + r") = " + re.escape(var) + r"(?:\.before)* in", text))), lets, unfolds
 
     def loop_vars(self, i):
         """For each parameter of an invariant of the loop i, what stands for it in today's form."""
@@ -409,7 +500,15 @@ class Proof:
                 if "κs" in text:
                     self.say(f"{w} uses κs")
             places = {params[0]: place} if params and params[0] != "_" and place is not None else {}
+            lets, more = [], []
+            if self.inlined and params:
+                text, lets, more = self.inline(text, params[0])
             text = self.turn_body(text, places, True, False)
+            if lets:
+                text = "\n" + "\n".join(lets) + ("\n    " + text.strip() if "\n" not in text.strip("\n") else "\n" + text.lstrip("\n"))
+            if more:
+                words = [w for u in [unf or ""] + more for w in u.split()[1:]]
+                unf = "unfolding " + " ".join(dict.fromkeys(words))
             out.append("\n".join(comment + [f"pub {new} : goal.{new}"] + ([unf] if unf else []) + [" ".join([new] + params) + " =" + text]))
         folder = f"crates/{self.crate}/proofs/{self.path}"
         uses = [u for u in self.uses if not re.search(r"\.(Statement|Tie)\b", u)]

@@ -11,15 +11,15 @@ use Rattle.field_modes.proofs.is_lone_m.Goals as goal
 
 pub returns-then-not-says : goal.returns-then-not-says
 unfolding lone_m
-returns-then-not-says c = rw (← says_m, sym c.says.ensures ∙ not_true _ c.if-not-says.true)
+returns-then-not-says c = rw (← says_m, sym c.says.ensures ∙ c.if-not-says.true)
 
 pub returns-then-e-i : goal.returns-then-e-i
 unfolding lone_m
 returns-then-e-i c =
-    rw (← says_m, sym c.says.ensures ∙ not_false _ c.if-not-says.false, second_none c.args.line.now c.args.i c.args.e c.if-e-i.true c.requires.1)
+    rw (← says_m, sym c.says.ensures ∙ c.if-not-says.false, second_none c.args.line.now c.args.i c.args.e c.if-e-i.true c.requires.1)
 
 pub returns : goal.returns
 unfolding lone_m
 returns c =
     let h : c.args.i + 1 < c.args.e = omega arith in
-    rw (← says_m, sym c.says.ensures ∙ not_false _ c.if-not-says.false, second_between c.args.line.now c.args.i c.args.e h c.requires.1, lower_letter) (ap not c.is_letter.ensures)
+    rw (← says_m, sym c.says.ensures ∙ c.if-not-says.false, second_between c.args.line.now c.args.i c.args.e h c.requires.1, lower_letter) (ap not c.is_letter.ensures)

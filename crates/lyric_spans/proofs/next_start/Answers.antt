@@ -24,4 +24,4 @@ returns c =
     let far = c.if-end-at-lt2.false in
     start_here a.text.now a.at a.end _ (omega arith) (omega (arith, far))
     (space_past a.text.now a.at a.end (omega (arith, far)) p.1 (ap is_space c.if-text-at-ne32.false))
-    (λ h. no_white a.text.now a.end p.1 _ h (sym c.is_plain.ensures ∙ not_false c.is_plain.result c.if-not-is_plain.false))
+    (λ h. no_white a.text.now a.end p.1 _ h (sym c.is_plain.ensures ∙ c.if-not-is_plain.false))

@@ -15,14 +15,14 @@ pub returns-then-not-is_plain : goal.returns-then-not-is_plain
 returns-then-not-is_plain c =
     let a = c.args in
     let l = c.loop-i in
-    let e = sym c.is_plain.ensures ∙ not_true c.is_plain.result c.if-not-is_plain.true in
+    let e = sym c.is_plain.ensures ∙ c.if-not-is_plain.true in
     sym (end_in_stop is_plain a.text.now l.i a.end c.loop-i-test.true c.requires.1 e) ∙ l.invariant.1
 
 pub loop-i-preserved : goal.loop-i-preserved
 loop-i-preserved c =
     let a = c.args in
     let l = c.loop-i in
-    let e = sym c.is_plain.ensures ∙ not_false c.is_plain.result c.if-not-is_plain.false in
+    let e = sym c.is_plain.ensures ∙ c.if-not-is_plain.false in
     (search rules, sym (end_in_more is_plain a.text.now l.i a.end c.loop-i-test.true c.requires.1 e) ∙ l.invariant.1)
 
 pub returns : goal.returns

@@ -21,7 +21,7 @@ loop-i-preserved-then-not-may_be_white c =
     let l = c.loop-i in
     let more = c.loop-i-test.true in
     let s = a.text.now in
-    let none = no_white_here s l.i a.end more p.1 (sym c.may_be_white.ensures ∙ not_true c.may_be_white.result c.if-not-may_be_white.true) in
+    let none = no_white_here s l.i a.end more p.1 (sym c.may_be_white.ensures ∙ c.if-not-may_be_white.true) in
     (omega (arith, more), omega (arith, stretch_on s l.i a.end more p.1 none, l.invariant.1))
 
 -- white space

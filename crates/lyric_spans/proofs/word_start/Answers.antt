@@ -22,13 +22,13 @@ returns-then-b-gt127 c =
 pub returns-then-not-is_space : goal.returns-then-not-is_space
 returns-then-not-is_space c =
     let v = c.loop-i.invariant in
-    start_here _ _ _ _ v.0 v.1 v.2 (λ h. plain_here _ _ _ h (search rules) (search rules) (sym c.is_space.ensures ∙ not_true c.is_space.result c.if-not-is_space.true))
+    start_here _ _ _ _ v.0 v.1 v.2 (λ h. plain_here _ _ _ h (search rules) (search rules) (sym c.is_space.ensures ∙ c.if-not-is_space.true))
 
 -- a space
 pub loop-i-preserved : goal.loop-i-preserved
 loop-i-preserved c =
     let v = c.loop-i.invariant in
-    (omega (arith, v.0), search rules, v.2 ∙ space_past _ _ _ (search rules) (search rules) (sym c.is_space.ensures ∙ not_false c.is_space.result c.if-not-is_space.false))
+    (omega (arith, v.0), search rules, v.2 ∙ space_past _ _ _ (search rules) (search rules) (sym c.is_space.ensures ∙ c.if-not-is_space.false))
 
 pub returns : goal.returns
 returns c =

@@ -12,12 +12,12 @@ use Rattle.reading_passes.proofs.one_pass.Goals as goal
 pub overflow_sub-result : goal.overflow_sub-result
 overflow_sub-result c =
     let a = c.args in
-    let k : (leb a.kept.least a.start.at && ltb a.start.at a.kept.end) ≡ true = sym c.is_kept.ensures ∙ not_false _ c.if-not-is_kept.false in
+    let k : (leb a.kept.least a.start.at && ltb a.start.at a.kept.end) ≡ true = sym c.is_kept.ensures ∙ c.if-not-is_kept.false in
     omega (arith, ltb-true a.start.at a.kept.end (and_right (leb a.kept.least a.start.at) (ltb a.start.at a.kept.end) k))
 
 pub returns : goal.returns
 returns c =
     let p = c.requires in
     let a = c.args in
-    let k : (leb a.kept.least a.start.at && ltb a.start.at a.kept.end) ≡ true = sym c.is_kept.ensures ∙ not_false _ c.if-not-is_kept.false in
+    let k : (leb a.kept.least a.start.at && ltb a.start.at a.kept.end) ≡ true = sym c.is_kept.ensures ∙ c.if-not-is_kept.false in
     listed_again _ _ _ _ _ _ _ _ p.0.2 p.1.0 p.1.1 _ (leb-true _ _ (and_left (leb a.kept.least a.start.at) (ltb a.start.at a.kept.end) k)) (ltb-true _ _ (and_right (leb a.kept.least a.start.at) (ltb a.start.at a.kept.end) k)) c.repeat_numbers-c.ensures

@@ -50,7 +50,7 @@ returns-then-count-room c =
     let p = c.requires in
     let h = c.loop-at-test.true in
     let sn = seen _ _ _ _ _ l.invariant.listed.span_is c.bar_at-bar.ensures in
-    let g = going_enter _ _ _ _ _ _ p.0 p.2 _ _ _ _ _ _ h l.invariant sn (sym c.is_skipped.ensures ∙ not_true _ c.if-not-is_skipped.true) c.enter-p.ensures in
+    let g = going_enter _ _ _ _ _ _ p.0 p.2 _ _ _ _ _ _ h l.invariant sn (sym c.is_skipped.ensures ∙ c.if-not-is_skipped.true) c.enter-p.ensures in
     plays_full _ _ _ _ _ _ p.0 p.2 _ _ _ _ _ g _ c.if-count-room.true
 
 -- src/lib.rt:120:51
@@ -83,7 +83,7 @@ returns-then-closes c =
     let p = c.requires in
     let h = c.loop-at-test.true in
     let sn = seen _ _ _ _ _ l.invariant.listed.span_is c.bar_at-bar.ensures in
-    let g = going_enter _ _ _ _ _ _ p.0 p.2 _ _ _ _ _ _ h l.invariant sn (sym c.is_skipped.ensures ∙ not_true _ c.if-not-is_skipped.true) c.enter-p.ensures in
+    let g = going_enter _ _ _ _ _ _ p.0 p.2 _ _ _ _ _ _ h l.invariant sn (sym c.is_skipped.ensures ∙ c.if-not-is_skipped.true) c.enter-p.ensures in
     plays_close _ _ _ _ _ _ p.0 p.2 _ _ _ _ _ g _ _ sn c.if-count-room.false (c.put_number.ensures ∙ ap (λ (x : ℕ). splice l.list (number_at l.count) (le32 x)) (add-one l.at)) _ (add-one l.count) (sym c.closes.ensures ∙ c.if-closes.true)
 
 -- src/lib.rt:141:25
@@ -101,7 +101,7 @@ returns-then-start-p c =
     let p = c.requires in
     let h = c.loop-at-test.true in
     let sn = seen _ _ _ _ _ l.invariant.listed.span_is c.bar_at-bar.ensures in
-    let g = going_enter _ _ _ _ _ _ p.0 p.2 _ _ _ _ _ _ h l.invariant sn (sym c.is_skipped.ensures ∙ not_true _ c.if-not-is_skipped.true) c.enter-p.ensures in
+    let g = going_enter _ _ _ _ _ _ p.0 p.2 _ _ _ _ _ _ h l.invariant sn (sym c.is_skipped.ensures ∙ c.if-not-is_skipped.true) c.enter-p.ensures in
     plays_open _ _ _ _ _ _ p.0 p.2 _ _ _ _ _ g _ _ sn c.if-count-room.false (c.put_number.ensures ∙ ap (λ (x : ℕ). splice l.list (number_at l.count) (le32 x)) (add-one l.at)) _ _ _ (add-one l.count) (add-one l.at) (sym c.closes.ensures ∙ c.if-closes.false) c.if-start-p.true
 
 -- src/lib.rt:150:9

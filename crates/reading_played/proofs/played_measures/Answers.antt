@@ -11,30 +11,30 @@ use Rattle.reading_played.proofs.played_measures.Goals as goal
 pub returns-then-not-has_part : goal.returns-then-not-has_part
 returns-then-not-has_part c =
     let r = c.refuse.ensures in
-    let e = call_refused _ _ _ (sym c.has_part.ensures ∙ not_true _ c.if-not-has_part.true) in
+    let e = call_refused _ _ _ (sym c.has_part.ensures ∙ c.if-not-has_part.true) in
     (r.0 ∙ ap (λ (o : Outcome). o.answer) e, r.1 ∙ ap (λ (o : Outcome). o.store) e)
 
 pub overflow_sub-part : goal.overflow_sub-part
-overflow_sub-part c = let p = part_is _ _ (sym c.has_part.ensures ∙ not_false _ c.if-not-has_part.false) in omega (arith, p.least)
+overflow_sub-part c = let p = part_is _ _ (sym c.has_part.ensures ∙ c.if-not-has_part.false) in omega (arith, p.least)
 
 pub part_at-at-requires : goal.part_at-at-requires
 part_at-at-requires c =
-    let p = part_is _ _ (sym c.has_part.ensures ∙ not_false _ c.if-not-has_part.false) in
+    let p = part_is _ _ (sym c.has_part.ensures ∙ c.if-not-has_part.false) in
     (p.whole, omega (arith, p.least, p.most))
 
 pub get_u32-n-requires : goal.get_u32-n-requires
 get_u32-n-requires c =
-    let p = part_is _ _ (sym c.has_part.ensures ∙ not_false _ c.if-not-has_part.false) in
+    let p = part_is _ _ (sym c.has_part.ensures ∙ c.if-not-has_part.false) in
     part_room _ _ _ p c.part_at-at.ensures
 
 pub write_list-requires : goal.write_list-requires
 write_list-requires c =
-    let p = part_is _ _ (sym c.has_part.ensures ∙ not_false _ c.if-not-has_part.false) in
+    let p = part_is _ _ (sym c.has_part.ensures ∙ c.if-not-has_part.false) in
     part_here _ _ _ _ p c.part_at-at.ensures c.get_u32-n.ensures (search rules)
 
 pub returns : goal.returns
 returns c =
     let r = c.write_list.ensures in
-    let h = sym c.has_part.ensures ∙ not_false _ c.if-not-has_part.false in
+    let h = sym c.has_part.ensures ∙ c.if-not-has_part.false in
     let e = part_listed _ _ _ _ c.part_at-at.ensures ∙ call_listed _ _ _ h in
     (r.0 ∙ ap (λ (o : Outcome). o.answer) e, r.1 ∙ ap (λ (o : Outcome). o.store) e)

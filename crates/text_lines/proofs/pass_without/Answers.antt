@@ -15,4 +15,4 @@ pub loop-i-preserved : goal.loop-i-preserved
 loop-i-preserved c =
     let a = c.args in
     let l = c.loop-i in
-    (search rules, end_behind (not_byte a.b) a.text.now l.i (l.i + 16) a.end (search rules) (search rules) (search rules) (sym c.lacks.ensures ∙ not_false c.lacks.result c.if-not-lacks.false) ∙ l.invariant.1)
+    (search rules, end_behind (not_byte a.b) a.text.now l.i (l.i + 16) a.end (search rules) (search rules) (search rules) (sym c.lacks.ensures ∙ c.if-not-lacks.false) ∙ l.invariant.1)

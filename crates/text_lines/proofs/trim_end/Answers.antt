@@ -21,13 +21,13 @@ pub returns-then-not-is_space : goal.returns-then-not-is_space
 returns-then-not-is_space c =
     let a = c.args in
     let l = c.loop-i in
-    end_before a.text.now a.from a.to l.i _ l.invariant.1 l.invariant.2 (end_here a.text.now a.from l.i l.invariant.0 (end_whole a.text.now a.from l.i (search rules) (search rules) (search rules) (sym c.is_space.ensures ∙ not_true c.is_space.result c.if-not-is_space.true)))
+    end_before a.text.now a.from a.to l.i _ l.invariant.1 l.invariant.2 (end_here a.text.now a.from l.i l.invariant.0 (end_whole a.text.now a.from l.i (search rules) (search rules) (search rules) (sym c.is_space.ensures ∙ c.if-not-is_space.true)))
 
 pub loop-i-preserved : goal.loop-i-preserved
 loop-i-preserved c =
     let a = c.args in
     let l = c.loop-i in
-    (search rules, search rules, end_space a.text.now a.from l.i (search rules) (search rules) (search rules) (sym c.is_space.ensures ∙ not_false c.is_space.result c.if-not-is_space.false) ∙ l.invariant.2)
+    (search rules, search rules, end_space a.text.now a.from l.i (search rules) (search rules) (search rules) (sym c.is_space.ensures ∙ c.if-not-is_space.false) ∙ l.invariant.2)
 
 pub returns : goal.returns
 returns c =

@@ -25,7 +25,7 @@ loop-left-preserved-then-not-is_of_voice c =
     let l = c.loop-left in
     let v = l.invariant in
     let s = c.args.store.now in
-    (omega (arith, v.0), omega (arith, v.1), omega (arith, v.2), omega (arith, v.3, sung_other s l.p l.left c.loop-left-test.true (row_other s l.p (sym c.is_of_voice.ensures ∙ not_true _ c.if-not-is_of_voice.true))), v.4, written_as_lem v.5 (rows_other _ _ _ _ _ _ _ c.loop-left-test.true (sym c.is_of_voice.ensures ∙ not_true _ c.if-not-is_of_voice.true)))
+    (omega (arith, v.0), omega (arith, v.1), omega (arith, v.2), omega (arith, v.3, sung_other s l.p l.left c.loop-left-test.true (row_other s l.p (sym c.is_of_voice.ensures ∙ c.if-not-is_of_voice.true))), v.4, written_as_lem v.5 (rows_other _ _ _ _ _ _ _ c.loop-left-test.true (sym c.is_of_voice.ensures ∙ c.if-not-is_of_voice.true)))
 
 pub overflow_add-i : goal.overflow_add-i
 overflow_add-i c = omega (arith, c.loop-left.invariant.1, c.loop-left-test.true, c.requires.2)
@@ -37,7 +37,7 @@ loop-left-preserved-then-is_rest c =
     let v = l.invariant in
     let s = c.args.store.now in
     let more = c.loop-left-test.true in
-    (omega (arith, v.0), omega (arith, v.1, more), omega (arith, v.2), omega (arith, v.3, sung_other s l.p l.left more (row_rest s l.p (not_true _ (sym c.is_rest.ensures ∙ c.if-is_rest.true)))), v.4, written_as_lem v.5 (rows_rest _ _ _ _ _ _ _ more (sym c.is_of_voice.ensures ∙ not_false _ c.if-not-is_of_voice.false) (not_true _ (sym c.is_rest.ensures ∙ c.if-is_rest.true))))
+    (omega (arith, v.0), omega (arith, v.1, more), omega (arith, v.2), omega (arith, v.3, sung_other s l.p l.left more (row_rest s l.p (not_true _ (sym c.is_rest.ensures ∙ c.if-is_rest.true)))), v.4, written_as_lem v.5 (rows_rest _ _ _ _ _ _ _ more (sym c.is_of_voice.ensures ∙ c.if-not-is_of_voice.false) (not_true _ (sym c.is_rest.ensures ∙ c.if-is_rest.true))))
 
 pub slice_bounds-write_syllable_records-count : goal.slice_bounds-write_syllable_records-count
 slice_bounds-write_syllable_records-count c = omega (arith, (written_in c.loop-left.invariant.5).0)
@@ -52,12 +52,12 @@ returns-in_default c =
     let a = c.args in
     record {
       says = written_none l.invariant.5 (told c.write_syllable_records.ensures c.in_default.is) (rows_out false (syllables_in a.text.now a.store.now a.sheet) a.store.now (l.i + 1) (l.j + 1) (l.p + note_row_width) (l.left - 1))
-          (rows_sung _ _ _ _ _ _ _ c.loop-left-test.true (sym c.is_of_voice.ensures ∙ not_false _ c.if-not-is_of_voice.false) (not_false _ (sym c.is_rest.ensures ∙ c.if-is_rest.false)));
+          (rows_sung _ _ _ _ _ _ _ c.loop-left-test.true (sym c.is_of_voice.ensures ∙ c.if-not-is_of_voice.false) (not_false _ (sym c.is_rest.ensures ∙ c.if-is_rest.false)));
     }
 
 pub overflow_add-at : goal.overflow_add-at
 overflow_add-at c =
-    let w = written_on_lem c.loop-left.invariant.5 (told c.write_syllable_records.ensures c.in-To.is) (rows_sung _ _ _ _ _ _ _ c.loop-left-test.true (sym c.is_of_voice.ensures ∙ not_false _ c.if-not-is_of_voice.false) (not_false _ (sym c.is_rest.ensures ∙ c.if-is_rest.false))) in
+    let w = written_on_lem c.loop-left.invariant.5 (told c.write_syllable_records.ensures c.in-To.is) (rows_sung _ _ _ _ _ _ _ c.loop-left-test.true (sym c.is_of_voice.ensures ∙ c.if-not-is_of_voice.false) (not_false _ (sym c.is_rest.ensures ∙ c.if-is_rest.false))) in
     omega (arith, w.wrote.says.1, c.well_formed)
 
 pub overflow_add-i-in-loop-left : goal.overflow_add-i-in-loop-left
@@ -73,11 +73,11 @@ loop-left-preserved c =
     let v = l.invariant in
     let s = c.args.store.now in
     let more = c.loop-left-test.true in
-    let w = written_on_lem v.5 (told c.write_syllable_records.ensures c.in-To.is) (rows_sung _ _ _ _ _ _ _ more (sym c.is_of_voice.ensures ∙ not_false _ c.if-not-is_of_voice.false) (not_false _ (sym c.is_rest.ensures ∙ c.if-is_rest.false))) in (
+    let w = written_on_lem v.5 (told c.write_syllable_records.ensures c.in-To.is) (rows_sung _ _ _ _ _ _ _ more (sym c.is_of_voice.ensures ∙ c.if-not-is_of_voice.false) (not_false _ (sym c.is_rest.ensures ∙ c.if-is_rest.false))) in (
       omega (arith, v.0),
       omega (arith, v.1, more),
       omega (arith, v.2, more),
-      omega (arith, v.3, sung_one s l.p l.left more (row_sung s l.p (sym c.is_of_voice.ensures ∙ not_false _ c.if-not-is_of_voice.false) (not_false _ (sym c.is_rest.ensures ∙ c.if-is_rest.false)))),
+      omega (arith, v.3, sung_one s l.p l.left more (row_sung s l.p (sym c.is_of_voice.ensures ∙ c.if-not-is_of_voice.false) (not_false _ (sym c.is_rest.ensures ∙ c.if-is_rest.false)))),
       (written_in w).1,
       w,
     )

@@ -14,12 +14,12 @@ pub loop-left-init : goal.loop-left-init
 loop-left-init c = (c.requires, refl)
 
 pub returns-then-not-is_of_voice : goal.returns-then-not-is_of_voice
-returns-then-not-is_of_voice c = leads_no _ _ _ c.loop-left-test.true (sym c.is_of_voice.ensures ∙ not_true _ c.if-not-is_of_voice.true) ∙ c.loop-left.invariant.1
+returns-then-not-is_of_voice c = leads_no _ _ _ c.loop-left-test.true (sym c.is_of_voice.ensures ∙ c.if-not-is_of_voice.true) ∙ c.loop-left.invariant.1
 
 pub loop-left-preserved : goal.loop-left-preserved
 loop-left-preserved c =
     let l = c.loop-left in
-    (omega (arith, l.invariant.0, c.loop-left-test.true), leads_yes _ _ _ c.loop-left-test.true (sym c.is_of_voice.ensures ∙ not_false _ c.if-not-is_of_voice.false) ∙ l.invariant.1)
+    (omega (arith, l.invariant.0, c.loop-left-test.true), leads_yes _ _ _ c.loop-left-test.true (sym c.is_of_voice.ensures ∙ c.if-not-is_of_voice.false) ∙ l.invariant.1)
 
 pub returns : goal.returns
 returns c = leads_none _ _ _ (omega arith) ∙ c.loop-left.invariant.1

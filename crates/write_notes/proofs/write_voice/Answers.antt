@@ -19,7 +19,7 @@ loop-left-init c = (c.requires, refl, begin _ _)
 pub loop-left-preserved-then-not-is_of_voice : goal.loop-left-preserved-then-not-is_of_voice
 loop-left-preserved-then-not-is_of_voice c =
     let v = c.loop-left.invariant in
-    (omega arith, v.1, written_as_lem v.2 (voice_no _ _ _ _ c.loop-left-test.true (sym c.is_of_voice.ensures ∙ not_true _ c.if-not-is_of_voice.true)))
+    (omega arith, v.1, written_as_lem v.2 (voice_no _ _ _ _ c.loop-left-test.true (sym c.is_of_voice.ensures ∙ c.if-not-is_of_voice.true)))
 
 pub slice_bounds-write_note-count : goal.slice_bounds-write_note-count
 slice_bounds-write_note-count c = omega (arith, (written_in c.loop-left.invariant.2).0)
@@ -31,17 +31,17 @@ slice_bounds-write_note-start c = omega (arith, (written_in c.loop-left.invarian
 pub returns-in_default : goal.returns-in_default
 returns-in_default c =
     let l = c.loop-left in
-    written_none l.invariant.2 (told c.write_note.ensures c.in_default.is) (voice_out _ _ (l.p + note_row_width) (l.left - 1)) (voice_yes _ _ _ _ c.loop-left-test.true (sym c.is_of_voice.ensures ∙ not_false _ c.if-not-is_of_voice.false))
+    written_none l.invariant.2 (told c.write_note.ensures c.in_default.is) (voice_out _ _ (l.p + note_row_width) (l.left - 1)) (voice_yes _ _ _ _ c.loop-left-test.true (sym c.is_of_voice.ensures ∙ c.if-not-is_of_voice.false))
 
 pub overflow_add-at : goal.overflow_add-at
 overflow_add-at c =
-    let w = written_on_lem c.loop-left.invariant.2 (told c.write_note.ensures c.in-To.is) (voice_yes _ _ _ _ c.loop-left-test.true (sym c.is_of_voice.ensures ∙ not_false _ c.if-not-is_of_voice.false)) in
+    let w = written_on_lem c.loop-left.invariant.2 (told c.write_note.ensures c.in-To.is) (voice_yes _ _ _ _ c.loop-left-test.true (sym c.is_of_voice.ensures ∙ c.if-not-is_of_voice.false)) in
     omega (arith, w.wrote.says.1, c.well_formed)
 
 -- a row written
 pub loop-left-preserved : goal.loop-left-preserved
 loop-left-preserved c =
-    let w = written_on_lem c.loop-left.invariant.2 (told c.write_note.ensures c.in-To.is) (voice_yes _ _ _ _ c.loop-left-test.true (sym c.is_of_voice.ensures ∙ not_false _ c.if-not-is_of_voice.false)) in
+    let w = written_on_lem c.loop-left.invariant.2 (told c.write_note.ensures c.in-To.is) (voice_yes _ _ _ _ c.loop-left-test.true (sym c.is_of_voice.ensures ∙ c.if-not-is_of_voice.false)) in
     (omega (arith, c.loop-left.invariant.0), (written_in w).1, w)
 
 pub returns : goal.returns

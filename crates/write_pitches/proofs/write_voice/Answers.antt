@@ -28,7 +28,7 @@ loop-left-preserved-then-not-is_of_voice c =
       omega (arith, l.invariant.0),
       omega (arith, l.invariant.1, pitch_total_step c.args.store.now l.p l.left c.loop-left-test.true, c.pitch_bytes-len.ensures),
       l.invariant.2,
-      written_as_lem l.invariant.3 (voice_no _ _ _ _ _ _ c.loop-left-test.true c.pitch_bytes-len.ensures.0 (sym c.is_of_voice.ensures ∙ not_true _ c.if-not-is_of_voice.true)),
+      written_as_lem l.invariant.3 (voice_no _ _ _ _ _ _ c.loop-left-test.true c.pitch_bytes-len.ensures.0 (sym c.is_of_voice.ensures ∙ c.if-not-is_of_voice.true)),
     )
 
 pub slice_bounds-write_run-count : goal.slice_bounds-write_run-count
@@ -46,11 +46,11 @@ write_run-requires c =
 pub returns-in_default : goal.returns-in_default
 returns-in_default c =
     let l = c.loop-left in
-    written_none l.invariant.3 (told c.write_run.ensures c.in_default.is) (voice_out _ _ (l.p + note_row_width) (l.q + c.pitch_bytes-len.result) (l.left - 1)) (voice_yes _ _ _ _ _ _ c.loop-left-test.true c.pitch_bytes-len.ensures.0 (sym c.is_of_voice.ensures ∙ not_false _ c.if-not-is_of_voice.false))
+    written_none l.invariant.3 (told c.write_run.ensures c.in_default.is) (voice_out _ _ (l.p + note_row_width) (l.q + c.pitch_bytes-len.result) (l.left - 1)) (voice_yes _ _ _ _ _ _ c.loop-left-test.true c.pitch_bytes-len.ensures.0 (sym c.is_of_voice.ensures ∙ c.if-not-is_of_voice.false))
 
 pub overflow_add-at : goal.overflow_add-at
 overflow_add-at c =
-    let w = written_on_lem c.loop-left.invariant.3 (told c.write_run.ensures c.in-To.is) (voice_yes _ _ _ _ _ _ c.loop-left-test.true c.pitch_bytes-len.ensures.0 (sym c.is_of_voice.ensures ∙ not_false _ c.if-not-is_of_voice.false)) in
+    let w = written_on_lem c.loop-left.invariant.3 (told c.write_run.ensures c.in-To.is) (voice_yes _ _ _ _ _ _ c.loop-left-test.true c.pitch_bytes-len.ensures.0 (sym c.is_of_voice.ensures ∙ c.if-not-is_of_voice.false)) in
     omega (arith, w.wrote.says.1, c.well_formed)
 
 pub overflow_add-q-in-loop-left : goal.overflow_add-q-in-loop-left
@@ -62,7 +62,7 @@ overflow_add-q-in-loop-left c =
 pub loop-left-preserved : goal.loop-left-preserved
 loop-left-preserved c =
     let l = c.loop-left in
-    let w = written_on_lem l.invariant.3 (told c.write_run.ensures c.in-To.is) (voice_yes _ _ _ _ _ _ c.loop-left-test.true c.pitch_bytes-len.ensures.0 (sym c.is_of_voice.ensures ∙ not_false _ c.if-not-is_of_voice.false)) in
+    let w = written_on_lem l.invariant.3 (told c.write_run.ensures c.in-To.is) (voice_yes _ _ _ _ _ _ c.loop-left-test.true c.pitch_bytes-len.ensures.0 (sym c.is_of_voice.ensures ∙ c.if-not-is_of_voice.false)) in
     (omega (arith, l.invariant.0), omega (arith, l.invariant.1, pitch_total_step c.args.store.now l.p l.left c.loop-left-test.true, c.pitch_bytes-len.ensures), (written_in w).1, w)
 
 pub returns : goal.returns

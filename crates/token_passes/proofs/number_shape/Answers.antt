@@ -1,0 +1,92 @@
+-- `token_passes::number_shape` meets its contract.
+use Prim.Native.Nat.{ℕ}
+use mathlib.Core.Path.{◌≡◌, sym, ap, ◌∙◌}
+use mathlib.Core.Bool.{true, false}
+use mathlib.Core.List.{List}
+use native.Mathlib.Omega.{arith}
+use lib.ListN.{drop}
+use borrow.Author.Tests.{eq-eqb, ne_eqb}
+use Rattle.laws.specs.Spans.{run, end_of}
+use Rattle.laws.proofs.Spans.{length_run, run_passes}
+use Rattle.laws.proofs.Lists.{first_at}
+use Rattle.standard.specs.Bytes.{is, is_digit, first}
+use Rattle.text_numbers.specs.Digits.{number_at, written}
+use Rattle.text_numbers.specs.declared.Read.{Read}
+use Rattle.reader.specs.PassLists.{list_number}
+use Rattle.token_passes.specs.Faults.{number_shape}
+use Rattle.token_passes.specs.declared.Shape.TheVariants.{Right}
+use Rattle.token_passes.proofs.Items.{zero_first}
+use Rattle.token_passes.proofs.Shapes.{by_digits, plain_number, lone_zero, leading_zero}
+use borrow.Author.Rules.{rules}
+use Rattle.token_passes.proofs.number_shape.Goals as goal
+
+pub overflow_sub-next : goal.overflow_sub-next
+unfolding number_at
+overflow_sub-next c =
+    let text : List ℕ = c.args.line.now in
+    let place : ℕ = c.args.at in
+    let ends : c.read_number-number.result.next ≡ end_of is_digit text place = ap (λ (r : Read). r.next) c.read_number-number.ensures in
+    omega (arith, ends)
+
+pub returns-then-next-at-gt1 : goal.returns-then-next-at-gt1
+unfolding number_at
+returns-then-next-at-gt1 c =
+    let text : List ℕ = c.args.line.now in
+    let place : ℕ = c.args.at in
+    let digits_at : List ℕ = run is_digit (drop place text) in
+    let ends : c.read_number-number.result.next ≡ end_of is_digit text place = ap (λ (r : Read). r.next) c.read_number-number.ensures in
+    let zero : is "0" (first digits_at) ≡ true = let r = c in
+    zero_first (drop (place r) (text r)) ∙ eq-eqb _ 48 (first_at (text r) (place r) ∙ sym c.byte_at.ensures ∙ c.if-byte_at-eq48.true) in
+    leading_zero _ digits_at zero (omega (arith, c.if-next-at-gt1.true, ends, length_run is_digit (drop place text)))
+
+pub returns-then-byte_at-eq48 : goal.returns-then-byte_at-eq48
+unfolding number_at
+returns-then-byte_at-eq48 c =
+    let text : List ℕ = c.args.line.now in
+    let place : ℕ = c.args.at in
+    let digits_at : List ℕ = run is_digit (drop place text) in
+    let ends : c.read_number-number.result.next ≡ end_of is_digit text place = ap (λ (r : Read). r.next) c.read_number-number.ensures in
+    let zero : is "0" (first digits_at) ≡ true = let r = c in
+    zero_first (drop (place r) (text r)) ∙ eq-eqb _ 48 (first_at (text r) (place r) ∙ sym c.byte_at.ensures ∙ c.if-byte_at-eq48.true) in
+    ap (Right false) ends ∙ lone_zero _ digits_at zero (omega (arith, c.if-next-at-gt1.false, ends, length_run is_digit (drop place text)))
+
+pub returns-in-Nothing : goal.returns-in-Nothing
+unfolding by_digits number_at
+returns-in-Nothing c =
+    let text : List ℕ = c.args.line.now in
+    let place : ℕ = c.args.at in
+    let digits_at : List ℕ = run is_digit (drop place text) in
+    let told : written 32 digits_at ≡ c.read_number-number.result.digits = sym (ap (λ (r : Read). r.digits) c.read_number-number.ensures) in
+    let plain : by_digits (end_of is_digit text place) c.read_number-number.result.digits ≡ number_shape (end_of is_digit text place) (list_number digits_at) = let r = c in
+    let z : is "0" (first (digits_at r)) ≡ false =
+    zero_first (drop (place r) (text r)) ∙ ne_eqb _ 48 (λ k. c.if-byte_at-eq48.false (c.byte_at.ensures ∙ sym (first_at (text r) (place r)) ∙ k)) in
+    ap (by_digits _) (sym (told r)) ∙ plain_number _ (digits_at r) (run_passes is_digit (drop (place r) (text r))) z in
+    ap (by_digits _) (sym c.in-Nothing.is) ∙ plain
+
+pub returns-in-Past : goal.returns-in-Past
+unfolding by_digits number_at
+returns-in-Past c =
+    let text : List ℕ = c.args.line.now in
+    let place : ℕ = c.args.at in
+    let ends : c.read_number-number.result.next ≡ end_of is_digit text place = ap (λ (r : Read). r.next) c.read_number-number.ensures in
+    let digits_at : List ℕ = run is_digit (drop place text) in
+    let told : written 32 digits_at ≡ c.read_number-number.result.digits = sym (ap (λ (r : Read). r.digits) c.read_number-number.ensures) in
+    let plain : by_digits (end_of is_digit text place) c.read_number-number.result.digits ≡ number_shape (end_of is_digit text place) (list_number digits_at) = let r = c in
+    let z : is "0" (first (digits_at r)) ≡ false =
+    zero_first (drop (place r) (text r)) ∙ ne_eqb _ 48 (λ k. c.if-byte_at-eq48.false (c.byte_at.ensures ∙ sym (first_at (text r) (place r)) ∙ k)) in
+    ap (by_digits _) (sym (told r)) ∙ plain_number _ (digits_at r) (run_passes is_digit (drop (place r) (text r))) z in
+    ap (Right false) ends ∙ ap (by_digits _) (sym c.in-Past.is) ∙ plain
+
+pub returns-in-Value : goal.returns-in-Value
+unfolding by_digits number_at
+returns-in-Value c =
+    let text : List ℕ = c.args.line.now in
+    let place : ℕ = c.args.at in
+    let ends : c.read_number-number.result.next ≡ end_of is_digit text place = ap (λ (r : Read). r.next) c.read_number-number.ensures in
+    let digits_at : List ℕ = run is_digit (drop place text) in
+    let told : written 32 digits_at ≡ c.read_number-number.result.digits = sym (ap (λ (r : Read). r.digits) c.read_number-number.ensures) in
+    let plain : by_digits (end_of is_digit text place) c.read_number-number.result.digits ≡ number_shape (end_of is_digit text place) (list_number digits_at) = let r = c in
+    let z : is "0" (first (digits_at r)) ≡ false =
+    zero_first (drop (place r) (text r)) ∙ ne_eqb _ 48 (λ k. c.if-byte_at-eq48.false (c.byte_at.ensures ∙ sym (first_at (text r) (place r)) ∙ k)) in
+    ap (by_digits _) (sym (told r)) ∙ plain_number _ (digits_at r) (run_passes is_digit (drop (place r) (text r))) z in
+    ap (Right true) ends ∙ ap (by_digits _) (sym c.in-Value.is) ∙ plain

@@ -1,0 +1,59 @@
+-- `token_suffixes::number_or` meets its contract.
+use mathlib.Core.Path.{◌≡◌, refl, sym, ap, ◌∙◌}
+use mathlib.Core.Bool.{true, false}
+use Prim.Native.Nat.{◌+◌, ◌-◌, ◌≤◌, ◌<◌, ◌^◌}
+use native.Mathlib.Omega.{arith}
+use lib.ListN.{length, get_or}
+use Rattle.laws.proofs.Bools.{not_true, not_false}
+use Rattle.laws.proofs.Spans.{run_within}
+use Rattle.standard.specs.Bytes.{is_digit}
+use Rattle.reader.proofs.Digits.{digit_low}
+use Rattle.token_suffixes.proofs.Suffixes.{number_none, number_one, number_at_lem, number_small}
+use borrow.Author.Rules.{rules}
+use Rattle.token_suffixes.proofs.number_or.Goals as goal
+
+-- no digit
+pub returns-then-not-is_digit : goal.returns-then-not-is_digit
+returns-then-not-is_digit c =
+    let a = c.args in
+    number_none a.other a.line.now a.at (sym (rw c.byte_at-first.ensures at c.is_digit.ensures) ∙ c.if-not-is_digit.true)
+
+pub overflow_add-at : goal.overflow_add-at
+overflow_add-at c =
+    let digit : is_digit (get_or c.args.line.now c.args.at 0) ≡ true = sym (rw c.byte_at-first.ensures at c.is_digit.ensures) ∙ c.if-not-is_digit.false in
+    let within : c.args.at < length c.args.line.now = run_within is_digit refl c.args.line.now _ digit in
+    omega (arith, within)
+
+pub overflow_sub-result : goal.overflow_sub-result
+overflow_sub-result c =
+    let digit : is_digit (get_or c.args.line.now c.args.at 0) ≡ true = sym (rw c.byte_at-first.ensures at c.is_digit.ensures) ∙ c.if-not-is_digit.false in
+    let low : 48 ≤ c.byte_at-first.result = rw c.byte_at-first.ensures (digit_low _ digit) in
+    omega arith
+
+pub overflow_add-result : goal.overflow_add-result
+overflow_add-result c =
+    let digit : is_digit (get_or c.args.line.now c.args.at 0) ≡ true = sym (rw c.byte_at-first.ensures at c.is_digit.ensures) ∙ c.if-not-is_digit.false in
+    let within : c.args.at < length c.args.line.now = run_within is_digit refl c.args.line.now _ digit in
+    omega (arith, within)
+
+-- one digit
+pub returns-then-not-is_digit-2 : goal.returns-then-not-is_digit-2
+returns-then-not-is_digit-2 c =
+    let digit : is_digit (get_or c.args.line.now c.args.at 0) ≡ true = sym (rw c.byte_at-first.ensures at c.is_digit.ensures) ∙ c.if-not-is_digit.false in
+    let a = c.args in
+    let last = sym (rw c.byte_at.ensures at c.is_digit-2.ensures) ∙ c.if-not-is_digit-2.true in
+    rw c.byte_at-first.ensures (number_one a.other a.line.now a.at digit last)
+
+pub overflow_cast-result-in-Value : goal.overflow_cast-result-in-Value
+overflow_cast-result-in-Value c =
+    let small : c.in-Value.v ≤ 2 ^ 32 - 1 = number_small c.args.line.now c.args.at _ (ap (λ x. x.digits) (sym c.read_number-read.ensures) ∙ c.in-Value.is) in
+    omega (arith, small)
+
+pub returns-in-Value : goal.returns-in-Value
+returns-in-Value c = number_at_lem _ _ _ _ c.read_number-read.ensures _ c.in-Value.is
+
+pub returns-in-Nothing : goal.returns-in-Nothing
+returns-in-Nothing c = number_at_lem _ _ _ _ c.read_number-read.ensures _ c.in-Nothing.is
+
+pub returns-in-Past : goal.returns-in-Past
+returns-in-Past c = number_at_lem _ _ _ _ c.read_number-read.ensures _ c.in-Past.is
