@@ -36,7 +36,7 @@ pass_append : (p : Passed) (w s : List ℕ) → pass_text p (w ++ (32 ∷ s)) �
 unfolding pass_text
 pass_append p [] s = refl
 pass_append p (c ∷ w) s =
-    ap₂ (λ (x y : Bool). pass_text (pass_byte p c x y) (w ++ (32 ∷ s))) (min_space c w s) (maj_space c w s) ∙ pass_append _ w s
+    ap₂ (λ (x y : Bool). pass_text (pass_byte p c x y) (w ++ (32 ∷ s))) (min_space c w s) (maj_space c w s) ∙ pass_append (pass_byte p c (starts_with (ascii "min") (map lower (c ∷ w))) (starts_with (ascii "maj") (map lower (c ∷ w)))) w s
 
 pass_space : (p : Passed) (s : List ℕ) → pass_text p (32 ∷ s) ≡ pass_text (pass_byte p 32 false false) s
 unfolding pass_text lower

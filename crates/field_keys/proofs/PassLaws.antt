@@ -60,20 +60,20 @@ found_byte Nothing m false c (some r) = refl
 pass_name : (p : Passed) (s : List ℕ) → (pass_text p s).name ≡ foldl with_byte p.name s
 unfolding pass_text pass_byte
 pass_name p [] = refl
-pass_name p (c ∷ s) = pass_name _ s
+pass_name p (c ∷ s) = pass_name (pass_byte p c (starts_with (ascii "min") (map lower (c ∷ s))) (starts_with (ascii "maj") (map lower (c ∷ s)))) s
 
 pass_minor : (p : Passed) (s : List ℕ) → (pass_text p s).minor ≡ found_in p.minor p.name (before_word (ascii "min") s)
 unfolding pass_text pass_byte before_word
 pass_minor p [] = sym (found_none p.minor p.name)
 pass_minor p (c ∷ s) =
-    pass_minor _ s ∙ found_byte p.minor p.name (starts_with (ascii "min") (map lower (c ∷ s))) c (before_word (ascii "min") s)
+    pass_minor (pass_byte p c (starts_with (ascii "min") (map lower (c ∷ s))) (starts_with (ascii "maj") (map lower (c ∷ s)))) s ∙ found_byte p.minor p.name (starts_with (ascii "min") (map lower (c ∷ s))) c (before_word (ascii "min") s)
     ∙ ap (λ (b : Bool). found_in p.minor p.name (elim b [ true ↦ some [] | false ↦ cons_some c (before_word (ascii "min") s) ])) (sym (three_min (c ∷ s)))
 
 pass_major : (p : Passed) (s : List ℕ) → (pass_text p s).major ≡ found_in p.major p.name (before_word (ascii "maj") s)
 unfolding pass_text pass_byte before_word
 pass_major p [] = sym (found_none p.major p.name)
 pass_major p (c ∷ s) =
-    pass_major _ s ∙ found_byte p.major p.name (starts_with (ascii "maj") (map lower (c ∷ s))) c (before_word (ascii "maj") s)
+    pass_major (pass_byte p c (starts_with (ascii "min") (map lower (c ∷ s))) (starts_with (ascii "maj") (map lower (c ∷ s)))) s ∙ found_byte p.major p.name (starts_with (ascii "maj") (map lower (c ∷ s))) c (before_word (ascii "maj") s)
     ∙ ap (λ (b : Bool). found_in p.major p.name (elim b [ true ↦ some [] | false ↦ cons_some c (before_word (ascii "maj") s) ])) (sym (three_maj (c ∷ s)))
 
 -- the last byte is an m: the name before it
@@ -95,7 +95,7 @@ ended_byte m c (d ∷ s) = rw (last_cons c d s)
 pass_ended : (p : Passed) (s : List ℕ) → (pass_text p s).ended ≡ ended_in p.ended p.name s
 unfolding pass_text pass_byte ended_in
 pass_ended p [] = refl
-pass_ended p (c ∷ s) = pass_ended _ s ∙ ended_byte p.name c s
+pass_ended p (c ∷ s) = pass_ended (pass_byte p c (starts_with (ascii "min") (map lower (c ∷ s))) (starts_with (ascii "maj") (map lower (c ∷ s)))) s ∙ ended_byte p.name c s
 
 -- THE KEY
 -- on the tonic of a name

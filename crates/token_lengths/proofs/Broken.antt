@@ -43,7 +43,7 @@ broken_note_lem true n (Written v d) x p e = rw e
 broken_note_lem true n (WholeBar d) x p e = rw e
 broken_note_lem false n (Written v d) x p e =
     let k : x.value ≡ v = ap (λ (w : Value). w.value) e in
-    rw (ne_eqb x.value 10 (λ z. p (sym k ∙ z)), halved_note) (rw e)
+    rw (ne_eqb x.value 10 (λ z. p (sym k ∙ z)), halved_note) (ap (λ (w : Value). written_on (halved n w) x) e)
 broken_note_lem false n (WholeBar d) x p e =
     let k : x.value ≡ 10 = ap (λ (w : Value). w.value) e in
     rw (eq-eqb x.value 10 k, halved_note) (ap (λ (w : Value). written_on w x) e)

@@ -22,7 +22,7 @@ returns-then-not-is_within c =
     (c.plain_key.ensures ∙ sym (no_tonic _ _ _ (sym c.is_within.ensures ∙ c.if-not-is_within.true)))
 
 pub mark_behind-mark-requires : goal.mark_behind-mark-requires
-mark_behind-mark-requires c = let a = c in (a.requires.0, omega (arith, a.requires.1, a.requires.2))
+mark_behind-mark-requires c = (c.requires.0, omega (arith, c.requires.1, c.requires.2))
 
 pub name_end-requires : goal.name_end-requires
 name_end-requires c =

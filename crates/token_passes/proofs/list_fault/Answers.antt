@@ -31,7 +31,7 @@ returns-then-byte_at-ne44 c =
     let item : (x : Item) × (list_item_at c.args.line.now c.loop-item_in_range.i ≡ some x) × (c.in-Right.item_in_range ≡ all is_pass (numbers_in (x ∷ []))) × (c.in-Right.after_item ≡ end_of is_item_byte c.args.line.now c.loop-item_in_range.i) = item_some _ _ _ _ (sym c.item_shape.ensures ∙ c.in-Right.is) in
     let q = item in
     c.pick.ensures
-    ∙ faulting_last _ _ _ _ c.loop-item_in_range.invariant q.0 q.1 _ q.3 _ (c.both-in_range.ensures ∙ ap (λ b. c.loop-item_in_range.in-range && b) q.2) (λ k. c.if-byte_at-ne44.true (c.byte_at.ensures ∙ k))
+    ∙ faulting_last _ _ _ _ c.loop-item_in_range.invariant q.0 q.1 _ q.3 _ (c.both-in_range.ensures ∙ ap (λ b. c.loop-item_in_range.in_range && b) q.2) (λ k. c.if-byte_at-ne44.true (c.byte_at.ensures ∙ k))
 
 pub overflow_add-i : goal.overflow_add-i
 overflow_add-i c =
@@ -51,4 +51,4 @@ loop-item_in_range-preserved c =
     let item : (x : Item) × (list_item_at c.args.line.now c.loop-item_in_range.i ≡ some x) × (c.in-Right.item_in_range ≡ all is_pass (numbers_in (x ∷ []))) × (c.in-Right.after_item ≡ end_of is_item_byte c.args.line.now c.loop-item_in_range.i) = item_some _ _ _ _ (sym c.item_shape.ensures ∙ c.in-Right.is) in
     let comma : get_or c.args.line.now c.in-Right.after_item 0 ≡ 44 = sym c.byte_at.ensures ∙ c.if-byte_at-ne44.false in
     let q = item in
-    faulting_on _ _ _ _ c.loop-item_in_range.invariant q.0 q.1 _ q.3 _ (c.both-in_range.ensures ∙ ap (λ b. c.loop-item_in_range.in-range && b) q.2) comma
+    faulting_on _ _ _ _ c.loop-item_in_range.invariant q.0 q.1 _ q.3 _ (c.both-in_range.ensures ∙ ap (λ b. c.loop-item_in_range.in_range && b) q.2) comma

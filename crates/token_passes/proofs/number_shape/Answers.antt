@@ -35,8 +35,8 @@ returns-then-next-at-gt1 c =
     let place : ℕ = c.args.at in
     let digits_at : List ℕ = run is_digit (drop place text) in
     let ends : c.read_number-number.result.next ≡ end_of is_digit text place = ap (λ (r : Read). r.next) c.read_number-number.ensures in
-    let zero : is "0" (first digits_at) ≡ true = let r = c in
-    zero_first (drop (place r) (text r)) ∙ eq-eqb _ 48 (first_at (text r) (place r) ∙ sym c.byte_at.ensures ∙ c.if-byte_at-eq48.true) in
+    let zero : is "0" (first digits_at) ≡ true =
+    zero_first (drop place text) ∙ eq-eqb _ 48 (first_at text place ∙ sym c.byte_at.ensures ∙ c.if-byte_at-eq48.true) in
     leading_zero _ digits_at zero (omega (arith, c.if-next-at-gt1.true, ends, length_run is_digit (drop place text)))
 
 pub returns-then-byte_at-eq48 : goal.returns-then-byte_at-eq48
@@ -46,8 +46,8 @@ returns-then-byte_at-eq48 c =
     let place : ℕ = c.args.at in
     let digits_at : List ℕ = run is_digit (drop place text) in
     let ends : c.read_number-number.result.next ≡ end_of is_digit text place = ap (λ (r : Read). r.next) c.read_number-number.ensures in
-    let zero : is "0" (first digits_at) ≡ true = let r = c in
-    zero_first (drop (place r) (text r)) ∙ eq-eqb _ 48 (first_at (text r) (place r) ∙ sym c.byte_at.ensures ∙ c.if-byte_at-eq48.true) in
+    let zero : is "0" (first digits_at) ≡ true =
+    zero_first (drop place text) ∙ eq-eqb _ 48 (first_at text place ∙ sym c.byte_at.ensures ∙ c.if-byte_at-eq48.true) in
     ap (Right false) ends ∙ lone_zero _ digits_at zero (omega (arith, c.if-next-at-gt1.false, ends, length_run is_digit (drop place text)))
 
 pub returns-in-Nothing : goal.returns-in-Nothing
@@ -57,10 +57,10 @@ returns-in-Nothing c =
     let place : ℕ = c.args.at in
     let digits_at : List ℕ = run is_digit (drop place text) in
     let told : written 32 digits_at ≡ c.read_number-number.result.digits = sym (ap (λ (r : Read). r.digits) c.read_number-number.ensures) in
-    let plain : by_digits (end_of is_digit text place) c.read_number-number.result.digits ≡ number_shape (end_of is_digit text place) (list_number digits_at) = let r = c in
-    let z : is "0" (first (digits_at r)) ≡ false =
-    zero_first (drop (place r) (text r)) ∙ ne_eqb _ 48 (λ k. c.if-byte_at-eq48.false (c.byte_at.ensures ∙ sym (first_at (text r) (place r)) ∙ k)) in
-    ap (by_digits _) (sym (told r)) ∙ plain_number _ (digits_at r) (run_passes is_digit (drop (place r) (text r))) z in
+    let plain : by_digits (end_of is_digit text place) c.read_number-number.result.digits ≡ number_shape (end_of is_digit text place) (list_number digits_at) =
+    let z : is "0" (first digits_at) ≡ false =
+    zero_first (drop place text) ∙ ne_eqb _ 48 (λ k. c.if-byte_at-eq48.false (c.byte_at.ensures ∙ sym (first_at text place) ∙ k)) in
+    ap (by_digits _) (sym told) ∙ plain_number _ digits_at (run_passes is_digit (drop place text)) z in
     ap (by_digits _) (sym c.in-Nothing.is) ∙ plain
 
 pub returns-in-Past : goal.returns-in-Past
@@ -71,10 +71,10 @@ returns-in-Past c =
     let ends : c.read_number-number.result.next ≡ end_of is_digit text place = ap (λ (r : Read). r.next) c.read_number-number.ensures in
     let digits_at : List ℕ = run is_digit (drop place text) in
     let told : written 32 digits_at ≡ c.read_number-number.result.digits = sym (ap (λ (r : Read). r.digits) c.read_number-number.ensures) in
-    let plain : by_digits (end_of is_digit text place) c.read_number-number.result.digits ≡ number_shape (end_of is_digit text place) (list_number digits_at) = let r = c in
-    let z : is "0" (first (digits_at r)) ≡ false =
-    zero_first (drop (place r) (text r)) ∙ ne_eqb _ 48 (λ k. c.if-byte_at-eq48.false (c.byte_at.ensures ∙ sym (first_at (text r) (place r)) ∙ k)) in
-    ap (by_digits _) (sym (told r)) ∙ plain_number _ (digits_at r) (run_passes is_digit (drop (place r) (text r))) z in
+    let plain : by_digits (end_of is_digit text place) c.read_number-number.result.digits ≡ number_shape (end_of is_digit text place) (list_number digits_at) =
+    let z : is "0" (first digits_at) ≡ false =
+    zero_first (drop place text) ∙ ne_eqb _ 48 (λ k. c.if-byte_at-eq48.false (c.byte_at.ensures ∙ sym (first_at text place) ∙ k)) in
+    ap (by_digits _) (sym told) ∙ plain_number _ digits_at (run_passes is_digit (drop place text)) z in
     ap (Right false) ends ∙ ap (by_digits _) (sym c.in-Past.is) ∙ plain
 
 pub returns-in-Value : goal.returns-in-Value
@@ -85,8 +85,8 @@ returns-in-Value c =
     let ends : c.read_number-number.result.next ≡ end_of is_digit text place = ap (λ (r : Read). r.next) c.read_number-number.ensures in
     let digits_at : List ℕ = run is_digit (drop place text) in
     let told : written 32 digits_at ≡ c.read_number-number.result.digits = sym (ap (λ (r : Read). r.digits) c.read_number-number.ensures) in
-    let plain : by_digits (end_of is_digit text place) c.read_number-number.result.digits ≡ number_shape (end_of is_digit text place) (list_number digits_at) = let r = c in
-    let z : is "0" (first (digits_at r)) ≡ false =
-    zero_first (drop (place r) (text r)) ∙ ne_eqb _ 48 (λ k. c.if-byte_at-eq48.false (c.byte_at.ensures ∙ sym (first_at (text r) (place r)) ∙ k)) in
-    ap (by_digits _) (sym (told r)) ∙ plain_number _ (digits_at r) (run_passes is_digit (drop (place r) (text r))) z in
+    let plain : by_digits (end_of is_digit text place) c.read_number-number.result.digits ≡ number_shape (end_of is_digit text place) (list_number digits_at) =
+    let z : is "0" (first digits_at) ≡ false =
+    zero_first (drop place text) ∙ ne_eqb _ 48 (λ k. c.if-byte_at-eq48.false (c.byte_at.ensures ∙ sym (first_at text place) ∙ k)) in
+    ap (by_digits _) (sym told) ∙ plain_number _ digits_at (run_passes is_digit (drop place text)) z in
     ap (Right true) ends ∙ ap (by_digits _) (sym c.in-Value.is) ∙ plain

@@ -22,7 +22,7 @@ search_value-requires c =
 pub returns-in_default-frequent_value : goal.returns-in_default-frequent_value
 unfolding length_fraction
 returns-in_default-frequent_value c =
-    let length_is : written_as (fraction c.args.num c.bounded-parts.result) ≡ written_as (length_fraction c.args.unit-den c.args.num c.args.den) = let a = c.args in
+    let length_is : written_as (fraction c.args.num c.bounded-parts.result) ≡ written_as (length_fraction c.args.unit_den c.args.num c.args.den) = let a = c.args in
     let small : a.num < 2 ^ 32 = omega arith in
     rw (c.bounded-parts.ensures, c.product.ensures, c.at_least_one.ensures) (written_bounded _ _ small) in
     let positive : (0 < c.args.num) × (0 < c.bounded-parts.result) = limit_none (fraction _ _) (found_none (limit_of _) (sym c.limit_value.ensures ∙ c.in_default.is)) in
@@ -32,7 +32,7 @@ returns-in_default-frequent_value c =
 pub returns-in_default : goal.returns-in_default
 unfolding length_fraction
 returns-in_default c =
-    let length_is : written_as (fraction c.args.num c.bounded-parts.result) ≡ written_as (length_fraction c.args.unit-den c.args.num c.args.den) = let a = c.args in
+    let length_is : written_as (fraction c.args.num c.bounded-parts.result) ≡ written_as (length_fraction c.args.unit_den c.args.num c.args.den) = let a = c.args in
     let small : a.num < 2 ^ 32 = omega arith in
     rw (c.bounded-parts.ensures, c.product.ensures, c.at_least_one.ensures) (written_bounded _ _ small) in
     let positive : (0 < c.args.num) × (0 < c.bounded-parts.result) = limit_none (fraction _ _) (found_none (limit_of _) (sym c.limit_value.ensures ∙ c.in_default.is)) in
@@ -42,7 +42,7 @@ returns-in_default c =
 pub returns : goal.returns
 unfolding length_fraction
 returns c =
-    let length_is : written_as (fraction c.args.num c.bounded-parts.result) ≡ written_as (length_fraction c.args.unit-den c.args.num c.args.den) = let a = c.args in
+    let length_is : written_as (fraction c.args.num c.bounded-parts.result) ≡ written_as (length_fraction c.args.unit_den c.args.num c.args.den) = let a = c.args in
     let small : a.num < 2 ^ 32 = omega arith in
     rw (c.bounded-parts.ensures, c.product.ensures, c.at_least_one.ensures) (written_bounded _ _ small) in
     let met = found_some (limit_of _) _ _ (sym c.limit_value.ensures ∙ c.in-Value.is) in

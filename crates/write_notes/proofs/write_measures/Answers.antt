@@ -5,10 +5,10 @@ use borrow.Author.Rules.{rules}
 use Rattle.write_notes.proofs.write_measures.Goals as goal
 
 pub returns-then-to-lt-COUNT : goal.returns-then-to-lt-COUNT
-returns-then-to-lt-COUNT c = let s = c in measures_say (measures_none s.args.store.now s.args.t s.requires (omega arith))
+returns-then-to-lt-COUNT c = measures_say (measures_none c.args.store.now c.args.t c.requires (omega arith))
 
 pub returns-then-to-len : goal.returns-then-to-len
-returns-then-to-len c = let s = c in measures_say (measures_none s.args.store.now s.args.t s.requires (omega arith))
+returns-then-to-len c = measures_say (measures_none c.args.store.now c.args.t c.requires (omega arith))
 
 pub returns : goal.returns
 returns c =

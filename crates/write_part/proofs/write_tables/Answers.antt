@@ -24,7 +24,7 @@ slice_bounds-write_notes-start c =
     (in_store w1).0
 
 pub write_notes-requires : goal.write_notes-requires
-write_notes-requires c = let s = c in (s.requires.0, s.requires.2)
+write_notes-requires c = (c.requires.0, c.requires.2)
 
 -- no room for the notes
 pub returns-in_default-write_notes : goal.returns-in_default-write_notes
@@ -52,7 +52,7 @@ slice_bounds-write_pitches-start c =
     (in_store w2).0
 
 pub write_pitches-requires : goal.write_pitches-requires
-write_pitches-requires c = let s = c in (s.requires.0, s.requires.2)
+write_pitches-requires c = (c.requires.0, c.requires.2)
 
 -- no room for the pitches
 pub returns-in_default-write_pitches : goal.returns-in_default-write_pitches
@@ -84,7 +84,7 @@ slice_bounds-write_lyrics-start c =
     (in_store w3).0
 
 pub write_lyrics-requires : goal.write_lyrics-requires
-write_lyrics-requires c = let s = c in (s.requires.1, s.requires.0, s.requires.2)
+write_lyrics-requires c = (c.requires.1, c.requires.0, c.requires.2)
 
 -- no room for the lyrics and their text
 pub returns-in_default-write_lyrics : goal.returns-in_default-write_lyrics
