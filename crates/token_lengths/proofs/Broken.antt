@@ -39,8 +39,8 @@ NoBar (WholeBar d) = Unit {0}
 pub broken_note_lem : (up : Bool) (n : ℕ) (l : Length) (x : Note) → NoBar l → value_in x ≡ as_value l
     → broken_note (record { up = up; times = n }) x ≡ written_on (as_value (broken_length up n l)) x
 unfolding broken_note halved_note broken_length dotted halved
-broken_note_lem true n (Written v d) x p e = rw e
-broken_note_lem true n (WholeBar d) x p e = rw e
+broken_note_lem true n (Written v d) x p e = ap (λ (w : Value). written_on (dotted n w) x) e
+broken_note_lem true n (WholeBar d) x p e = ap (λ (w : Value). written_on (dotted n w) x) e
 broken_note_lem false n (Written v d) x p e =
     let k : x.value ≡ v = ap (λ (w : Value). w.value) e in
     rw (ne_eqb x.value 10 (λ z. p (sym k ∙ z)), halved_note) (ap (λ (w : Value). written_on (halved n w) x) e)
