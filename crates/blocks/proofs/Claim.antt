@@ -326,8 +326,8 @@ module _
           = (L.early_iff (rebuilt text bs) rl sl).0 (subst (λ (t : List ℕ). R.early t rl sl ≡ none) (sym (rebuilt_self text)) none_early) in
           (L.early_iff (rebuilt text cs) rl sl).1 (
             subst (λ (n : ℕ). R.Fits n sl) (sym length_moved) o.0,
-            lines_from R.Utf8 L.IsUtf8-nil L.utf8_line (header text ++ (opening text ++ concat cs)) (closed_lines cs closed_cs)
-                (lines_moved R.Utf8 (lines_to R.Utf8 L.IsUtf8-nil L.utf8_line (header text ++ (opening text ++ concat bs)) closed_all o.1)),
+            lines_from R.Utf8 L.utf8_nil L.utf8_line (header text ++ (opening text ++ concat cs)) (closed_lines cs closed_cs)
+                (lines_moved R.Utf8 (lines_to R.Utf8 L.utf8_nil L.utf8_line (header text ++ (opening text ++ concat bs)) closed_all o.1)),
             λ b.
                 o.2
                 (lines_from R.Blank L.blank_nil L.blank_line (header text ++ (opening text ++ concat bs)) closed_all

@@ -8,11 +8,11 @@ use mathlib.Core.Option.{Option, none, some}
 use lib.Dec.{eqb, ltb}
 use lib.ListN.{length, drop}
 use borrow.Author.Tests.{eqb-true}
-use Rattle.laws.specs.Lists.{is_nil, foldl}
+use Rattle.laws.specs.Lists.{is_nil}
 use Rattle.laws.proofs.Bools.{by_test, and_left, and_right, cond_both, and_both, same_test, eqb_same}
 use Rattle.standard.specs.Keys.{Key}
 use Rattle.editions.specs.declared.Edition.{Edition}
-use Rattle.reader.proofs.TextLaws.{not_blank, trim_keep}
+use Rattle.reader.proofs.TextLaws.{trim_keep}
 use Rattle.reader.specs.Text as text
 use Rattle.reader.specs.Text.{white_step, white, is_all_white, is_blank, cut, trim, clean, has_high}
 use Rattle.reader.specs.Fields as fields

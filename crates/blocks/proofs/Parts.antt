@@ -1,5 +1,5 @@
 -- AN ACCEPTED TEXT'S READING HAS ONE PART FOR EACH VOICE, so the parts that demand 3 compares are there; and equal parts have equal sections. Assumes nothing.
-use Prim.Native.Nat.{ℕ, zero, suc, max}
+use Prim.Native.Nat.{ℕ, max}
 use mathlib.Core.Path.{◌≡◌, refl, sym, ap, ◌∙◌}
 use mathlib.Core.Bool.{true}
 use mathlib.Core.Option.{Option, none, some}
@@ -12,7 +12,7 @@ use Rattle.editions.specs.declared.Edition.{Edition}
 use Rattle.reader.proofs.PartLaws as laws
 use Rattle.reader.specs.Text.{text_lines}
 use Rattle.reader.specs.Steps.{refuse, on, items_of}
-use Rattle.reader.specs.Scan.{Item, Env, Out, scan}
+use Rattle.reader.specs.Scan.{Out, scan}
 use Rattle.reader.specs.Part.{Part}
 use Rattle.reader.specs.Records.{sections}
 use Rattle.reader.specs.Answer.{Verdict, reading, Outcome, early, refused_with, parts, finish, scanned, unless, parse_abc}

@@ -1,4 +1,6 @@
 // Measures as a player sees them, read off a part's records, and the limit of a section. A span is kept as a number: 0 is none, else its passes and 1.
+#![tactic(auto)]
+
 ghost use Rattle.std.specs.Prelude.{◌≡◌, cond, suc, ◌+◌, ◌≤◌, ◌<◌, ◌^◌, max, leb, length};
 ghost use Rattle.laws.specs.Bytes.{u32_at};
 ghost use Rattle.reader.specs.Records.{measure_width};

@@ -77,7 +77,7 @@ module _ {A : Type 0} (P : A → Type 0) (f : A → List ℕ) (w : ℕ) (wide : 
   records_read g h says {at} (x ∷ xs) p rest y =
       let recs = concat (map f xs) in
       let z : Here s at (f x ++ (recs ++ rest)) = subst (Here s at) (append_assoc (f x) recs rest) y in
-      let t = records_read g h says xs p.1 rest (past (f x) (recs ++ rest) w (wide x p.0) z) in
+      let t = records_read g h says {at = at + w} xs p.1 rest (past (f x) (recs ++ rest) w (wide x p.0) z) in
       values_front g at w (length xs) ∙ (λ i. says at x (recs ++ rest) p.0 z i ∷ t i)
 
   -- A SECTION whose records all pass a test

@@ -40,7 +40,7 @@ parts_whole [] four fits counts k h = ap is_zeros h.is ∙ zeros_zeros k
 parts_whole {s} {at} (p ∷ ps) four fits counts k h =
     let rest = part_bytes ps ++ zeros k in
     let x = part_sections p four.0 counts.0 rest (subst (Here s at) (append_assoc (sections p) (part_bytes ps) (zeros k)) h) in
-    and_both _ _ (part_whole p four.0 fits.0 counts.0 rest x) (parts_whole ps four.1 fits.1 counts.1 k x.text.after)
+    and_both _ _ (part_whole p four.0 fits.0 counts.0 rest x) (parts_whole {s = s} {at = part_end s at} ps four.1 fits.1 counts.1 k x.text.after)
 
 -- with their count
 encode_whole : (ps : List Part) → FourBytes (length ps) → All (λ (p : Part). Fours p.measures) ps → All PartFits ps → All CountsFit ps → (k : ℕ) → is_whole (encode ps ++ zeros k) ≡ true

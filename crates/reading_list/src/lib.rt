@@ -1,4 +1,6 @@
 // A list of numbers in its store, four bytes each, behind their count.
+#![tactic(auto)]
+
 ghost use Rattle.std.specs.Prelude.{◌≡◌, ◌+◌, ◌-◌, ◌/◌, ◌≤◌, ◌<◌, ◌^◌, min, length};
 ghost use Rattle.laws.specs.Bytes.{le32, u32_at, splice};
 ghost use Rattle.reading_list.specs.Numbers.{number_at, numbers_in, above, most_numbers, Room, CopiedIs};

@@ -1,7 +1,7 @@
 -- THE WALK ENDS, whatever the measures are: each step lowers the rank. So the list obeys the rules step by step, and nothing is cut off. Assumes nothing.
 use Prim.Native.Nat.{ℕ, zero, suc, ◌+◌, ◌-◌, ◌*◌, ◌≤◌, ◌<◌, zero-le}
 use mathlib.Core.Path.{◌≡◌, refl, sym, ap, ◌∙◌}
-use mathlib.Core.Bool.{true, false, not, ◌&&◌, false≢true}
+use mathlib.Core.Bool.{true, false, ◌&&◌, false≢true}
 use mathlib.Core.Option.{Option, none, some}
 use mathlib.Core.List.{List, [], ◌∷◌, ◌++◌}
 use native.Mathlib.Nat.{suc-mul, add-zero, add-suc}
@@ -10,7 +10,7 @@ use lib.Dec.{eqb, ltb, lit≤}
 use lib.ListN.{length, drop, get_elem?}
 use borrow.Author.Tests.{ltb-true, eqb-true, eqb-false}
 use Rattle.laws.proofs.Bools.{by_test, and_left}
-use Rattle.reading_walk.specs.Walk.{Bar, Place, opens, closes, has_pass, greatest, top_of, top_before, limit_of, limit, is_skipped, ahead, begin, again, entered, left_behind, next, listed, walk, later, rank, played_from, played}
+use Rattle.reading_walk.specs.Walk.{Bar, Place, opens, closes, has_pass, greatest, top_of, top_before, limit_of, limit, is_skipped, ahead, begin, again, entered, left_behind, next, listed, walk, later, rank, played_from}
 
 -- THE LIMIT is at most 32
 greatest_most : (k ps : ℕ) → greatest k ps ≤ k

@@ -1,6 +1,6 @@
 -- THE CALL: "list measure numbers (a count, then the numbers, u32 each)"; "Checks: 19 no whole reading or no such part, 20 the list's store is too short or the list has over
 -- 4,294,967,295 numbers; in this order."
-use Rattle.std.specs.Prelude.{ℕ, ◌+◌, ◌-◌, Bool, cond, ◌&&◌, List, ◌++◌, leb, length}
+use Rattle.std.specs.Prelude.{ℕ, ◌-◌, Bool, cond, ◌&&◌, List, ◌++◌, leb, length}
 use Rattle.laws.specs.Bytes.{le32, u32_at, zeros, enc_all}
 use Rattle.reader.specs.Answer.{Answer, read, refused}
 use Rattle.reading_records.specs.Widths.{first_part}

@@ -1,4 +1,6 @@
 // Whether bytes are a whole reading, and zeros behind it: in one pass, part after part.
+#![tactic(auto)]
+
 ghost use Rattle.std.specs.Prelude.{◌≡◌, ◌≤◌, length, drop};
 ghost use Rattle.reader.specs.Records.{measure_width, note_width, pitch_width, lyric_width};
 ghost use Rattle.reading_sections.specs.Sections.{record_at};

@@ -52,7 +52,7 @@ sounded_notes {s} {at} (x ∷ xs) rest h =
     let k : get_or s at 0 ≡ kind_code x.1.kind = ap (λ (i : ℕ). get_or s i 0) (sym (add-zero at)) ∙ sym (get_or-drop at s 0 0) ∙ ap (λ (l : List ℕ). get_or l 0 0) y.is in
     let t : eqb (get_or s at 0) 0 ≡ is_sounded x.1.kind = ap (λ (i : ℕ). eqb i 0) k ∙ kind_sounded x.1.kind in
     sounded_front s at (length xs)
-    ∙ (λ i. cond (t i) 1 0 + sounded_notes xs rest (past b (recs ++ rest) 12 (note_bytes_lem x tt) y) i)
+    ∙ (λ i. cond (t i) 1 0 + sounded_notes {s = s} {at = at + 12} xs rest (past b (recs ++ rest) 12 (note_bytes_lem x tt) y) i)
     ∙ one_note (is_sounded x.1.kind) x (filter (λ (x : ℕ × Note). is_sounded x.1.kind) xs)
 
 -- those that are rests are the others
@@ -80,7 +80,7 @@ unfolding part_bytes counts_from tally PartsWithin
 parts_here [] f c rest h = (refl, omega (arith, h.fits))
 parts_here {s} {at} (p ∷ ps) f c rest h =
     let x = part_here p f.0 c.0 (part_bytes ps ++ rest) (subst (Here s at) (append_assoc (sections p) (part_bytes ps) rest) h) in
-    let y = parts_here ps f.1 c.1 rest x.1 in
+    let y = parts_here {s = s} {at = part_end s at} ps f.1 c.1 rest x.1 in
     ((λ i. x.0 i ∷ y.0 i), (omega (arith, x.1.fits), y.1))
 
 -- A READING, and whatever stands behind it

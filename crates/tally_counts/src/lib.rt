@@ -1,4 +1,6 @@
 // The counts of a part, read off the bytes of its sections.
+#![tactic(auto)]
+
 ghost use Rattle.std.specs.Prelude.{◌≡◌, cond, ◌+◌, ◌-◌, ◌*◌, ◌≤◌, eqb, length};
 ghost use Rattle.reader.specs.Records.{note_width};
 ghost use Rattle.reading_sections.specs.Sections.{part_end};

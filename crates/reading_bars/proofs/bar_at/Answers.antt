@@ -1,5 +1,4 @@
 -- `reading_bars::bar_at` meets its contract.
-use borrow.Author.Rules.{rules}
 use Rattle.reading_bars.proofs.bar_at.Goals as goal
 
 pub returns : goal.returns

@@ -1,7 +1,7 @@
 -- `reading_bars::greatest_of` meets its contract: so far the passes are halved `pass` times.
 use mathlib.Core.Path.{◌≡◌}
 use native.Mathlib.Omega.{arith}
-use Rattle.reading_bars.proofs.Passes.{Halved, halved_none, halved_more, halved_all}
+use Rattle.reading_bars.proofs.Passes.{halved_none, halved_more, halved_all}
 use Rattle.reading_bars.proofs.greatest_of.Goals as goal
 
 pub loop-rest-init : goal.loop-rest-init

@@ -1,7 +1,5 @@
 -- `reading_bars::greatest_of` meets its contract: so far the passes are halved `pass` times.
-use mathlib.Core.Path.{◌≡◌}
-use native.Mathlib.Omega.{arith}
-use Rattle.reading_bars.proofs.Passes.{Halved, halved_none, halved_more, halved_all}
+use Rattle.reading_bars.proofs.Passes.{Halved}
 use Rattle.reading_bars.proofs.greatest_of.Given as goal
 
 abbrev pub invariant-loop-rest : goal.invariant-loop-rest

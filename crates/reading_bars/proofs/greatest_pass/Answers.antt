@@ -1,6 +1,5 @@
 -- `reading_bars::greatest_pass` meets its contract.
 use mathlib.Core.Path.{◌∙◌}
-use borrow.Author.Rules.{rules}
 use Rattle.reading_walk.specs.Walk as walk
 use Rattle.reading_bars.proofs.Spans.{span_none, span_there}
 use Rattle.reading_bars.proofs.Passes.{greatest_of_low}

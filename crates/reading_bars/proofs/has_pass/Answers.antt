@@ -1,6 +1,5 @@
 -- `reading_bars::has_pass` meets its contract.
 use mathlib.Core.Path.{refl}
-use borrow.Author.Rules.{rules}
 use Rattle.reading_walk.specs.Walk as walk
 use Rattle.reading_bars.proofs.has_pass.Goals as goal
 

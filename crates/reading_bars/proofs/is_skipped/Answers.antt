@@ -1,7 +1,6 @@
 -- `reading_bars::is_skipped` meets its contract.
 use mathlib.Core.Path.{ap}
 use mathlib.Core.Bool.{not}
-use borrow.Author.Rules.{rules}
 use Rattle.reading_walk.specs.Walk as walk
 use Rattle.reading_bars.proofs.Spans.{span_none, span_there}
 use Rattle.reading_bars.proofs.is_skipped.Goals as goal

@@ -1,21 +1,19 @@
 -- `reading_bars::limit_from` meets its contract: so far the measures from `start` to just before i are seen.
-use Prim.Native.Nat.{suc, ◌+◌, ◌-◌, ◌≤◌, ◌<◌}
+use Prim.Native.Nat.{suc, ◌+◌, ◌<◌}
 use mathlib.Core.Path.{◌≡◌, ap, ◌∙◌}
-use mathlib.Core.Logic.{⊎_elim}
 use native.Mathlib.Omega.{arith}
 use borrow.Author.Rules.{rules}
 use Rattle.laws.specs.Bytes.{u32_at}
 use Rattle.reading_sections.specs.Sections.{behind}
 use Rattle.reading_walk.specs.Walk as walk
-use Rattle.reading_walk.specs.Spans.{open_before, bars_of}
 use Rattle.reading_walk.proofs.Bars.{top_from, top_none}
-use Rattle.reading_bars.specs.Bars.{span_of}
 use Rattle.reading_bars.proofs.Spans.{bar_opens, bar_span, bar_after}
-use Rattle.reading_bars.proofs.Limits.{Seen, seen_none, part_more, part_all, top_open}
+use Rattle.reading_bars.proofs.Limits.{seen_none, part_more, part_all, top_open}
 use Rattle.reading_bars.proofs.limit_from.Goals as goal
+use Rattle.reading_bars.proofs.limit_from.Goals.{else-start-i-via-then-start-i+else-opens, else-start-i-via-else-start-i}
 
 pub loop-i-init : goal.loop-i-init
-loop-i-init c = let p = c.requires in (omega (arith, p), p.1, seen_none _ _ _)
+loop-i-init c = let p = c.requires in (omega (arith, p.at_in_bounds), p.before_value, seen_none _ _ _)
 
 pub overflow_add-at : goal.overflow_add-at
 unfolding behind
@@ -41,7 +39,7 @@ returns-then-opens c =
     let h : l.i < u32_at s a.at = omega (arith, c.loop-i-test.true, c.requires.at_in_bounds) in
     let o = bar_opens s a.at l.i l.span c.bar_at-bar.result c.bar_at-bar.ensures l.invariant.1 c.opens.ensures c.if-opens.true in
     let seen = l.invariant.2 in
-    (seen.some c.if-start-i.true, record { holds = part_all _ _ _ _ _ _ seen (top_open s a.at l.i h o) })
+    record { start_lt_end = seen.some c.if-start-i.true; limit_is = record { holds = part_all _ _ _ _ _ _ seen (top_open s a.at l.i h o) } }
 
 pub raised-limit-requires : goal.raised-limit-requires
 raised-limit-requires c = (c.loop-i.invariant.2.two, search rules)
@@ -57,11 +55,19 @@ loop-i-preserved c =
       omega (arith, c.loop-i-test.true),
       bar_after s a.at l.i l.span c.bar_at-bar.result c.bar_at-bar.ensures l.invariant.1,
       part_more s a.at a.start l.i l.limit.most l.limit.end l.invariant.2 c.greatest_pass.result h
+<<<<<<< HEAD
           (c.greatest_pass.ensures ∙ ap walk.top_of (bar_span s a.at l.i l.span c.bar_at-bar.result c.bar_at-bar.ensures l.invariant.1))
           (⊎_elim
           (λ w g. bar_opens s a.at l.i l.span c.bar_at-bar.result c.bar_at-bar.ensures l.invariant.1 w.1.ensures w.2.left)
           (λ w g. absurd (omega (arith, w.left, g)))
           c.else-start-i.branch),
+=======
+          (c.greatest_pass.ensures ∙ ap walk.top_of (bar_span s a.at l.i l.span b.bar_at-bar.result b.bar_at-bar.ensures l.invariant.1))
+          (elim c.else-start-i.branch [
+            | else-start-i-via-then-start-i+else-opens w ↦ λ g. bar_opens s a.at l.i l.span b.bar_at-bar.result b.bar_at-bar.ensures l.invariant.1 w.opens.ensures w.if-opens.false
+            | else-start-i-via-else-start-i w ↦ λ g. absurd (omega (arith, w.if-start-i.false, g))
+          ]),
+>>>>>>> 5a564237126c68791e74d36621a988dabc1f218a
     )
 
 pub returns : goal.returns
@@ -69,6 +75,6 @@ returns c =
     let l = c.loop-i in
     let a = c.args in
     let p = c.requires in
-    let z : top_from a.reading.now a.at l.i ≡ 0 = top_none a.reading.now a.at l.i (omega (arith, c.loop-i-test.false, p.0)) in
+    let z : top_from a.reading.now a.at l.i ≡ 0 = top_none a.reading.now a.at l.i (omega (arith, c.loop-i-test.false, p.at_in_bounds)) in
     let seen = l.invariant.2 in
-    (seen.some (omega (arith, c.loop-i-test.false, p.0)), record { holds = part_all _ _ _ _ _ _ seen z })
+    record { start_lt_end = seen.some (omega (arith, c.loop-i-test.false, p.at_in_bounds)); limit_is = record { holds = part_all _ _ _ _ _ _ seen z } }

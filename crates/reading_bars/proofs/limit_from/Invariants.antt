@@ -1,17 +1,11 @@
 -- `reading_bars::limit_from` meets its contract: so far the measures from `start` to just before i are seen.
-use Prim.Native.Nat.{suc, ◌+◌, ◌-◌, ◌≤◌, ◌<◌}
-use mathlib.Core.Path.{◌≡◌, ap, ◌∙◌}
-use mathlib.Core.Logic.{⊎_elim}
-use native.Mathlib.Omega.{arith}
-use borrow.Author.Rules.{rules}
-use Rattle.laws.specs.Bytes.{u32_at}
-use Rattle.reading_sections.specs.Sections.{behind}
+use Prim.Native.Nat.{◌-◌, ◌≤◌}
+use mathlib.Core.Path.{◌≡◌}
 use Rattle.reading_walk.specs.Walk as walk
 use Rattle.reading_walk.specs.Spans.{open_before, bars_of}
-use Rattle.reading_walk.proofs.Bars.{top_from, top_none}
+use Rattle.reading_walk.proofs.Bars.{top_from}
 use Rattle.reading_bars.specs.Bars.{span_of}
-use Rattle.reading_bars.proofs.Spans.{bar_opens, bar_span, bar_after}
-use Rattle.reading_bars.proofs.Limits.{Seen, seen_none, part_more, part_all, top_open}
+use Rattle.reading_bars.proofs.Limits.{Seen}
 use Rattle.reading_bars.proofs.limit_from.Given as goal
 
 abbrev pub invariant-loop-i : goal.invariant-loop-i

@@ -1,7 +1,6 @@
 -- `reading_bars::raised` meets its contract.
 use Prim.Native.Nat.{◌≤◌, ◌<◌, max}
 use native.Mathlib.Omega.{arith}
-use borrow.Author.Rules.{rules}
 use borrow.Author.Tests.{le-leb, lt-leb}
 use Rattle.reading_bars.proofs.raised.Goals as goal
 

@@ -1,6 +1,5 @@
 -- `reading_bars::span_after` meets its contract.
 use mathlib.Core.Path.{refl, ◌∙◌}
-use borrow.Author.Rules.{rules}
 use borrow.Author.Tests.{eq-eqb, ne_eqb}
 use Rattle.reading_walk.specs.Spans.{span_after}
 use Rattle.reading_bars.proofs.Spans.{span_some, span_none}

@@ -1,13 +1,13 @@
 -- `reading_list::repeat_numbers` meets its contract: so far those above `least` of the numbers up to i are written.
-use Prim.Native.Nat.{ℕ, ◌-◌}
+use Prim.Native.Nat.{ℕ}
 use mathlib.Core.Path.{ap, ◌∙◌}
-use mathlib.Core.Logic.{⊎_elim}
 use native.Mathlib.Omega.{arith}
 use borrow.Author.Rules.{rules}
 use Rattle.laws.specs.Bytes.{le32, splice}
-use Rattle.reading_list.specs.Numbers.{number_at, above}
-use Rattle.reading_list.proofs.Copying.{Copying, copying_start, copying_keep, copying_leave, copying_full, copying_end}
+use Rattle.reading_list.specs.Numbers.{number_at}
+use Rattle.reading_list.proofs.Copying.{copying_start, copying_keep, copying_leave, copying_full, copying_end}
 use Rattle.reading_list.proofs.repeat_numbers.Goals as goal
+use Rattle.reading_list.proofs.repeat_numbers.Goals.{then-least-number+else-count-room, else-least-number}
 
 -- src/lib.rt:50:5
 pub loop-i-init : goal.loop-i-init
@@ -27,14 +27,16 @@ shape_of-list-then-count-room c = search (rules, c.loop-i.invariant.same)
 -- src/lib.rt:54:17
 pub returns-then-count-room : goal.returns-then-count-room
 returns-then-count-room c =
-    let p = c.requires in
-    copying_full _ _ _ _ _ _ _ _ _ c.loop-i.invariant c.loop-i-test.true p.2 (omega (arith, c.number_at-number.ensures.0, c.if-least-number.true)) c.if-count-room.true
+    let b = c in
+    let p = b.requires in
+    copying_full _ _ _ _ _ _ _ _ _ b.loop-i.invariant c.loop-i-test.true p.2 (omega (arith, c.number_at-number.ensures.0, c.if-least-number.true)) c.if-count-room.true
 
 -- src/lib.rt:56:13
 pub put_number-requires : goal.put_number-requires
 put_number-requires c =
-    let p = c.requires in
-    (omega (arith, c.loop-i.invariant.same, c.loop-i.invariant.fits, p.0.fits, c.if-count-room.false), c.number_at-number.ensures.1)
+    let b = c in
+    let p = b.requires in
+    (omega (arith, b.loop-i.invariant.same, b.loop-i.invariant.fits, p.0.fits, c.if-count-room.false), c.number_at-number.ensures.1)
 
 -- src/lib.rt:57:13
 pub overflow_add-count : goal.overflow_add-count
@@ -51,13 +53,15 @@ loop-i-smaller c = search rules
 -- src/lib.rt:50:5
 pub loop-i-preserved : goal.loop-i-preserved
 loop-i-preserved c =
-    let p = c.requires in
+    let b = c in
+    let p = b.requires in
     let x = c.number_at-number.ensures.0 in
     let h = c.loop-i-test.true in
-    ⊎_elim
-    (λ w. rw (w.6, w.7) (copying_keep _ _ _ _ _ _ _ _ _ c.loop-i.invariant _ h p.2 (omega (arith, x, w.0.taken)) w.1.left (w.3.ensures ∙ ap (λ (n : ℕ). splice c.loop-i.list (number_at c.loop-i.count) (le32 n)) x)))
-    (λ w. rw (w.1, w.2) (copying_leave _ _ _ _ _ _ _ _ _ c.loop-i.invariant h p.2 (omega (arith, x, w.0.left))))
-    c.if-least-number.branch
+    elim c.if-least-number.branch [
+      | then-least-number+else-count-room w ↦
+          rw (w.list-is, w.count-is) (copying_keep _ _ _ _ _ _ _ _ _ b.loop-i.invariant _ h p.2 (omega (arith, x, w.if-least-number.true)) w.if-count-room.false (w.put_number.ensures ∙ ap (λ (n : ℕ). splice b.loop-i.list (number_at b.loop-i.count) (le32 n)) x))
+      | else-least-number w ↦ rw (w.list-is, w.count-is) (copying_leave _ _ _ _ _ _ _ _ _ b.loop-i.invariant h p.2 (omega (arith, x, w.if-least-number.false)))
+    ]
 
 -- src/lib.rt:37:1
 pub shape_of-list : goal.shape_of-list

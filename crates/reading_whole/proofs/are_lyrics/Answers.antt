@@ -1,14 +1,11 @@
 -- `reading_whole::are_lyrics` meets its contract: so far the lyrics below i are tested, and their texts taken.
-use Prim.Native.Nat.{◌+◌, ◌-◌, ◌≤◌}
 use mathlib.Core.Bool.{◌&&◌}
 use borrow.Author.Rules.{rules}
-use Rattle.laws.specs.Bytes.{u32_at}
 use Rattle.reader.specs.Records.{lyric_width}
-use Rattle.reading_records.specs.Fields.{text_field}
 use Rattle.reading_sections.specs.Sections.{record_at}
 use Rattle.reading_whole.specs.Whole.{every, is_lyric}
 use Rattle.reading_whole.specs.Given.{lyrics_fine}
-use Rattle.reading_whole.proofs.Records.{Taken, taken_none, taken_more, taken_over, taken_all}
+use Rattle.reading_whole.proofs.Records.{taken_none, taken_more, taken_over, taken_all}
 use Rattle.reading_whole.proofs.are_lyrics.Goals as goal
 
 pub loop-i-init : goal.loop-i-init

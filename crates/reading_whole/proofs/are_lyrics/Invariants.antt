@@ -1,19 +1,16 @@
 -- `reading_whole::are_lyrics` meets its contract: so far the lyrics below i are tested, and their texts taken.
 use Prim.Native.Nat.{◌+◌, ◌-◌, ◌≤◌}
-use mathlib.Core.Bool.{◌&&◌}
-use borrow.Author.Rules.{rules}
 use Rattle.laws.specs.Bytes.{u32_at}
 use Rattle.reader.specs.Records.{lyric_width}
 use Rattle.reading_records.specs.Fields.{text_field}
 use Rattle.reading_sections.specs.Sections.{record_at}
-use Rattle.reading_whole.specs.Whole.{every, is_lyric}
-use Rattle.reading_whole.specs.Given.{lyrics_fine}
-use Rattle.reading_whole.proofs.Records.{Taken, taken_none, taken_more, taken_over, taken_all}
+use Rattle.reading_whole.specs.Whole.{is_lyric}
+use Rattle.reading_whole.proofs.Records.{Taken}
 use Rattle.reading_whole.proofs.are_lyrics.Given as goal
 
 abbrev pub invariant-loop-i : goal.invariant-loop-i
 invariant-loop-i l =
-    (l.i ≤ l.count) × Taken (λ l.i. is_lyric l.reading l.notes (record_at lyric_width l.at l.i)) (λ l.i. u32_at l.reading (record_at lyric_width l.at l.i + text_field)) l.text l.fine l.left l.i
+    (l.i ≤ l.count) × Taken (λ i. is_lyric l.reading l.notes (record_at lyric_width l.at i)) (λ i. u32_at l.reading (record_at lyric_width l.at i + text_field)) l.text l.fine l.left l.i
 
 abbrev pub decreases-loop-i : goal.decreases-loop-i
 decreases-loop-i l = l.count - l.i

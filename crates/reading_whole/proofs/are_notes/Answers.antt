@@ -1,14 +1,11 @@
 -- `reading_whole::are_notes` meets its contract: so far the notes below i are tested, and their pitches taken.
-use Prim.Native.Nat.{◌+◌, ◌-◌, ◌≤◌}
 use mathlib.Core.Bool.{◌&&◌}
 use borrow.Author.Rules.{rules}
-use Rattle.laws.specs.Bytes.{u32_at}
 use Rattle.reader.specs.Records.{note_width}
-use Rattle.reading_records.specs.Fields.{pitches_field}
 use Rattle.reading_sections.specs.Sections.{record_at}
 use Rattle.reading_whole.specs.Whole.{every, is_note}
 use Rattle.reading_whole.specs.Given.{notes_fine}
-use Rattle.reading_whole.proofs.Records.{Taken, taken_none, taken_more, taken_over, taken_all}
+use Rattle.reading_whole.proofs.Records.{taken_none, taken_more, taken_over, taken_all}
 use Rattle.reading_whole.proofs.are_notes.Goals as goal
 
 pub loop-i-init : goal.loop-i-init

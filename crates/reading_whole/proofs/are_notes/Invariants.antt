@@ -1,19 +1,16 @@
 -- `reading_whole::are_notes` meets its contract: so far the notes below i are tested, and their pitches taken.
 use Prim.Native.Nat.{◌+◌, ◌-◌, ◌≤◌}
-use mathlib.Core.Bool.{◌&&◌}
-use borrow.Author.Rules.{rules}
 use Rattle.laws.specs.Bytes.{u32_at}
 use Rattle.reader.specs.Records.{note_width}
 use Rattle.reading_records.specs.Fields.{pitches_field}
 use Rattle.reading_sections.specs.Sections.{record_at}
-use Rattle.reading_whole.specs.Whole.{every, is_note}
-use Rattle.reading_whole.specs.Given.{notes_fine}
-use Rattle.reading_whole.proofs.Records.{Taken, taken_none, taken_more, taken_over, taken_all}
+use Rattle.reading_whole.specs.Whole.{is_note}
+use Rattle.reading_whole.proofs.Records.{Taken}
 use Rattle.reading_whole.proofs.are_notes.Given as goal
 
 abbrev pub invariant-loop-i : goal.invariant-loop-i
 invariant-loop-i l =
-    (l.i ≤ l.count) × Taken (λ l.i. is_note l.reading (record_at note_width l.at l.i)) (λ l.i. u32_at l.reading (record_at note_width l.at l.i + pitches_field)) l.pitches l.fine l.left l.i
+    (l.i ≤ l.count) × Taken (λ i. is_note l.reading (record_at note_width l.at i)) (λ i. u32_at l.reading (record_at note_width l.at i + pitches_field)) l.pitches l.fine l.left l.i
 
 abbrev pub decreases-loop-i : goal.decreases-loop-i
 decreases-loop-i l = l.count - l.i

@@ -1,11 +1,8 @@
 -- `reading_whole::are_pitches` meets its contract: so far the pitches below i are tested.
-use Prim.Native.Nat.{◌-◌, ◌≤◌}
 use mathlib.Core.Path.{◌≡◌, refl, sym}
 use native.Mathlib.Omega.{arith}
 use borrow.Author.Rules.{rules}
-use Rattle.reader.specs.Records.{pitch_width}
-use Rattle.reading_sections.specs.Sections.{record_at}
-use Rattle.reading_whole.specs.Whole.{every, is_pitch}
+use Rattle.reading_whole.specs.Whole.{is_pitch}
 use Rattle.reading_whole.specs.Given.{pitches_fine}
 use Rattle.reading_whole.proofs.Records.{every_none, every_more}
 use Rattle.reading_whole.proofs.are_pitches.Goals as goal

@@ -1,17 +1,13 @@
 -- `reading_whole::are_pitches` meets its contract: so far the pitches below i are tested.
 use Prim.Native.Nat.{◌-◌, ◌≤◌}
-use mathlib.Core.Path.{◌≡◌, refl, sym}
-use native.Mathlib.Omega.{arith}
-use borrow.Author.Rules.{rules}
+use mathlib.Core.Path.{◌≡◌}
 use Rattle.reader.specs.Records.{pitch_width}
 use Rattle.reading_sections.specs.Sections.{record_at}
 use Rattle.reading_whole.specs.Whole.{every, is_pitch}
-use Rattle.reading_whole.specs.Given.{pitches_fine}
-use Rattle.reading_whole.proofs.Records.{every_none, every_more}
 use Rattle.reading_whole.proofs.are_pitches.Given as goal
 
 abbrev pub invariant-loop-i : goal.invariant-loop-i
-invariant-loop-i l = (l.i ≤ l.count) × (l.fine ≡ every (λ l.i. is_pitch l.reading (record_at pitch_width l.at l.i)) l.i)
+invariant-loop-i l = (l.i ≤ l.count) × (l.fine ≡ every (λ i. is_pitch l.reading (record_at pitch_width l.at i)) l.i)
 
 abbrev pub decreases-loop-i : goal.decreases-loop-i
 decreases-loop-i l = l.count - l.i

@@ -1,9 +1,6 @@
 -- `reading_whole::is_whole` meets its contract: the parts from i on say what the reading says.
-use Prim.Native.Nat.{◌-◌, ◌≤◌}
-use mathlib.Core.Path.{◌≡◌, sym, ◌∙◌}
-use lib.ListN.{length}
+use mathlib.Core.Path.{sym, ◌∙◌}
 use borrow.Author.Rules.{rules}
-use Rattle.reading_whole.specs.Whole.{whole_from, is_whole}
 use Rattle.reading_whole.proofs.InTurn.{whole_short, whole_start, whole_next, whole_broken, whole_end}
 use Rattle.reading_whole.proofs.is_whole.Goals as goal
 

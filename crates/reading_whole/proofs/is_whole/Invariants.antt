@@ -1,10 +1,8 @@
 -- `reading_whole::is_whole` meets its contract: the parts from i on say what the reading says.
 use Prim.Native.Nat.{◌-◌, ◌≤◌}
-use mathlib.Core.Path.{◌≡◌, sym, ◌∙◌}
+use mathlib.Core.Path.{◌≡◌}
 use lib.ListN.{length}
-use borrow.Author.Rules.{rules}
 use Rattle.reading_whole.specs.Whole.{whole_from, is_whole}
-use Rattle.reading_whole.proofs.InTurn.{whole_short, whole_start, whole_next, whole_broken, whole_end}
 use Rattle.reading_whole.proofs.is_whole.Given as goal
 
 abbrev pub invariant-loop-i : goal.invariant-loop-i

@@ -1,11 +1,9 @@
 -- `reading_whole::is_zero_from` meets its contract: what is passed and what is still to come is all.
 use Prim.Native.Nat.{◌-◌}
-use mathlib.Core.Path.{◌≡◌, refl, ◌∙◌}
+use mathlib.Core.Path.{◌≡◌}
 use mathlib.Core.Bool.{◌&&◌}
 use lib.ListN.{length, drop}
-use borrow.Author.Rules.{rules}
 use Rattle.reading_whole.specs.Whole.{is_zeros}
-use Rattle.reading_whole.proofs.Bytes.{zeros_more, zeros_end}
 use Rattle.reading_whole.proofs.is_zero_from.Given as goal
 
 abbrev pub invariant-loop-i : goal.invariant-loop-i

@@ -1,7 +1,6 @@
 -- `reading_whole::section_if_inside` meets its contract.
 use mathlib.Core.Path.{refl}
 use native.Mathlib.Omega.{arith}
-use borrow.Author.Rules.{rules}
 use Rattle.laws.proofs.Numbers.{mul_le_left}
 use Rattle.reader.specs.Records.{measure_width}
 use Rattle.reading_whole.proofs.Places.{section_inside, section_beyond}

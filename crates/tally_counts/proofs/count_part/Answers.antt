@@ -1,6 +1,5 @@
 -- `tally_counts::count_part` meets its contract: section after section.
 use native.Mathlib.Omega.{arith}
-use borrow.Author.Rules.{rules}
 use Rattle.reading_sections.proofs.Inside.{inside}
 use Rattle.tally_counts.proofs.Bytes.{notes_room, part_counted}
 use Rattle.tally_counts.proofs.count_part.Goals as goal
@@ -32,5 +31,7 @@ count_sounded-sounded-requires c = rw (c.section_at-notes.ensures.0, c.section_a
 pub returns : goal.returns
 returns c =
     let a = c.args in
+    let e =
     part_counted a.reading.now a.at _ _ _ _ _ _ _ _ _ c.section_at-measures.ensures.0 c.section_at-measures.ensures.1 c.section_at-notes.ensures.0 c.section_at-notes.ensures.1
-    c.section_at-pitches.ensures.1 c.section_at-lyrics.ensures.0 c.section_at-lyrics.ensures.1 c.section_at-text.ensures.1 c.count_sounded-sounded.ensures.value
+    c.section_at-pitches.ensures.1 c.section_at-lyrics.ensures.0 c.section_at-lyrics.ensures.1 c.section_at-text.ensures.1 c.count_sounded-sounded.ensures.value in
+    record { syllables_value = e.0; end_value = e.1 }

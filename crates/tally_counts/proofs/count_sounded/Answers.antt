@@ -1,11 +1,10 @@
 -- `tally_counts::count_sounded` meets its contract: so far the notes below i are counted.
-use Prim.Native.Nat.{◌+◌, ◌-◌, ◌*◌, ◌≤◌}
+use Prim.Native.Nat.{◌+◌, ◌*◌}
 use lib.Dec.{eqb}
 use lib.ListN.{get_or}
 use mathlib.Core.Path.{◌≡◌, sym, ◌∙◌}
 use native.Mathlib.Omega.{arith}
 use borrow.Author.Rules.{rules}
-use Rattle.tally_counts.specs.Counted.{sounded_in}
 use Rattle.laws.proofs.Bools.{cond_le}
 use Rattle.reader.specs.Records.{note_width}
 use Rattle.tally_counts.proofs.Bytes.{sounded_none, sounded_more}
@@ -33,4 +32,4 @@ pub returns : goal.returns
 returns c =
     let l = c.loop-i in
     let e : l.i ≡ c.args.n = omega (arith, l.invariant.0, c.loop-i-test.false) in
-    (rw e at l.invariant.2, rw e at l.invariant.1)
+    record { value = rw e at l.invariant.2; upper_bound = rw e at l.invariant.1 }
