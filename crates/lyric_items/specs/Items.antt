@@ -1,5 +1,5 @@
 -- THE LYRIC LINES OF A PART, among the items of the line table, sung in either edition.
-use Rattle.std.specs.Prelude.{ℕ, ◌+◌, ◌-◌, ◌*◌, ◌≤◌, ◌<◌, ◌^◌, ◌≡◌, List, length}
+use Rattle.std.specs.Prelude.{ℕ, ◌+◌, ◌*◌, ◌≤◌, ◌<◌, ◌^◌, ◌≡◌, List, length}
 use Rattle.editions.specs.declared.Edition.{Edition}
 use Rattle.reader.specs.Lyrics.{Syllable, sung_in}
 use Rattle.scan_table.specs.declared.Row as items

@@ -1,4 +1,6 @@
 // The lyric lines of a part, which are among the items of the line table, sung in order to its notes: each by the rules of the edition.
+#![tactic(auto)]
+
 ghost use Rattle.std.specs.Prelude.{◌+◌, ◌*◌, ◌<◌, [], replicate};
 ghost use Rattle.lyrics.specs.Sheet.{with_count, syllables_in, Kept};
 ghost use Rattle.lyrics.specs.Items.{Fits};

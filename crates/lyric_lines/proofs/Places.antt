@@ -8,7 +8,7 @@ use native.Mathlib.Numerals.{add-one}
 use native.Mathlib.Omega.{arith}
 use lib.Dec.{eqb}
 use lib.ListN.{length}
-use borrow.Author.Tests.{eqb-true, eqb-false, eq-eqb, ne_eqb, lt-ltb, le-ltb}
+use borrow.Author.Tests.{eqb-true, eq-eqb, ne_eqb, lt-ltb, le-ltb}
 use Rattle.laws.proofs.Bools.{by_test}
 use Rattle.editions.specs.declared.Edition.{Edition}
 use Rattle.editions.specs.declared.Edition.TheVariants.{First, Second}
@@ -16,10 +16,10 @@ use Rattle.standard.specs.Lyrics.{Syllabic, Word, skip, hold, bar, syllable}
 use Rattle.reader.specs.Lyrics.{Syllable, held_at, sung_at, sing}
 use Rattle.lyrics.proofs.Sheets.{alter_past}
 use Rattle.lyric_stops.specs.declared.Stop.{Stop}
-use Rattle.lyric_stops.specs.Stops.{passed_kind, first_kind, farthest, kind_at, note_at}
-use Rattle.lyric_stops.specs.Walks.{TakerFrom, FirstFrom, BackFrom}
+use Rattle.lyric_stops.specs.Stops.{farthest, note_at}
+use Rattle.lyric_stops.specs.Walks.{FirstFrom, BackFrom}
 use Rattle.lyric_lines.specs.declared.Place.{Place}
-use Rattle.lyric_lines.specs.Stands.{Stand, On, Taken, Over, before_of, Reached, sing_from, taken_at, NextNote, Moved}
+use Rattle.lyric_lines.specs.Stands.{Stand, On, Taken, Over, before_of, sing_from, taken_at, NextNote, Moved}
 use Rattle.lyric_lines.specs.Places.{Sought, FirstPlace, TakenPlace, stand_of, StandsAt, StandsIn, Hinted, sing_at, sing_line, MovedPlace, BarSung}
 use Rattle.lyric_lines.proofs.Stands.{word_skip, word_hold, word_put, taken_reached, next_on, next_sought, next_over, begun_on, begun_over, moved_to, moved_over, moved_on, moved_none}
 

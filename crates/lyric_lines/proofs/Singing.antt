@@ -8,7 +8,7 @@ use Rattle.laws.specs.Bytes.{between}
 use Rattle.editions.specs.declared.Edition.{Edition}
 use Rattle.editions.specs.declared.Edition.TheVariants.{First, Second}
 use Rattle.standard.specs.Lyrics.{Word, SungBar, placed}
-use Rattle.reader.specs.Lyrics.{Syllable, sing, sing_on, sing_bars, lyric_words, sung_by, sung_by_bars, sung_in, sung_word, sung_each}
+use Rattle.reader.specs.Lyrics.{Syllable, sing, sing_bars, lyric_words, sung_by, sung_by_bars, sung_in, sung_word, sung_each}
 use Rattle.lyric_words.specs.declared.Cursor.{Cursor}
 use Rattle.lyric_words.specs.declared.Read.{Read}
 use Rattle.lyric_words.specs.Words as words

@@ -1,30 +1,29 @@
 -- A WORD SUNG, in either edition.
 use Prim.Native.Nat.{ℕ, zero, suc, ◌+◌, ◌-◌, ◌*◌, ◌≤◌, ◌<◌}
 use mathlib.Core.Path.{◌≡◌, refl, sym, ap, subst, ◌∙◌}
-use mathlib.Core.List.{List, ◌∷◌, ◌++◌}
+use mathlib.Core.List.{List}
 use native.Mathlib.Omega.{arith}
 use lib.ListN.{length}
 use borrow.Author.Tests.{ne_eqb}
 use Rattle.laws.specs.Lists.{alter_at}
 use Rattle.laws.specs.Bytes.{between}
 use Rattle.editions.specs.declared.Edition.{Edition}
-use Rattle.standard.specs.Lyrics.{Word, syllable_text}
+use Rattle.standard.specs.Lyrics.{syllable_text}
 use Rattle.reader.specs.Lyrics.{Syllable, held_at, sung_at}
-use Rattle.lyric_words.specs.declared.Token.{Token}
 use Rattle.lyric_words.specs.declared.Token.TheVariants as T
 use Rattle.lyric_words.specs.Words.{as_syllabic, said}
 use Rattle.lyric_stops.specs.declared.Stop.{Stop}
 use Rattle.lyric_stops.specs.Stops.{Inside, farthest, note_at}
 use Rattle.lyric_stops.proofs.Table.{how_many, stops_same}
 use Rattle.lyrics.specs.declared.Sheet.{Sheet}
-use Rattle.lyrics.specs.Sheet.{lyric_row_width, hold_code, with_count, syllable_of, apply_row, syllables_in, Kept, RowAppended}
+use Rattle.lyrics.specs.Sheet.{lyric_row_width, hold_code, syllable_of, apply_row, syllables_in, Kept, RowAppended}
 use Rattle.lyrics.proofs.Sheets as sheets
 use Rattle.lyrics.proofs.Sheets.{outside_none}
 use Rattle.lyrics.proofs.Rows.{row, happens_put}
 use Rattle.lyric_lines.specs.declared.Place.{Place}
 use Rattle.lyric_lines.specs.declared.Sung.{Sung}
 use Rattle.lyric_lines.specs.Stands.{stops_of, stops_by}
-use Rattle.lyric_lines.specs.Places.{TakenPlace, StandsIn, Hinted, sing_at, BarSung}
+use Rattle.lyric_lines.specs.Places.{TakenPlace, sing_at, BarSung}
 use Rattle.lyric_lines.specs.Lines.{Held, WordSung}
 use Rattle.lyric_lines.proofs.Places.{sought_near, stands_next, place_skip, place_hold, place_put, stands_bar, place_bar, bar_near}
 

@@ -1,6 +1,8 @@
 // A lyric line sung to the notes of its part, by the rules of the edition. In the first each word goes to the note after the one before. In the second grace notes
 // take no syllable, and a bar goes on to the first note of a measure behind the one last reached: the stops of the part's notes (crate lyric_stops) say which notes
 // take one and where measures begin, so that each word is a few steps. One loop serves both.
+#![tactic(auto)]
+
 ghost use Rattle.std.specs.Prelude.{◌+◌, ◌*◌, ◌^◌, ◌<◌, ◌≡◌};
 ghost use Rattle.lyric_words.specs.Words.{Small};
 ghost use Rattle.lyric_words.specs.declared.Token.TheVariants as Token;

@@ -1,4 +1,6 @@
 // Spans of a lyric line: where a word begins and ends, its hyphens and the pieces between them.
+#![tactic(auto)]
+
 ghost use Rattle.std.specs.Prelude.{◌≤◌, ◌<◌, ◌≡◌, length};
 ghost use Rattle.laws.specs.Bytes.{between};
 ghost use Rattle.laws.specs.Spans.{end_in};

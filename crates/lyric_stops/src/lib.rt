@@ -1,6 +1,8 @@
 // The stops of a part in scratch, for lyric lines of the second edition: three bytes for each note of voice 0 that is no rest. A kind, in the two highest bits, says
 // whether the note takes a syllable and is the first of its measure that does; a distance, in the other 22, how far a walk may go from it at once. A distance is a
 // hint: it passes over nothing that is looked for, and may fall short. Nothing else knows a stop's bytes.
+#![tactic(auto)]
+
 ghost use Rattle.std.specs.Prelude.{◌≡◌, ◌+◌, ◌-◌, ◌*◌, ◌≤◌, ◌<◌, max, min, get_or};
 ghost use Rattle.laws.specs.Bytes.{splice};
 ghost use Rattle.lyric_stops.specs.Stops.{lyric_stop_width, farthest, stop_bytes, Inside, stops_in, no_stop, passed_place};

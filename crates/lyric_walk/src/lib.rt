@@ -1,4 +1,6 @@
 // What is sung to a note, read from scratch: one walk along the rows of its chain finds the row of each verse.
+#![tactic(auto)]
+
 ghost use Rattle.std.specs.Prelude.{◌+◌, ◌*◌, ◌≤◌, ◌<◌, min, max, ◌≡◌, cond, ltb, length};
 ghost use Rattle.lyrics.specs.Sheet.{lyric_row_width};
 ghost use Rattle.lyric_walk.specs.Walks.{Tables, HeadIs, LinkIs, first_place, held_since, Wide, Clear, TakesRow, Gathered, found_at, with_place, InText, SoleIs, sung_byte};

@@ -1,4 +1,6 @@
 // The words of a lyric line, from left to right: white space, bars, notes skipped and held, syllables between hyphens.
+#![tactic(auto)]
+
 ghost use Rattle.std.specs.Prelude.{◌≤◌, ◌<◌, ◌≡◌, false, length, get_or};
 ghost use Rattle.standard.specs.Lyrics.{syllabic_of};
 ghost use Rattle.reader.specs.Codes.{syllabic_code};

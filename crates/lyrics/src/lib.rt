@@ -1,5 +1,7 @@
 // The syllables of a part in scratch: for each note that sounds a chain of rows, the newest first, each a syllable or a hold of the one before it.
 // Rows are only ever added, so no chain is changed by what is added to another.
+#![tactic(auto)]
+
 ghost use Rattle.std.specs.Prelude.{◌+◌, ◌*◌, ◌^◌, ◌≤◌, ◌<◌, ◌≡◌, length};
 ghost use Rattle.laws.specs.Bytes.{splice};
 ghost use Rattle.lyrics.specs.Sheet.{lyric_row_width, row_bytes, Room, RowAppended};

@@ -11,7 +11,7 @@ use Rattle.laws.specs.Lists.{alter_at}
 use Rattle.laws.proofs.Lists.{alter_at_set, length_alter_at}
 use Rattle.laws.proofs.Parts.{part_part, part_add, part_none, part_front, part_back, get_d_part}
 use Rattle.laws.proofs.Numbers.{little_at_part}
-use Rattle.laws.proofs.Rows.{row_in, enc_all_none, enc_all_cons, enc_all_snoc}
+use Rattle.laws.proofs.Rows.{row_in, enc_all_none, enc_all_snoc}
 use Rattle.laws.proofs.Splices.{length_spliced, take_splice, drop_splice_past, part_same, part_below, part_above, part_around, splice_append_left, splice_append_right}
 use Rattle.part_rows.specs.Table.{Table, Only}
 

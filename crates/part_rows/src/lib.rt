@@ -1,4 +1,6 @@
 // The rows of a part's tables in scratch but for measures (crate part_measures): notes, pitches. A table is where it begins, a row its index.
+#![tactic(auto)]
+
 ghost use Rattle.std.specs.Prelude.{◌≡◌, not, [], ◌∷◌, ◌+◌, ◌*◌, ◌^◌, ◌≤◌, ◌<◌, length, get_or};
 ghost use Rattle.laws.specs.Bytes.{part, splice};
 ghost use Rattle.reader.specs.Records.{note_width, signed8, signed16};

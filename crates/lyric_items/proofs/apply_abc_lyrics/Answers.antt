@@ -1,5 +1,4 @@
 -- `lyric_items::apply_abc_lyrics` meets its contract.
-use borrow.Author.Rules.{rules}
 use native.Mathlib.Omega.{arith}
 use Rattle.lyric_items.proofs.Applying.{cleared_kept, cleared_fits, cleared_sung}
 use Rattle.lyric_items.proofs.apply_abc_lyrics.Goals as goal

@@ -1,5 +1,4 @@
 -- `lyric_items::sing_item` meets its contract.
-use borrow.Author.Rules.{rules}
 use native.Mathlib.Omega.{arith}
 use Rattle.lyric_items.proofs.Applying.{other_kind, other_part, line_fits_lem, line_item}
 use Rattle.lyric_items.proofs.sing_item.Goals as goal

@@ -1,8 +1,7 @@
 -- `lyric_items::sing_items` meets its contract.
 use Prim.Native.Nat.{◌-◌}
-use native.Mathlib.Omega.{arith}
 use Rattle.lyrics.specs.Sheet.{with_count, syllables_in}
-use Rattle.lyric_items.proofs.Applying.{Applying, applying_start, item_fits_lem, applying_next, applying_end}
+use Rattle.lyric_items.proofs.Applying.{Applying}
 use Rattle.lyric_items.proofs.sing_items.Given as goal
 
 abbrev pub invariant-loop-i : goal.invariant-loop-i

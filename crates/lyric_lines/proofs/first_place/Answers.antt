@@ -1,6 +1,5 @@
 -- `lyric_lines::first_place` meets its contract.
 use mathlib.Core.Path.{refl}
-use borrow.Author.Rules.{rules}
 use Rattle.lyric_lines.proofs.first_place.Goals as goal
 
 pub returns : goal.returns

@@ -1,6 +1,5 @@
 -- `lyric_lines::note_from` meets its contract.
 use mathlib.Core.Path.{refl, subst}
-use borrow.Author.Rules.{rules}
 use Rattle.lyric_stops.specs.declared.Stops.{Stops}
 use Rattle.lyric_stops.specs.Stops.{stops_in}
 use Rattle.lyric_stops.specs.Walks.{TakerFrom}

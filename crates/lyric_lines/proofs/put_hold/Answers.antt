@@ -1,6 +1,5 @@
 -- `lyric_lines::put_hold` meets its contract.
 use native.Mathlib.Omega.{arith}
-use borrow.Author.Rules.{rules}
 use Rattle.lyric_lines.proofs.Words.{held_none, held_row}
 use Rattle.lyric_lines.proofs.put_hold.Goals as goal
 

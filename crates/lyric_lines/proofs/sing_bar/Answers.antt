@@ -1,6 +1,5 @@
 -- `lyric_lines::sing_bar` meets its contract.
 use mathlib.Core.Path.{refl}
-use borrow.Author.Rules.{rules}
 use Rattle.lyric_lines.proofs.sing_bar.Goals as goal
 
 pub move_behind-requires : goal.move_behind-requires

@@ -1,5 +1,4 @@
 -- `lyric_lines::sing_syllable` meets its contract.
-use borrow.Author.Rules.{rules}
 use Rattle.lyrics.specs.Sheet.{with_count}
 use Rattle.lyric_lines.proofs.Words.{stops_inside, sung_syllable}
 use Rattle.lyric_lines.proofs.sing_syllable.Goals as goal

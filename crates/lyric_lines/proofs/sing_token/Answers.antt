@@ -1,6 +1,5 @@
 -- `lyric_lines::sing_token` meets its contract.
 use native.Mathlib.Omega.{arith}
-use borrow.Author.Rules.{rules}
 use Rattle.lyric_lines.proofs.Words.{stops_inside, sung_bar, sung_skip}
 use Rattle.lyric_lines.proofs.sing_token.Goals as goal
 

@@ -1,6 +1,5 @@
 -- `lyric_lines::taken` meets its contract.
 use mathlib.Core.Path.{refl}
-use borrow.Author.Rules.{rules}
 use Rattle.lyric_lines.proofs.taken.Goals as goal
 
 pub returns : goal.returns

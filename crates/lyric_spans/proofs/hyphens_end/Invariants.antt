@@ -1,10 +1,7 @@
 -- `lyric_spans::hyphens_end` meets its contract.
-use borrow.Author.Rules.{rules}
-use mathlib.Core.Path.{◌≡◌, refl, sym, ◌∙◌}
+use mathlib.Core.Path.{◌≡◌}
 use Prim.Native.Nat.{◌-◌, ◌≤◌}
-use borrow.Author.Tests.{eq-eqb, ne_eqb}
 use Rattle.laws.specs.Spans.{end_in}
-use Rattle.laws.proofs.Parts.{end_in_more, end_in_stop, end_in_over}
 use Rattle.lyric_spans.specs.Spans.{is_hyphen}
 use Rattle.lyric_spans.proofs.hyphens_end.Given as goal
 

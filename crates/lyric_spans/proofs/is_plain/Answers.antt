@@ -1,5 +1,4 @@
 -- `lyric_spans::is_plain` meets its contract.
-use borrow.Author.Rules.{rules}
 use borrow.Author.Tests.{eq-eqb, ne_eqb}
 use Rattle.lyric_spans.proofs.is_plain.Goals as goal
 

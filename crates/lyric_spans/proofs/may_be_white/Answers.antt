@@ -1,7 +1,6 @@
 -- `lyric_spans::may_be_white` meets its contract.
 use mathlib.Core.Path.{sym, ◌∙◌}
 use borrow.Author.Tests.{eq-eqb, ne_eqb}
-use borrow.Author.Rules.{rules}
 use Rattle.lyric_spans.proofs.may_be_white.Goals as goal
 
 pub returns-then-is_space : goal.returns-then-is_space

@@ -1,9 +1,7 @@
 -- `lyric_spans::next_start` meets its contract: behind a space where a plain byte stands, else as `word_start` has it.
 use mathlib.Core.Path.{sym, ap, ◌∙◌}
 use native.Mathlib.Omega.{arith}
-use borrow.Author.Rules.{rules}
 use Rattle.laws.specs.Bytes.{between}
-use Rattle.laws.proofs.Bools.{not_false}
 use Rattle.reader.specs.Text.{is_space}
 use Rattle.reader.specs.Pieces.{words, white_at}
 use Rattle.lyric_spans.proofs.Whites.{space_past, start_here}

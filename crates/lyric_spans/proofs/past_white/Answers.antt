@@ -1,10 +1,7 @@
 -- `lyric_spans::past_white` meets its contract.
 use borrow.Author.Rules.{rules}
-use mathlib.Core.Path.{◌≡◌, refl, sym, ◌∙◌}
-use Prim.Native.Nat.{◌-◌, ◌≤◌}
+use mathlib.Core.Path.{refl, sym, ◌∙◌}
 use native.Mathlib.Omega.{arith}
-use Rattle.laws.specs.Bytes.{between}
-use Rattle.reader.specs.Pieces.{words, white_at}
 use Rattle.lyric_spans.proofs.Whites.{white_in, white_past, start_here}
 use Rattle.lyric_spans.proofs.past_white.Goals as goal
 

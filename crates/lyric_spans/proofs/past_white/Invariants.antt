@@ -1,11 +1,8 @@
 -- `lyric_spans::past_white` meets its contract.
-use borrow.Author.Rules.{rules}
-use mathlib.Core.Path.{◌≡◌, refl, sym, ◌∙◌}
+use mathlib.Core.Path.{◌≡◌}
 use Prim.Native.Nat.{◌-◌, ◌≤◌}
-use native.Mathlib.Omega.{arith}
 use Rattle.laws.specs.Bytes.{between}
 use Rattle.reader.specs.Pieces.{words, white_at}
-use Rattle.lyric_spans.proofs.Whites.{white_in, white_past, start_here}
 use Rattle.lyric_spans.proofs.past_white.Given as goal
 
 abbrev pub invariant-loop-i : goal.invariant-loop-i

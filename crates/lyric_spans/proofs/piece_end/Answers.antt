@@ -1,10 +1,8 @@
 -- `lyric_spans::piece_end` meets its contract.
 use borrow.Author.Rules.{rules}
-use mathlib.Core.Path.{◌≡◌, refl, sym, ap, ◌∙◌}
-use Prim.Native.Nat.{◌-◌, ◌≤◌}
+use mathlib.Core.Path.{refl, sym, ap, ◌∙◌}
 use mathlib.Core.Bool.{not}
 use borrow.Author.Tests.{eq-eqb, ne_eqb}
-use Rattle.laws.specs.Spans.{end_in}
 use Rattle.laws.proofs.Parts.{end_in_more, end_in_stop, end_in_over}
 use Rattle.lyric_spans.specs.Spans.{no_hyphen}
 use Rattle.lyric_spans.proofs.piece_end.Goals as goal

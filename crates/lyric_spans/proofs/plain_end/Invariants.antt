@@ -1,10 +1,7 @@
 -- `lyric_spans::plain_end` meets its contract.
-use borrow.Author.Rules.{rules}
-use mathlib.Core.Path.{◌≡◌, refl, sym, ◌∙◌}
+use mathlib.Core.Path.{◌≡◌}
 use Prim.Native.Nat.{◌-◌, ◌≤◌}
 use Rattle.laws.specs.Spans.{end_in}
-use Rattle.laws.proofs.Bools.{not_true, not_false}
-use Rattle.laws.proofs.Parts.{end_in_more, end_in_stop, end_in_over}
 use Rattle.lyric_spans.specs.Spans.{is_plain}
 use Rattle.lyric_spans.proofs.plain_end.Given as goal
 

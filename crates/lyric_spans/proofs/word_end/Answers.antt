@@ -1,12 +1,10 @@
 -- `lyric_spans::word_end` meets its contract.
 use borrow.Author.Rules.{rules}
 use mathlib.Core.Path.{◌≡◌, refl, sym, ap, ◌∙◌}
-use Prim.Native.Nat.{ℕ, ◌+◌, ◌-◌, ◌≤◌, ◌<◌}
+use Prim.Native.Nat.{ℕ, ◌+◌, ◌<◌}
 use native.Mathlib.Omega.{arith}
 use Rattle.laws.specs.Bytes.{between}
-use Rattle.laws.proofs.Bools.{not_true}
 use Rattle.reader.specs.Pieces.{white_at}
-use Rattle.reader.proofs.WordLaws.{stretch}
 use Rattle.lyric_spans.proofs.Whites.{no_white_here, stretch_on, stretch_off, stretch_over, end_here}
 use Rattle.lyric_spans.proofs.word_end.Goals as goal
 

@@ -1,11 +1,7 @@
 -- `lyric_spans::word_start` meets its contract.
 use borrow.Author.Rules.{rules}
-use mathlib.Core.Path.{◌≡◌, refl, sym, ◌∙◌}
-use Prim.Native.Nat.{◌-◌, ◌≤◌}
+use mathlib.Core.Path.{refl, sym, ◌∙◌}
 use native.Mathlib.Omega.{arith}
-use Rattle.laws.specs.Bytes.{between}
-use Rattle.laws.proofs.Bools.{not_true, not_false}
-use Rattle.reader.specs.Pieces.{words, white_at}
 use Rattle.lyric_spans.proofs.Whites.{space_past, plain_here, start_here, start_before}
 use Rattle.lyric_spans.proofs.word_start.Goals as goal
 

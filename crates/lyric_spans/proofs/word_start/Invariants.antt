@@ -1,12 +1,8 @@
 -- `lyric_spans::word_start` meets its contract.
-use borrow.Author.Rules.{rules}
-use mathlib.Core.Path.{◌≡◌, refl, sym, ◌∙◌}
+use mathlib.Core.Path.{◌≡◌}
 use Prim.Native.Nat.{◌-◌, ◌≤◌}
-use native.Mathlib.Omega.{arith}
 use Rattle.laws.specs.Bytes.{between}
-use Rattle.laws.proofs.Bools.{not_true, not_false}
 use Rattle.reader.specs.Pieces.{words, white_at}
-use Rattle.lyric_spans.proofs.Whites.{space_past, plain_here, start_here, start_before}
 use Rattle.lyric_spans.proofs.word_start.Given as goal
 
 abbrev pub invariant-loop-i : goal.invariant-loop-i

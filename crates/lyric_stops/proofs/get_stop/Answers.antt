@@ -18,5 +18,5 @@ returns c =
       rw (c.at_least_one.ensures, c.get_u16-low.ensures) (sym (stop_here a.scratch.now a.stops a.j c.if-stops-j.false)),
       search rules,
       search rules,
-      omega (arith, c.type_inv.scratch.given (a.stops.at + lyric_stop_width * a.j + top_at)),
+      omega (arith, c.type_inv.scratch (a.stops.at + lyric_stop_width * a.j + top_at)),
     )

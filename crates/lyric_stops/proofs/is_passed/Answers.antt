@@ -1,7 +1,6 @@
 -- `lyric_stops::is_passed` meets its contract.
 use mathlib.Core.Path.{ap, ◌∙◌}
 use lib.Dec.{eqb}
-use borrow.Author.Rules.{rules}
 use Rattle.lyric_stops.specs.declared.Stop.{Stop}
 use Rattle.lyric_stops.specs.Stops.{passed_kind, stops_in}
 use Rattle.lyric_stops.proofs.Walks.{place_none, place_note}

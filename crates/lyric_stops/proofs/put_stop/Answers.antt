@@ -1,6 +1,5 @@
 -- `lyric_stops::put_stop` meets its contract.
 use mathlib.Core.Path.{refl}
-use borrow.Author.Rules.{rules}
 use Rattle.laws.specs.Bytes.{little}
 use Rattle.laws.proofs.Splices.{spliced_next}
 use Rattle.lyric_stops.specs.Stops.{stop_bytes}

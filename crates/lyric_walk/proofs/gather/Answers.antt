@@ -1,7 +1,6 @@
 -- `lyric_walk::gather` meets its contract: row after row.
 use native.Mathlib.Omega.{arith}
-use borrow.Author.Rules.{rules}
-use Rattle.lyric_walk.proofs.Steps.{Gathering, gathering_start, gathering_next, gathering_end}
+use Rattle.lyric_walk.proofs.Steps.{gathering_start, gathering_next, gathering_end}
 use Rattle.lyric_walk.proofs.gather.Goals as goal
 
 pub loop-place-init : goal.loop-place-init

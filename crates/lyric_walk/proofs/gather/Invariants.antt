@@ -1,7 +1,5 @@
 -- `lyric_walk::gather` meets its contract: row after row.
-use native.Mathlib.Omega.{arith}
-use borrow.Author.Rules.{rules}
-use Rattle.lyric_walk.proofs.Steps.{Gathering, gathering_start, gathering_next, gathering_end}
+use Rattle.lyric_walk.proofs.Steps.{Gathering}
 use Rattle.lyric_walk.proofs.gather.Given as goal
 
 abbrev pub invariant-loop-place : goal.invariant-loop-place

@@ -1,5 +1,4 @@
 -- `lyric_walk::get_link` meets its contract.
-use borrow.Author.Rules.{rules}
 use Rattle.lyric_walk.proofs.Chains.{link_is}
 use Rattle.lyric_walk.proofs.get_link.Goals as goal
 

@@ -1,5 +1,4 @@
 -- `lyric_walk::head` meets its contract.
-use borrow.Author.Rules.{rules}
 use Rattle.lyric_walk.proofs.Chains.{head_is}
 use Rattle.lyric_walk.proofs.head.Goals as goal
 

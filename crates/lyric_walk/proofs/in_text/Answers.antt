@@ -1,5 +1,4 @@
 -- `lyric_walk::in_text` meets its contract.
-use borrow.Author.Rules.{rules}
 use mathlib.Core.Path.{refl}
 use Rattle.scan_table.proofs.Rows.{cut_empty, cut_past, cut_short}
 use Rattle.lyric_walk.proofs.in_text.Goals as goal

@@ -1,6 +1,4 @@
 -- `lyric_walk::sole_syllable` meets its contract.
-use native.Mathlib.Omega.{arith}
-use borrow.Author.Rules.{rules}
 use Rattle.lyric_walk.proofs.Walk.{sole_none, sole_hold, sole_one}
 use Rattle.lyric_walk.proofs.sole_syllable.Goals as goal
 

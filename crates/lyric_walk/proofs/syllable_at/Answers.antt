@@ -1,7 +1,6 @@
 -- `lyric_walk::syllable_at` meets its contract.
 use mathlib.Core.Path.{subst}
 use lib.ListN.{length}
-use borrow.Author.Rules.{rules}
 use Rattle.lyrics.specs.declared.Row.{Row}
 use Rattle.lyric_walk.specs.Walks.{found_of, InText}
 use Rattle.lyric_walk.proofs.syllable_at.Goals as goal

@@ -1,6 +1,5 @@
 -- `lyric_walk::take_row` meets its contract.
 use native.Mathlib.Omega.{arith}
-use borrow.Author.Rules.{rules}
 use Rattle.lyric_walk.proofs.Steps.{takes_none_lem, takes_one}
 use Rattle.lyric_walk.proofs.take_row.Goals as goal
 

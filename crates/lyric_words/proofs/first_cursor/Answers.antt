@@ -1,5 +1,4 @@
 -- `lyric_words::first_cursor` meets its contract.
-use borrow.Author.Rules.{rules}
 use Rattle.lyric_words.proofs.Tokens.{first_start}
 use Rattle.lyric_words.proofs.first_cursor.Goals as goal
 

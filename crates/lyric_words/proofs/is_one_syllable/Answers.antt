@@ -2,8 +2,6 @@
 use mathlib.Core.Path.{sym, ap, ◌∙◌}
 use mathlib.Core.Bool.{not}
 use borrow.Author.Tests.{eq-eqb, ne_eqb}
-use Rattle.laws.proofs.Bools.{not_true, not_false}
-use borrow.Author.Rules.{rules}
 use Rattle.lyric_words.proofs.is_one_syllable.Goals as goal
 
 pub returns-then-plain-at : goal.returns-then-plain-at

@@ -1,5 +1,4 @@
 -- `lyric_words::syllable` meets its contract.
-use borrow.Author.Rules.{rules}
 use native.Mathlib.Omega.{arith}
 use Rattle.laws.proofs.Parts.{end_in_le}
 use Rattle.lyric_spans.specs.Spans.{no_hyphen}

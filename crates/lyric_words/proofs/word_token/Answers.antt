@@ -1,5 +1,4 @@
 -- `lyric_words::word_token` meets its contract.
-use borrow.Author.Rules.{rules}
 use Rattle.lyric_words.proofs.Tokens.{word_bar, word_skip, word_hold, word_long, word_byte}
 use Rattle.lyric_words.proofs.word_token.Goals as goal
 

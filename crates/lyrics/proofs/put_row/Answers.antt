@@ -1,5 +1,4 @@
 -- `lyrics::put_row` meets its contract.
-use borrow.Author.Rules.{rules}
 use mathlib.Core.Path.{refl}
 use Rattle.laws.specs.Bytes.{little}
 use Rattle.laws.proofs.Splices.{spliced_next}

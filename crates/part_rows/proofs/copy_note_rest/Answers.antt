@@ -1,5 +1,4 @@
 -- `part_rows::copy_note_rest` meets its contract.
-use borrow.Author.Rules.{rules}
 use native.Mathlib.Omega.{arith}
 use Rattle.part_rows.proofs.Copied.{copied_twice}
 use Rattle.part_rows.proofs.copy_note_rest.Goals as goal

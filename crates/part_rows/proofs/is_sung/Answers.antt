@@ -1,8 +1,7 @@
 -- `part_rows::is_sung` meets its contract.
 use mathlib.Core.Path.{sym, ap, ◌∙◌}
 use mathlib.Core.Bool.{Bool, not}
-use borrow.Author.Rules.{rules}
-use Rattle.laws.proofs.Bools.{by_test, not_true, not_false}
+use Rattle.laws.proofs.Bools.{by_test}
 use Rattle.part_rows.specs.Read.{sounds_at}
 use Rattle.part_rows.proofs.Notes.{row_other, row_rest, row_sung}
 use Rattle.part_rows.proofs.is_sung.Goals as goal

@@ -3,7 +3,6 @@ use mathlib.Core.Path.{refl}
 use Rattle.laws.specs.Bytes.{little}
 use Rattle.laws.proofs.Splices.{spliced_next}
 use Rattle.part_rows.specs.Encoded.{row_bytes}
-use borrow.Author.Rules.{rules}
 use Rattle.part_rows.proofs.put_note.Goals as goal
 
 pub returns : goal.returns

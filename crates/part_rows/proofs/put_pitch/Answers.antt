@@ -4,7 +4,6 @@ use mathlib.Core.Path.{refl, ap, ◌∙◌}
 use Rattle.laws.specs.Bytes.{splice}
 use Rattle.laws.proofs.Splices.{spliced_next}
 use Rattle.part_rows.proofs.Bytes.{pitch_bytes_lem}
-use borrow.Author.Rules.{rules}
 use Rattle.part_rows.specs.Encoded.{pitch_row_width}
 use Rattle.part_rows.proofs.put_pitch.Goals as goal
 

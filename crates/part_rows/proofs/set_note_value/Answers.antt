@@ -1,7 +1,6 @@
 -- `part_rows::set_note_value` meets its contract: two writes, the second where the first ended.
 use mathlib.Core.Path.{refl}
 use Rattle.laws.proofs.Splices.{spliced_next}
-use borrow.Author.Rules.{rules}
 use Rattle.part_rows.proofs.set_note_value.Goals as goal
 
 pub returns : goal.returns

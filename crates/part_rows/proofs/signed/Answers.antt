@@ -1,6 +1,5 @@
 -- `part_rows::signed` meets its contract.
 use Rattle.reader.specs.Records.{signed8}
-use borrow.Author.Rules.{rules}
 use native.Mathlib.Omega.{arith}
 use Rattle.part_rows.proofs.signed.Goals as goal
 

@@ -13,12 +13,12 @@ use Rattle.part_stops.proofs.mark_row.Tie as tie
 returns : tie.Need-returns-then-not-is_sung
 returns c =
     let a = c.args in
-    let q = mark_quiet a.scratch.now a.m.begun a.place (sym c.is_sung.ensures ∙ not_true _ c.if-not-is_sung.true) in
+    let q = mark_quiet a.scratch.now a.m.begun a.place (sym c.is_sung.ensures ∙ c.if-not-is_sung.true) in
     rw (q.0, q.1) (mark_none a.scratch.now a.stops a.m c.requires.0.low, refl)
 
 -- the row is of a note that is sung
 sung : (c : tie.Else-not-is_sung) → sung_row c.args.scratch.now c.args.place ≡ true
-sung c = sym c.is_sung.ensures ∙ not_false _ c.if-not-is_sung.false
+sung c = sym c.is_sung.ensures ∙ c.if-not-is_sung.false
 
 put_stop_requires : tie.Need-put_stop-requires
 put_stop_requires c κs =

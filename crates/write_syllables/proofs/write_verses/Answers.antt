@@ -16,7 +16,7 @@ use Rattle.write_syllables.proofs.write_verses.Goals as goal
 pub loop-from-init : goal.loop-from-init
 loop-from-init c =
     let a = c.args in
-    (search rules, refl, refl, written_as_lem (begin _ _) (chain_start a.texts a.note a.text.now a.store.now a.log a.k past (omega arith) (λ j. omega (arith, c.type_inv.store.given j))))
+    (search rules, refl, refl, written_as_lem (begin _ _) (chain_start a.texts a.note a.text.now a.store.now a.log a.k past (omega arith) (λ j. omega (arith, c.type_inv.store j))))
 
 pub gather-span-requires : goal.gather-span-requires
 gather-span-requires c = (c.requires, clear)
