@@ -1,4 +1,6 @@
 // The library that callers link (libabc.a, include/abc.h): the calls of the crates below, their answers packed into numbers, and nothing else.
+#![tactic(auto)]
+
 ghost use Rattle.std.specs.Prelude.{◌≡◌, List, ℕ, length};
 ghost use Rattle.editions.specs.declared.Edition.TheVariants.{First, Second};
 ghost use Rattle.reader.specs.Answer.{parse_abc, answer_of};

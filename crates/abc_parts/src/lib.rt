@@ -1,4 +1,6 @@
 // A part from its items: its tables in scratch, its items in order, its end, its lyrics, and its five sections.
+#![tactic(auto)]
+
 ghost use Rattle.std.specs.Prelude.{◌≡◌, ◌≤◌, length};
 ghost use Rattle.reader.specs.Part.{build};
 ghost use Rattle.reader.specs.Records as Records;

@@ -1,5 +1,7 @@
 // `parse_abc`: the text is tested, its lines are scanned, and its parts are built and written one behind the other. Whatever the answer, all of
 // scratch is zeros after the call, and so is the reading store behind the reading, or all of it where there is none.
+#![tactic(auto)]
+
 ghost use Rattle.std.specs.Prelude.{◌≡◌, List, ℕ, ◌+◌, ◌*◌, ◌^◌, ◌≤◌, ◌<◌, max, length};
 ghost use Rattle.reader.specs.Text.{text_lines};
 ghost use Rattle.reader.specs.Scan.{scan};

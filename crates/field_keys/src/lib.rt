@@ -1,6 +1,8 @@
 // A key field's value: `parse_key` and `split_abc_clef` of the Rust source, as far as they concern the key.
 // The key text is never built. Its bytes are passed one by one, word by word in the line, and what `parse_key` asks of the text is
 // known as a name each: before `min`, before a final m, before `maj`, and the whole text's.
+#![tactic(auto)]
+
 ghost use Rattle.std.specs.Prelude.{◌≡◌, map, ◌≤◌, length};
 ghost use Rattle.laws.specs.Lists.{elem};
 ghost use Rattle.laws.specs.Bytes.{between};

@@ -1,4 +1,6 @@
 // A key field's value in the second edition (document 02, T-03): its key with its mode, and refusals 10 and 21 as met among its words.
+#![tactic(auto)]
+
 ghost use Rattle.std.specs.Prelude.{◌≡◌, cond, ◌≤◌, ◌<◌, ◌+◌, ◌^◌, eqb, length};
 ghost use Rattle.laws.specs.Bytes.{between};
 ghost use Rattle.standard.specs.Keys.{plain_key, place};

@@ -1,5 +1,7 @@
 // The mode of a key in the second edition (document 02, T-03), by its name. The key text is never built: the key's name stands at the front of its first word, the
 // mode behind that or, where the word ends there, at the front of the second.
+#![tactic(auto)]
+
 ghost use Rattle.std.specs.Prelude.{◌≡◌, map, ◌≤◌, length};
 ghost use Rattle.laws.specs.Lists.{starts_with};
 ghost use Rattle.laws.specs.Bytes.{between};

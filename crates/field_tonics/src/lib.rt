@@ -1,5 +1,7 @@
 // The tonic's name of a key, and the fifths of the fifteen major and fifteen minor names: `parse_key`'s two lists of names in the Rust source.
 // Fifths have 128 added: 128 is none, one sharp more is one more.
+#![tactic(auto)]
+
 ghost use Rattle.std.specs.Prelude.{◌≡◌, ◌&&◌};
 ghost use Rattle.reader.specs.Keys.{fifths_of};
 ghost use Rattle.field_tonics.specs.Names.{with_byte, tonic_in, first_of, is_name, majors, minors, lookup_in, looked_up};

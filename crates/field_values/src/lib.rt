@@ -1,4 +1,6 @@
 // The values of M, L and V fields, `middle=` words, and inline fields. A value is the part of the line from `a` up to `b`.
+#![tactic(auto)]
+
 ghost use Rattle.std.specs.Prelude.{◌≡◌, ◌≤◌, length};
 ghost use Rattle.laws.specs.Bytes.{between};
 ghost use Rattle.standard.specs.Bytes.{is};

@@ -1,4 +1,6 @@
 // The accidentals of a measure in scratch: an index of steps and octaves, a row for each of those that had one, with a slot for each overlay voice; and the pitches that they and the key give.
+#![tactic(auto)]
+
 ghost use Rattle.std.specs.Prelude.{◌≡◌, cond, ◌+◌, ◌*◌, ◌^◌, ◌≤◌, ◌<◌, length, set};
 ghost use Rattle.std.proofs.Math.Option.{none};
 ghost use Rattle.laws.specs.Bytes.{splice};

@@ -1,4 +1,6 @@
 // A note, rest or chord goes to the end of its voice: the beam step on the note before it, its row, the count of its measure, and the registers.
+#![tactic(auto)]
+
 ghost use Rattle.std.specs.Prelude.{◌≡◌, ◌+◌, ◌*◌, ◌^◌, ◌≤◌, ◌<◌, length};
 ghost use Rattle.part_invariant.specs.Invariant.{Room, Appendable, Appends};
 ghost use Rattle.part_invariant.specs.Appended.{before_store, placed, sounded_on, appended};

@@ -1,4 +1,6 @@
 // Barlines, endings and inline M fields: the open measure's row, and what a barline ends.
+#![tactic(auto)]
+
 ghost use Rattle.std.specs.Prelude.{◌≡◌, List, ℕ, ◌+◌, ◌*◌, ◌^◌, ◌≤◌, ◌<◌, length, get_or};
 ghost use Rattle.standard.specs.Bars as standard;
 ghost use Rattle.reader.specs.Records.{pass_bits, measure_width};

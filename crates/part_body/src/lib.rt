@@ -1,4 +1,6 @@
 // A music line of a part: its tokens from left to right, each applied to the part in scratch and registers (000, parse_body_line).
+#![tactic(auto)]
+
 ghost use Rattle.std.specs.Prelude.{length};
 ghost use Rattle.part_layout.specs.Log.{on_line};
 ghost use Rattle.part_invariant.specs.Lines.{RepresentedBetween, RoomForBytes, SimulatesItem};

@@ -1,4 +1,6 @@
 // Chords: the pitches, read again from the line, are pushed one by one; the chord's row is deferred (part_sounds::Deferred).
+#![tactic(auto)]
+
 ghost use Rattle.std.specs.Prelude.{length};
 ghost use Rattle.part_invariant.specs.Invariant.{Room, RepresentedInLine};
 ghost use Rattle.capacity.specs.Covers.{signs_in};

@@ -1,5 +1,7 @@
 // The end of a part, over its measures in scratch (crate part_measures): an empty measure at the end goes, endings are closed, and the first measure gets its key
 // mark. A table is where it begins and how many rows it has.
+#![tactic(auto)]
+
 ghost use Rattle.std.specs.Prelude.{◌≡◌, true, false, List, ◌∷◌, ◌++◌, ℕ, ◌+◌, ◌*◌, ◌≤◌, ◌<◌, length};
 ghost use Rattle.std.proofs.Math.Option.{Option, none};
 ghost use Rattle.laws.specs.Lists.{All};

@@ -1,4 +1,6 @@
 // The items of a part in order (the line table, crate scan_table): what each does to the part's tables and registers.
+#![tactic(auto)]
+
 ghost use Rattle.std.specs.Prelude.{◌≡◌, cond, List, [], ℕ, ◌+◌, ◌*◌, ◌^◌, ◌≤◌, ◌<◌, length};
 ghost use Rattle.standard.specs.Keys.{Key as StandardKey};
 ghost use Rattle.standard.specs.Lyrics.{next_verse};

@@ -1,5 +1,7 @@
 // The measures of a part in scratch, a row each: the measure record, before its notes. A table is where it begins, a row its index. What a row's bytes mean is known
 // here alone.
+#![tactic(auto)]
+
 ghost use Rattle.std.specs.Prelude.{◌≡◌, [], ◌∷◌, ◌++◌, suc, ◌+◌, ◌*◌, ◌^◌, ◌≤◌, ◌<◌, length, get_or};
 ghost use Rattle.laws.specs.Bytes.{splice, le32, u32_at};
 ghost use Rattle.reader.specs.Codes.{mode_code};

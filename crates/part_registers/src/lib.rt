@@ -1,4 +1,6 @@
 // What is kept outside scratch while a part is read, in groups, and what a note gets from it: its tuplet, its beam, a broken rhythm's half, its flags.
+#![tactic(auto)]
+
 ghost use Rattle.std.specs.Prelude.{◌≡◌, ◌≤◌};
 ghost use Rattle.part_registers.specs.Notes.{beams, bit_of, flags_in, length_in, boundary_of, grouped_row, fewer, broken_row, halved_row, run_again, beamed_row};
 

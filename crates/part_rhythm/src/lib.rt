@@ -1,4 +1,6 @@
 // The voice's last note, changed behind it: broken rhythm, and the beam step taken once more after an empty chord or an accidental without a note.
+#![tactic(auto)]
+
 ghost use Rattle.std.specs.Prelude.{◌≡◌, ◌+◌, ◌*◌, ◌≤◌, ◌<◌, length};
 ghost use Rattle.reader.specs.Token as token;
 ghost use Rattle.part_layout.specs.Log.{on_token};

@@ -1,4 +1,6 @@
 // Where the tables of a part stand in scratch: one pass over the bytes of its music lines says how many rows each can need.
+#![tactic(auto)]
+
 ghost use Rattle.std.specs.Prelude.{◌≡◌, [], ◌∷◌, ◌+◌, ◌*◌, ◌^◌, ◌≤◌, ◌<◌, length};
 ghost use Rattle.laws.specs.Bytes.{between};
 ghost use Rattle.reader.specs.Steps.{items_of};

@@ -1,4 +1,6 @@
 // Notes and rests: pitches resolved and written; the note's row is deferred, since all tokens append theirs in one place.
+#![tactic(auto)]
+
 ghost use Rattle.std.specs.Prelude.{◌≡◌, ◌<◌, length};
 ghost use Rattle.part_accidentals.specs.Resolving.{signs};
 ghost use Rattle.part_invariant.specs.Invariant.{Room, RepresentedInLine};

@@ -1,4 +1,6 @@
 // Tokens that only change registers; an inline key, which marks the open measure too; and the beginning of a music line.
+#![tactic(auto)]
+
 ghost use Rattle.std.specs.Prelude.{◌≡◌, List, [], ℕ, ◌≤◌, length};
 ghost use Rattle.standard.specs.Notes.{next_voice};
 ghost use Rattle.standard.specs.Tuplets.{compound, normal_in};

@@ -1,6 +1,8 @@
 // The stops of a part's notes (crate lyric_stops), from its measures and notes in scratch: for lyric lines of the second edition. One pass goes forward over the
 // measures and their notes and writes each note's kind, and for the first of a measure the distance back; one goes back over the stops and writes the distances
 // forward.
+#![tactic(auto)]
+
 ghost use Rattle.std.specs.Prelude.{◌≡◌, true, cond, [], ◌∷◌, ◌+◌, ◌*◌, ◌≤◌, ◌<◌};
 ghost use Rattle.lyric_stops.specs.Stops.{later_kind, first_kind, Inside, stops_in};
 ghost use Rattle.part_rows.specs.Encoded.{note_row_width};

@@ -1,4 +1,5 @@
 // What a call that is lent a store answers.
+#![tactic(auto)]
 
 // The length in bytes of what it wrote, or the refusal's number and line.
 #[derive(Clone, Copy)]

@@ -1,4 +1,6 @@
 // The records of a reading, one at a time: whether their codes are in their ranges, what they count, and how the voltas of a part follow each other.
+#![tactic(auto)]
+
 ghost use Rattle.std.specs.Prelude.{◌≡◌, ◌+◌, ◌≤◌, length};
 ghost use Rattle.reader.specs.Records.{measure_width, note_width, lyric_width};
 ghost use Rattle.reading_sections.specs.Sections.{notes_in};

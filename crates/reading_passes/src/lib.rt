@@ -1,4 +1,6 @@
 // The walk of a part, pass by pass: what each pass lists, where the player goes on, and the whole list in its store.
+#![tactic(auto)]
+
 ghost use Rattle.std.specs.Prelude.{◌≡◌, ◌&&◌, ◌<◌, ◌^◌, leb, ltb};
 ghost use Rattle.reading_list.specs.Numbers.{Room};
 ghost use Rattle.reading_walk.specs.Spans.{open_before};

@@ -1,4 +1,6 @@
 // The measures of a part of a reading in the order in which a player walks them: a count, then the numbers.
+#![tactic(auto)]
+
 ghost use Rattle.std.specs.Prelude.{◌≡◌, true, ◌<◌, length};
 ghost use Rattle.laws.specs.Bytes.{u32_at};
 ghost use Rattle.reading_records.specs.Widths.{first_part};

@@ -1,4 +1,5 @@
 // The records of a reading: how many bytes each takes (reader's measureWidth to lyricWidth, and specs/Widths), for those who write readings and those who read them.
+#![tactic(auto)]
 
 // A count, of a section's records or of the parts.
 pub const COUNT: usize = 4;

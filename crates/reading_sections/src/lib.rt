@@ -1,4 +1,6 @@
 // A section of a reading, read off its bytes.
+#![tactic(auto)]
+
 ghost use Rattle.std.specs.Prelude.{◌≡◌, ◌≤◌, length};
 ghost use Rattle.laws.specs.Bytes.{u32_at};
 ghost use Rattle.reading_sections.specs.Sections.{behind, part_end};

@@ -1,4 +1,6 @@
 // The first half of `parse_abc`: every line in order, every refusal that a line can bring about, and the line table in scratch.
+#![tactic(auto)]
+
 ghost use Rattle.std.specs.Prelude.{◌≡◌, List, ℕ, ◌+◌, ◌^◌, ◌≤◌, ◌<◌, length};
 ghost use Rattle.laws.specs.Bytes.{between};
 ghost use Rattle.reader.specs.Scan.{act, step};

@@ -1,5 +1,7 @@
 // Field lines: V, K, M and L (`parse_abc_header_line` of the Rust source, as far as it concerns the notes). A line is the part of the text from
 // `from` up to `end`, cut and trimmed; its value stands behind the letter and the colon.
+#![tactic(auto)]
+
 ghost use Rattle.std.specs.Prelude.{◌≡◌, List, ℕ, ◌+◌, ◌^◌, ◌≤◌, ◌<◌, length};
 ghost use Rattle.laws.specs.Bytes.{between};
 ghost use Rattle.editions.specs.declared.Edition.{Edition};

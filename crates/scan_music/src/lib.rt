@@ -1,4 +1,6 @@
 // A music line as the scan sees it: its notes are counted, its refusals met, its inline L and M put into force; no note is made.
+#![tactic(auto)]
+
 ghost use Rattle.std.specs.Prelude.{◌≡◌, ◌||◌, List, [], ◌∷◌, ◌++◌, ℕ, suc, ◌+◌, ◌^◌, ◌≤◌, ◌<◌, max, eqb, length};
 ghost use Rattle.laws.specs.Bytes.{between};
 ghost use Rattle.reader.specs.Tokens as tokens;

@@ -1,4 +1,6 @@
 // A part's own items, in a line table of their own: what a part is read from costs by its own lines, however many the other parts have.
+#![tactic(auto)]
+
 ghost use Rattle.std.specs.Prelude.{◌≡◌, ◌+◌, ◌≤◌, length};
 ghost use Rattle.scan_table.specs.Rows.{table_end};
 ghost use Rattle.scan_parts.specs.Own.{Gathered, OwnItems};

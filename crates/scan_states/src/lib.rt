@@ -1,4 +1,6 @@
 // What the scan knows between two lines, and the lines that change only that: refusals, one line more, one item more, lyrics, X lines.
+#![tactic(auto)]
+
 ghost use Rattle.std.specs.Prelude.{◌≡◌, false, List, [], ◌∷◌, ◌++◌, ℕ, suc, ◌+◌, ◌*◌, ◌^◌, ◌≤◌, ◌<◌, eqb, length, drop};
 ghost use Rattle.laws.specs.Bytes.{between};
 ghost use Rattle.reader.specs.Lines.{lyric, tune};

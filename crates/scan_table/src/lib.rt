@@ -1,4 +1,6 @@
 // The voices and the line table at the front of scratch: one reader and one writer for each kind of row. Rows hold places in the text, no copies.
+#![tactic(auto)]
+
 ghost use Rattle.std.specs.Prelude.{◌≡◌, ◌++◌, ◌+◌, ◌*◌, ◌^◌, ◌≤◌, ◌<◌, length};
 ghost use Rattle.laws.specs.Lists.{index_of};
 ghost use Rattle.laws.specs.Bytes.{part, between, splice, le32};

@@ -1,4 +1,6 @@
 // Numbers, clearing and copying in a slice of bytes that is lent. Every write is a splice into the list of its bytes.
+#![tactic(auto)]
+
 ghost use Rattle.std.specs.Prelude.{◌≡◌, cond, [], ◌∷◌, ◌+◌, ◌-◌, ◌≤◌, ◌<◌, length, get_or};
 ghost use Rattle.laws.specs.Bytes.{part, splice, zeros, le16, le32, u16_at, u32_at};
 

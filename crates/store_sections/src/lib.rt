@@ -1,4 +1,6 @@
 // Writers of sections: each is lent the store from where the last one ended, and answers how far it got in that.
+#![tactic(auto)]
+
 ghost use Rattle.std.specs.Prelude.{◌≡◌, ◌-◌, ◌≤◌, length};
 ghost use Rattle.laws.specs.Bytes.{splice, zeros, le32};
 ghost use Rattle.store_sections.specs.Writes.{WroteIs, reached};

@@ -1,4 +1,6 @@
 // Document 01's tally of standard input. The stored input is document 01's example.
+#![tactic(auto)]
+
 use libc::STDIN_FILENO;
 
 fn main() {

@@ -1,4 +1,6 @@
 // The program `tally`: a text in, its tally out.
+#![tactic(auto)]
+
 ghost use Rattle.std.specs.Prelude.{◌≡◌, ◌≤◌, length, take, drop};
 ghost use Rattle.io.specs.Counts as io_counts;
 ghost use Rattle.tally_text.specs.Printed.{reading_bytes, scratch_bytes, out_bytes, printed, reading_left, scratch_left};

@@ -1,4 +1,6 @@
 // The tally's text, written into a store: numbers in decimal, a line for each part.
+#![tactic(auto)]
+
 ghost use Rattle.std.specs.Prelude.{◌≡◌, ◌+◌, ◌*◌, ◌≤◌, length};
 ghost use Rattle.laws.specs.Bytes.{u32_at};
 ghost use Rattle.reader.specs.Tally as tally;

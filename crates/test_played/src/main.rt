@@ -10,6 +10,8 @@
 //   the reading
 //   the list
 // The store is full of noise before each call. What is compared: both answers, and every byte of the store.
+#![tactic(auto)]
+
 ghost use Rattle.std.specs.Prelude.{◌+◌, ◌≤◌, ◌<◌, length};
 
 use libc::STDIN_FILENO;

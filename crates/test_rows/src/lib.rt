@@ -1,4 +1,6 @@
 // What the programs that replay a sample of answers share: rows in hex digits, stores full of noise, and the counts that are printed.
+#![tactic(auto)]
+
 ghost use Rattle.std.specs.Prelude.{◌+◌, ◌≤◌, ◌<◌, length};
 
 use libc::STDOUT_FILENO;

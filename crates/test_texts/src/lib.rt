@@ -8,6 +8,8 @@
 //   the text
 //   the reading, where there is one
 // Both stores are full of noise before each call. What is compared: the answer, every byte of the reading store, and that scratch is all zeros.
+#![tactic(auto)]
+
 ghost use Rattle.std.specs.Prelude.{◌+◌, ◌≤◌, ◌<◌, length};
 
 use editions::Edition;

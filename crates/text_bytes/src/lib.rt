@@ -1,4 +1,6 @@
 // The byte at a position, and ASCII's classes of bytes.
+#![tactic(auto)]
+
 ghost use Rattle.std.specs.Prelude.{◌≡◌, ◌||◌, get_or};
 ghost use Rattle.standard.specs.Bytes.{is_digit};
 ghost use Rattle.reader.specs.Text.{within, is_space};

@@ -1,4 +1,6 @@
 // The lines of a text: where one ends, what is left of it once cut and trimmed, and its class.
+#![tactic(auto)]
+
 ghost use Rattle.std.specs.Prelude.{◌+◌, ◌≤◌, ◌<◌, ◌≡◌, ◌&&◌, ◌||◌, [], ltb, length};
 ghost use Rattle.laws.specs.Lists.{all};
 ghost use Rattle.laws.specs.Bytes.{between};

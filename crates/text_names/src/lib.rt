@@ -1,4 +1,6 @@
 // Names in a line: a part of a line, the bytes from `a` up to `b`, compared with a name, as it stands or in any case.
+#![tactic(auto)]
+
 ghost use Rattle.std.specs.Prelude.{◌≡◌, map, ◌≤◌, length};
 ghost use Rattle.laws.specs.Lists.{starts_with, eq_text};
 ghost use Rattle.laws.specs.Bytes.{between};

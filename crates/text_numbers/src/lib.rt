@@ -1,4 +1,6 @@
 // Decimal numbers in a line: one digit loop for every width.
+#![tactic(auto)]
+
 ghost use Rattle.std.specs.Prelude.{◌≡◌, true, ◌+◌, ◌-◌, ◌*◌, get_or};
 ghost use Rattle.standard.specs.Bytes.{is_digit, digits};
 ghost use Rattle.reader.specs.Pieces.{numeral};

@@ -1,4 +1,6 @@
 // Loops over the bytes of a line that the tokens share: a run of one byte, the next place of one, and the ties and slur ends behind a note.
+#![tactic(auto)]
+
 ghost use Rattle.std.specs.Prelude.{◌≡◌, not, ◌≤◌, eqb, length, drop};
 ghost use Rattle.laws.specs.Spans.{end_of, end_in};
 ghost use Rattle.reader.specs.Sounds.{behind};

@@ -1,4 +1,6 @@
 // UTF-8, read byte by byte.
+#![tactic(auto)]
+
 ghost use Rattle.std.specs.Prelude.{◌≡◌, cond};
 ghost use Rattle.reader.specs.Text.{between, utf8_step, is_between, is_utf8};
 ghost use Rattle.text_utf8.specs.States.{as_utf8};

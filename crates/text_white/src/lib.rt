@@ -1,4 +1,6 @@
 // Unicode's white space, read byte by byte.
+#![tactic(auto)]
+
 ghost use Rattle.std.specs.Prelude.{◌≤◌, ◌<◌, ◌≡◌, cond, length};
 ghost use Rattle.laws.specs.Bytes.{between};
 ghost use Rattle.reader.specs.Text.{within, is_space, white, white_step, is_all_white, is_blank};

@@ -1,4 +1,6 @@
 // Words, trimming and separators in a part of a line. Fields are ASCII, so white space is ASCII's. A part is given by two positions: the bytes from the first up to the second.
+#![tactic(auto)]
+
 ghost use Rattle.std.specs.Prelude.{◌≡◌, ◌&&◌, ◌≤◌, ◌-◌, length};
 ghost use Rattle.laws.specs.Spans.{end_in};
 ghost use Rattle.reader.specs.Text.{is_space};

@@ -1,4 +1,6 @@
 // What a `[` begins with: an ending, an inline field or a chord, in 000's order of tests.
+#![tactic(auto)]
+
 ghost use Rattle.std.specs.Prelude.{◌≡◌, not, ◌+◌, ◌-◌, ◌≤◌, ◌<◌, eqb, length, drop};
 ghost use Rattle.laws.specs.Spans.{end_of};
 ghost use Rattle.reader.specs.Inline.{is_inline, field_token};

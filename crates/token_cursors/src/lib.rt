@@ -1,5 +1,7 @@
 // A place in a music line, lent by `&mut` and moved on: one token is taken, and the cursor stands behind it.
 // The borrow checker covers no function with a reference to a struct: each here is a walk of its MIR by hand, thin over the token reader.
+#![tactic(auto)]
+
 ghost use Rattle.std.specs.Prelude.{◌≡◌, ◌<◌, length, drop};
 ghost use Rattle.reader.specs.Tokens.{token_of};
 ghost use Rattle.token_symbols.specs.Classes.{class_table};

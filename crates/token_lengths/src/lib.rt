@@ -1,4 +1,6 @@
 // Lengths of notes as read, and broken rhythm.
+#![tactic(auto)]
+
 ghost use Rattle.std.specs.Prelude.{◌≡◌, ◌+◌, min};
 ghost use Rattle.token_lengths.specs.Values.{broken_length, as_value};
 

@@ -1,4 +1,6 @@
 // Tokens as they stand in a music line, each read by a function of its own: all but what a `[` begins with.
+#![tactic(auto)]
+
 ghost use Rattle.std.specs.Prelude.{◌≡◌, suc, ◌+◌, ◌<◌, eqb, length, drop, get_or};
 ghost use Rattle.laws.specs.Lists.{count_while};
 ghost use Rattle.reader.specs.Token.{decoration, skipped, taken};

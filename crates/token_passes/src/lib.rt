@@ -1,4 +1,6 @@
 // Pass lists of endings behind `[`: numbers 1 to 32 without leading zero, or a-b with a below b, strictly rising, commas between; and by which refusal what is none is refused.
+#![tactic(auto)]
+
 ghost use Rattle.std.specs.Prelude.{◌≡◌, cond, ◌&&◌, suc, ◌+◌, ◌-◌, ◌≤◌, ◌<◌, drop};
 ghost use Rattle.laws.specs.Spans.{run, end_of};
 ghost use Rattle.standard.specs.Bytes.{is_digit};

@@ -1,4 +1,6 @@
 // Pitches in a music line, as written: letters, accidentals, octave marks, chords. Signed numbers have 128 added.
+#![tactic(auto)]
+
 ghost use Rattle.std.specs.Prelude.{◌≡◌, ◌+◌, ◌<◌, ◌≤◌, eqb, length, drop, get_or};
 ghost use Rattle.std.proofs.Math.Option.{none};
 ghost use Rattle.laws.specs.Lists.{count_while};

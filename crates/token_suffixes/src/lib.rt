@@ -1,4 +1,6 @@
 // The length as it is written behind a note, a chord and a rest: one rule for all three, by edition.
+#![tactic(auto)]
+
 ghost use Rattle.std.specs.Prelude.{◌≡◌, ◌<◌, ◌+◌, length};
 ghost use Rattle.token_suffixes.specs.Suffixes.{number_or, is_run, halved_by, suffix_at};
 

@@ -1,4 +1,6 @@
 // Symbols in a music line: the letter classes, barlines, tuplets.
+#![tactic(auto)]
+
 ghost use Rattle.std.specs.Prelude.{◌≡◌, ◌+◌, ◌<◌, ◌≤◌, length, drop};
 ghost use Rattle.std.proofs.Math.Option.{none};
 ghost use Rattle.laws.specs.Spans.{end_of};

@@ -1,4 +1,6 @@
 // The written value of a length: the search of the forty from the eighth outward, and what is answered before it.
+#![tactic(auto)]
+
 ghost use Rattle.std.specs.Prelude.{◌≡◌, ◌+◌, ◌-◌, ◌*◌, ◌<◌, ◌≤◌, ◌^◌, min, max, get_or};
 ghost use Rattle.standard.specs.Lengths.{length_fraction, ticks, forty};
 ghost use Rattle.reader.specs.Lengths.{quarter_note, written_as};

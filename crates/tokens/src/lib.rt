@@ -1,4 +1,6 @@
 // One token of a music line: the reader by letter class; the token with its written value; and what the scan of the whole text wants of it.
+#![tactic(auto)]
+
 ghost use Rattle.std.specs.Prelude.{◌≡◌, ◌+◌, ◌<◌, length, drop, get_or};
 ghost use Rattle.std.proofs.Math.Option.{none};
 ghost use Rattle.reader.specs.Sounds.{note_as, note_of};

@@ -1,4 +1,6 @@
 // The sections of a part's lyrics and of their texts from its tables in scratch.
+#![tactic(auto)]
+
 ghost use Rattle.std.specs.Prelude.{◌≡◌, true, false, ◌++◌, ◌+◌, ◌*◌, ◌≤◌, ◌<◌, length};
 ghost use Rattle.laws.specs.Bytes.{le32};
 ghost use Rattle.part_rows.specs.Encoded.{note_row_width};

@@ -1,5 +1,7 @@
 // The sections of a part's measures and notes from its tables in scratch. Each writer is lent the store from where the last section ended, and answers how far it
 // got in that.
+#![tactic(auto)]
+
 ghost use Rattle.std.specs.Prelude.{◌≡◌, List, ℕ, ◌+◌, ◌*◌, ◌≤◌, length};
 ghost use Rattle.reader.specs.State.{Note};
 ghost use Rattle.reader.specs.Records.{note_width, note_bytes, section};

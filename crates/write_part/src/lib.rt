@@ -1,4 +1,6 @@
 // The five sections of a part from its tables in scratch, one after the other.
+#![tactic(auto)]
+
 ghost use Rattle.std.specs.Prelude.{◌≡◌, List, ℕ};
 ghost use Rattle.reader.specs.State.{Note};
 ghost use Rattle.part_layout.specs.Log.{Head};

@@ -1,4 +1,6 @@
 // The section of a part's pitches from its tables in scratch, where each note's stand together, in the order written.
+#![tactic(auto)]
+
 ghost use Rattle.std.specs.Prelude.{◌≡◌, List, map, ℕ, ◌+◌, ◌*◌, ◌^◌, ◌≤◌, ◌<◌, length};
 ghost use Rattle.laws.specs.Lists.{concat};
 ghost use Rattle.laws.specs.Bytes.{part};

@@ -1,4 +1,6 @@
 // What is written for the syllables of a note: their records, or their texts.
+#![tactic(auto)]
+
 ghost use Rattle.std.specs.Prelude.{◌≡◌, true, false, List, [], ◌∷◌, ℕ, ◌+◌, ◌*◌, ◌≤◌, ◌<◌, length, get_or};
 ghost use Rattle.laws.specs.Bytes.{between, splice, le32};
 ghost use Rattle.standard.specs.Lyrics.{syllable_text};
