@@ -18,6 +18,7 @@ use Rattle.token_values.specs.Found.{fraction}
 use Rattle.token_values.proofs.Searches.{nth_lt, Counting, counting_start, count_le, count_over, count_below, count_above, written_count}
 use Rattle.token_values.proofs.Sizes.{size_le}
 use Rattle.token_values.proofs.search_value.Goals as goal
+use Rattle.token_values.proofs.search_value.Goals.{then-scaled-length-2, else-scaled-length-2, else-search-test, then-search-test+then-loop-dots-test+then-scaled-length}
 
 -- WHAT THE SEARCH LEAVES: a value that meets the length, or how many are below it
 abbrev Ended : ℕ → ℕ → Found → ℕ → Type 0
@@ -59,12 +60,12 @@ loop-dots-preserved c =
     let i = c.loop-dots.invariant in (
       omega arith,
       i.1,
-      ⊎_elim
-          (λ w. let p : c.size.result * a.parts < a.num * 1024 = omega arith in
-          rw w.1 (count_below _ _ _ _ _ i.2 hk hd (rw (c.size.ensures, v.ensures) at p)))
-          (λ w. let p : a.num * 1024 < c.size.result * a.parts = omega arith in
-          rw w.1 (count_above _ _ _ _ _ i.2 hk hd (rw (c.size.ensures, v.ensures) at p)))
-          c.if-scaled-length-2.branch,
+      elim c.if-scaled-length-2.branch [
+        then-scaled-length-2 w ↦ let p : c.size.result * a.parts < a.num * 1024 = omega (arith, w.if-scaled-length-2.true) in
+        rw w.below-is (count_below _ _ _ _ _ i.2 hk hd (rw (c.size.ensures, v.ensures) at p))
+      | else-scaled-length-2 w ↦ let p : a.num * 1024 < c.size.result * a.parts = omega (arith, w.if-scaled-length-2.false, c.if-scaled-length.false) in
+        rw w.below-is (count_above _ _ _ _ _ i.2 hk hd (rw (c.size.ensures, v.ensures) at p))
+      ],
     )
 
 pub search-preserved : goal.search-preserved
@@ -73,48 +74,46 @@ search-preserved c =
     let e : 4 * (c.search.k + 1) ≡ 4 * c.search.k + c.loop-dots.dots = omega arith in
     (omega arith, i.1, rw e i.2)
 
+-- what the search left: by its end, or by the value that it met
 pub longest_of-requires : goal.longest_of-requires
 longest_of-requires c =
-    let left : Ended c.args.num c.args.parts c.search-test.met c.search-test.below = let a = c.args in
-    let i = c.search.invariant in
-    ⊎_elim
-    (λ w. let e : 4 * c.search.k ≡ 40 = omega arith in
-    rw (w.1, w.2, i.1) (count_le _ _ _ _ i.2, written_count a.num a.parts _ c.requires.0 (count_over _ _ _ _ i.2 e)))
-    (λ w. let hk : c.search.k < 10 = omega arith in
-    let hd : w.2.dots < 4 = omega arith in
-    let hv : w.1.result < 10 = rw w.1.ensures (nth_lt _ hk) in
-    rw w.6 (written_met (fraction a.num a.parts) _ _ c.requires.0 hv hd (rw w.4.ensures at w.5.taken)))
-    c.search-test.branch in
+    let left : Ended c.args.num c.args.parts c.search-test.met c.search-test.below =
+    elim c.search-test.branch [
+      else-search-test w ↦ let e : 4 * c.search.k ≡ 40 = omega (arith, w.search-test.false, c.search.invariant.0) in
+      rw (w.met-is, w.below-is, c.search.invariant.1) (count_le _ _ _ _ c.search.invariant.2, written_count c.args.num c.args.parts _ c.requires.0 (count_over _ _ _ _ c.search.invariant.2 e))
+    | then-search-test+then-loop-dots-test+then-scaled-length w ↦ let hk : c.search.k < 10 = omega (arith, w.search-test.true) in
+      let hd : w.loop-dots.dots < 4 = omega (arith, w.loop-dots-test.true) in
+      let hv : w.outward_value-value.result < 10 = rw w.outward_value-value.ensures (nth_lt _ hk) in
+      rw w.met-is (written_met (fraction c.args.num c.args.parts) _ _ c.requires.0 hv hd (rw w.size.ensures at w.if-scaled-length.true))
+    ] in
     let none_met : Ended c.args.num c.args.parts found.Nothing c.search-test.below = rw c.in_default.is at left in
     none_met.0
 
 pub returns-in_default : goal.returns-in_default
 returns-in_default c =
     let answers : search_in outward (fraction c.args.num c.args.parts) ≡ written_as (fraction c.args.num c.args.parts) = outward_as_written (fraction c.args.num c.args.parts) (omega (arith, c.requires.0)) in
-    let left : Ended c.args.num c.args.parts c.search-test.met c.search-test.below = let a = c.args in
-    let i = c.search.invariant in
-    ⊎_elim
-    (λ w. let e : 4 * c.search.k ≡ 40 = omega arith in
-    rw (w.1, w.2, i.1) (count_le _ _ _ _ i.2, written_count a.num a.parts _ c.requires.0 (count_over _ _ _ _ i.2 e)))
-    (λ w. let hk : c.search.k < 10 = omega arith in
-    let hd : w.2.dots < 4 = omega arith in
-    let hv : w.1.result < 10 = rw w.1.ensures (nth_lt _ hk) in
-    rw w.6 (written_met (fraction a.num a.parts) _ _ c.requires.0 hv hd (rw w.4.ensures at w.5.taken)))
-    c.search-test.branch in
+    let left : Ended c.args.num c.args.parts c.search-test.met c.search-test.below =
+    elim c.search-test.branch [
+      else-search-test w ↦ let e : 4 * c.search.k ≡ 40 = omega (arith, w.search-test.false, c.search.invariant.0) in
+      rw (w.met-is, w.below-is, c.search.invariant.1) (count_le _ _ _ _ c.search.invariant.2, written_count c.args.num c.args.parts _ c.requires.0 (count_over _ _ _ _ c.search.invariant.2 e))
+    | then-search-test+then-loop-dots-test+then-scaled-length w ↦ let hk : c.search.k < 10 = omega (arith, w.search-test.true) in
+      let hd : w.loop-dots.dots < 4 = omega (arith, w.loop-dots-test.true) in
+      let hv : w.outward_value-value.result < 10 = rw w.outward_value-value.ensures (nth_lt _ hk) in
+      rw w.met-is (written_met (fraction c.args.num c.args.parts) _ _ c.requires.0 hv hd (rw w.size.ensures at w.if-scaled-length.true))
+    ] in
     let none_met : Ended c.args.num c.args.parts found.Nothing c.search-test.below = rw c.in_default.is at left in
     c.longest_of.ensures ∙ ap length_as (sym none_met.1 ∙ sym answers)
 
 pub returns : goal.returns
 returns c =
-    let left : Ended c.args.num c.args.parts c.search-test.met c.search-test.below = let a = c.args in
-    let i = c.search.invariant in
-    ⊎_elim
-    (λ w. let e : 4 * c.search.k ≡ 40 = omega arith in
-    rw (w.1, w.2, i.1) (count_le _ _ _ _ i.2, written_count a.num a.parts _ c.requires.0 (count_over _ _ _ _ i.2 e)))
-    (λ w. let hk : c.search.k < 10 = omega arith in
-    let hd : w.2.dots < 4 = omega arith in
-    let hv : w.1.result < 10 = rw w.1.ensures (nth_lt _ hk) in
-    rw w.6 (written_met (fraction a.num a.parts) _ _ c.requires.0 hv hd (rw w.4.ensures at w.5.taken)))
-    c.search-test.branch in
+    let left : Ended c.args.num c.args.parts c.search-test.met c.search-test.below =
+    elim c.search-test.branch [
+      else-search-test w ↦ let e : 4 * c.search.k ≡ 40 = omega (arith, w.search-test.false, c.search.invariant.0) in
+      rw (w.met-is, w.below-is, c.search.invariant.1) (count_le _ _ _ _ c.search.invariant.2, written_count c.args.num c.args.parts _ c.requires.0 (count_over _ _ _ _ c.search.invariant.2 e))
+    | then-search-test+then-loop-dots-test+then-scaled-length w ↦ let hk : c.search.k < 10 = omega (arith, w.search-test.true) in
+      let hd : w.loop-dots.dots < 4 = omega (arith, w.loop-dots-test.true) in
+      let hv : w.outward_value-value.result < 10 = rw w.outward_value-value.ensures (nth_lt _ hk) in
+      rw w.met-is (written_met (fraction c.args.num c.args.parts) _ _ c.requires.0 hv hd (rw w.size.ensures at w.if-scaled-length.true))
+    ] in
     let answers : search_in outward (fraction c.args.num c.args.parts) ≡ written_as (fraction c.args.num c.args.parts) = outward_as_written (fraction c.args.num c.args.parts) (omega (arith, c.requires.0)) in
     ap length_as (sym (rw c.in-Value.is at left) ∙ sym answers)
