@@ -3,7 +3,7 @@ use Prim.Native.Nat.{ℕ, zero, suc, ◌+◌, ◌≤◌}
 use mathlib.Core.Path.{◌≡◌, refl, sym, ap, subst, ◌∙◌}
 use mathlib.Core.Logic.{◌⊎◌, inl, inr, ⊎_elim}
 use mathlib.Core.Bool.{Bool, true, false, cond, not, ◌&&◌, false≢true}
-use mathlib.Core.Option.{Option, none, some}
+use mathlib.Core.Option.{none}
 use mathlib.Core.List.{List, [], ◌∷◌, ◌++◌, map, reverse, reverse_aux}
 use native.Mathlib.Omega.{arith}
 use lib.Dec.{eqb}
@@ -17,7 +17,7 @@ use Rattle.standard.specs.Fields.{Meter}
 use Rattle.standard.specs.Lengths.{Value}
 use Rattle.standard.specs.Passes.{rising}
 use Rattle.standard.specs.Pitches.{Written}
-use Rattle.standard.specs.Bars.{Barline, normal, repeatStart, repeatEnd, repeatBoth, double, final}
+use Rattle.standard.specs.Bars.{Barline}
 use Rattle.standard.specs.Notes as notes
 use Rattle.standard.specs.Notes.{NoteKind, is_sounded, Behind, flags_of, pending_after, slur_opens, grace_closes}
 use Rattle.editions.specs.declared.Edition.TheVariants.{First, Second}
@@ -26,10 +26,10 @@ use Rattle.reader.specs.Token.{Token, space, overlay, quoted, broken, tuplet, sl
 use Rattle.reader.specs.Tokens.{tokens}
 use Rattle.reader.specs.Barlines.{left_of}
 use Rattle.reader.specs.Scan.{Item, voice_declared, reset, keyInHeader, key_change, meter_change, lyric_line, music_line, Env}
-use Rattle.reader.specs.State.{Note, Measure, Half, Running, Sung, Verses, PartState, with_right, with_voices, with_meter, set_key, on_open, is_empty, voice_in, voice_now, set_voice, new_measure, new_part}
-use Rattle.reader.specs.Voltas.{starts, ends_at, close, closed}
+use Rattle.reader.specs.State.{Note, Measure, Sung, Verses, PartState, with_right, with_voices, with_meter, set_key, on_open, is_empty, voice_in, voice_now, set_voice, new_measure, new_part}
+use Rattle.reader.specs.Voltas.{close, closed}
 use Rattle.reader.specs.Lyrics.{Syllable, sung_by, sung_by_bars, sung_in}
-use Rattle.reader.specs.Part.{Part, halved_note, broken_note, on_broken, after_half, can_beam, beamed, beamed_again, on_nothing, grouped, counted_in, append, rest_note, sound_note, on_sound, left_set, ended, on_barline, hears, on_token, opened, line_begins, on_line, on_lyric, on_key, first_key, on_item, dropped, in_order, marked_by, marked, takers, sounded_in, takers_in, finished_measures, finished, build, empty_part}
+use Rattle.reader.specs.Part.{Part, broken_note, on_broken, after_half, can_beam, beamed, beamed_again, on_nothing, grouped, counted_in, append, rest_note, sound_note, on_sound, ended, on_barline, hears, on_token, opened, line_begins, on_line, on_lyric, on_key, first_key, on_item, dropped, in_order, marked, takers, sounded_in, takers_in, finished_measures, finished, build, empty_part}
 use Rattle.reader.specs.Answer.{is_music, built}
 use Rattle.promises.specs.Alike.{eq_key, no_bar, is_grace, is_lyric_line, is_plain, sung_alike, hears_key, header_alike}
 use Rattle.promises.proofs.NoteLaws.{Kept, broken_kept, half_kept, again_kept, grouped_kept, left_voices, voices_of, close_voices, marked_voices}

@@ -1,9 +1,9 @@
 -- ANY ARRANGEMENT COSTS THE SAME: two texts that meet the hypotheses of demand 3, begin alike and give each voice the same lines, in whatever order and number of
 -- blocks, have one tally in the first edition; in the second one but for the syllables. Demand 3 says what each part's items are; the V: lines among them change no such count
 -- (SameTally). Assumes nothing.
-use Prim.Native.Nat.{ℕ, zero, suc, max}
+use Prim.Native.Nat.{ℕ, max}
 use mathlib.Core.Path.{◌≡◌, refl, sym, ap, subst, ◌∙◌}
-use mathlib.Core.Bool.{Bool, true, false, cond}
+use mathlib.Core.Bool.{Bool, true}
 use mathlib.Core.List.{List, [], ◌∷◌, ◌++◌, map, append_assoc}
 use lib.Dec.{eqb}
 use lib.ListN.{length}
@@ -18,10 +18,9 @@ use Rattle.reader.specs.Lines as lines
 use Rattle.reader.specs.Lines.{is_v, Kind, kind_of}
 use Rattle.reader.specs.Steps.{TextLine, items_of}
 use Rattle.reader.specs.Scan.{Item, voice_declared, reset, keyInHeader, key_change, meter_change, lyric_line, music_line, Env, ScanState, scan}
-use Rattle.reader.specs.Answer.{Verdict, Outcome, reading, built, parts, ended, finish, parse_abc}
+use Rattle.reader.specs.Answer.{Outcome, built, parts, finish, parse_abc}
 use Rattle.reader.specs.Tally.{Counts, counts_of, tally}
 use Rattle.blocks.specs.Blocks.{after_k, header, opening, blocks}
-use Rattle.blocks.specs.Kinds.{unit_after, meter_after}
 use Rattle.blocks.specs.Demand.{Accepted, voice_of, SetsNeither, Hypotheses, state_of, state_at_blocks}
 use Rattle.blocks.proofs.Lists.{numbered_named}
 use Rattle.blocks.proofs.TextLines.{Shape, blocks_shape}
@@ -32,7 +31,7 @@ use Rattle.blocks.proofs.Instance.{kind_items, reader}
 use Rattle.blocks.proofs.Claim.{items_in, from_blocks}
 use Rattle.blocks.proofs.End.{ended_reading}
 use Rattle.blocks.proofs.Demand.{settled, owned}
-use Rattle.promises.specs.Arrangement.{body_of, lines_of, Rearranged, tally_of, notes_only}
+use Rattle.promises.specs.Arrangement.{body_of, Rearranged, tally_of, notes_only}
 use Rattle.promises.proofs.SameTally.{Unflagged, all_counts, note_counts_lem, built_reset, tallies, map_same}
 
 -- ITEMS WITHOUT THE V: LINES

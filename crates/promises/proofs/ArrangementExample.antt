@@ -14,7 +14,7 @@ use Rattle.reader.specs.Tally.{Counts}
 use Rattle.reader.specs.All.{all}
 use Rattle.blocks.specs.Demand.{Hypotheses}
 use Rattle.blocks.proofs.Tests.{meant_test}
-use Rattle.promises.specs.Arrangement.{body_of, lines_of, Rearranged, tally_of}
+use Rattle.promises.specs.Arrangement.{body_of, Rearranged, tally_of}
 use Rattle.promises.proofs.Arrangement.{any_arrangement}
 
 abbrev block_about : List ℕ

@@ -1,5 +1,5 @@
 -- THE SECOND HALF OF DEMAND 3 BY PARTS: "every voice with a part in the first reading is meant", also of a text without a V: line, whose one voice has no name.
-use Prim.Native.Nat.{ℕ, zero, suc, ◌+◌, ◌<◌, max}
+use Prim.Native.Nat.{ℕ, suc, ◌+◌, ◌<◌, max}
 use mathlib.Core.Path.{◌≡◌, refl, sym, ap, ◌∙◌}
 use mathlib.Core.Option.{Option, none, some}
 use mathlib.Core.List.{List, [], ◌∷◌, map}

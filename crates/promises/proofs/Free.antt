@@ -1,26 +1,24 @@
 -- WHAT CHANGES NO RECORD, of any text: what follows a `%`, white space at a line's end, an empty line, a field of another letter. Where both texts are accepted the whole reading is the same.
 -- In a music line: a quoted text and a decoration, from where they begin as tokens. Assumes nothing.
-use Prim.Native.Nat.{ℕ, zero, suc, ◌+◌, ◌≤◌, ◌<◌, pred}
+use Prim.Native.Nat.{ℕ, suc, ◌+◌, ◌<◌}
 use mathlib.Core.Path.{◌≡◌, refl, sym, ap, subst, ◌∙◌}
 use mathlib.Core.Bool.{Bool, true, false, cond, not, false≢true}
-use mathlib.Core.Option.{Option, none, some}
 use mathlib.Core.List.{List, [], ◌∷◌, ◌++◌, map}
 use native.Mathlib.Omega.{arith}
-use lib.Dec.{eqb, leb, ltb}
+use lib.Dec.{eqb, ltb}
 use lib.ListN.{length, drop}
 use borrow.Author.Tests.{lt-ltb}
 use Rattle.laws.specs.Lists.{foldl, all, All, is_nil, count_while}
 use Rattle.laws.proofs.Bools.{by_test, eqb_same}
 use Rattle.laws.proofs.Spans.{count_while_no}
 use Rattle.laws.proofs.Lists.{map_append}
-use Rattle.standard.specs.Bytes.{is}
 use Rattle.editions.specs.declared.Edition.{Edition}
-use Rattle.reader.specs.Text.{text_lines, cut, trim, clean, has_high}
+use Rattle.reader.specs.Text.{text_lines, cut, trim, clean}
 use Rattle.reader.specs.Token.{Token, quoted, decoration, Taken, taken}
-use Rattle.reader.specs.Tokens.{token_of, tokens, effects, effect_of, no_effect, closed_by}
+use Rattle.reader.specs.Tokens.{token_of, tokens, effect_of, no_effect, closed_by}
 use Rattle.reader.specs.Lines.{is_v, is_k, is_l, is_m, is_x, is_lyric, is_field, Kind, blank, refused, other, line_kind, field_kind, kind_of}
 use Rattle.reader.specs.Steps.{TextLine, refuse, on, first, run, items_of}
-use Rattle.reader.specs.Scan.{Item, Items, Out, ScanState, begin, most_lines, first_refusal, act, step, scan}
+use Rattle.reader.specs.Scan.{Item, Items, Out, ScanState, begin, most_lines, act, step, scan}
 use Rattle.reader.specs.State.{PartState}
 use Rattle.reader.specs.Part.{Part, on_token}
 use Rattle.reader.specs.Answer.{Verdict, refusal, reading, parse_abc}

@@ -1,14 +1,14 @@
 -- EACH REFUSAL IS GIVEN UNDER ITS CONDITION ONLY, and always where it is met first: `only_under_its_condition`, `under_its_condition`, `not_refused`. Assumes nothing.
-use Prim.Native.Nat.{ℕ, suc, ◌+◌, ◌≤◌, ◌<◌}
+use Prim.Native.Nat.{ℕ, suc, ◌+◌, ◌≤◌}
 use mathlib.Core.Path.{◌≡◌, refl, sym, ap, subst, ◌∙◌}
 use mathlib.Core.Logic.{◌⊎◌, inl, inr, ⊎_elim}
-use mathlib.Core.Bool.{Bool, true, false, cond, ◌&&◌, ◌||◌, false≢true}
+use mathlib.Core.Bool.{Bool, true, false, cond, ◌||◌, false≢true}
 use mathlib.Core.Option.{Option, none, some}
 use mathlib.Core.List.{List, [], ◌∷◌, ◌++◌, map}
 use native.Mathlib.Omega.{arith}
 use lib.Dec.{eqb, leb, ltb}
 use lib.ListN.{length, drop}
-use borrow.Author.Tests.{eqb-true, ltb-true, ltb-false, leb-true, leb-false, lt-ltb, le-ltb, le-leb, lt-leb}
+use borrow.Author.Tests.{eqb-true, ltb-true, ltb-false, leb-true, leb-false, lt-ltb, le-leb, lt-leb}
 use Rattle.laws.specs.Lists.{any, elem, is_nil, sum}
 use Rattle.laws.proofs.Bools.{by_test, both_true, and_left, and_right, or_either}
 use Rattle.standard.specs.Keys.{Key}
@@ -20,17 +20,17 @@ use Rattle.reader.specs.Keys.{key_of}
 use Rattle.reader.specs.Fields.{meter_of, unit_of, identifier, middle_word, key_refusal}
 use Rattle.reader.specs.Lengths.{many_slashes}
 use Rattle.reader.specs.Pitches.{octave_of}
-use Rattle.reader.specs.Tokens.{Effect, counts, refuses, sets_unit, sets_meter, no_effect, effect_of, effects}
+use Rattle.reader.specs.Tokens.{Effect, effect_of, effects}
 use Rattle.reader.specs.Lines.{is_v, is_k, is_l, is_m, is_x, is_lyric, is_field, begins, Kind, blank, refused, lyric, voice, key, meter, unit, tune, other, music, voice_kind, key_kind, field_kind, line_kind, kind_of, kind_unless}
 use Rattle.reader.specs.Steps.{TextLine, refuse, on, first, run}
-use Rattle.reader.specs.Scan.{Items, Out, ScanState, begin, most_lines, most_voices, most_notes, note_count, voices_before, first_refusal, play_on, voice_on, unit_on, act, step, scan}
+use Rattle.reader.specs.Scan.{Items, Out, ScanState, begin, most_lines, most_voices, note_count, voices_before, first_refusal, play_on, voice_on, unit_on, act, step, scan}
 use Rattle.reader.specs.Answer.{Verdict, refusal, reading, Outcome, most_bytes, scratch_needed, refused_with, early, encode, measure_count, written, ended, finish, scanned, unless, parse_abc}
 use Rattle.reader.proofs.LengthLaws.{never_many}
 use Rattle.blocks.proofs.Keeps.{laws}
 use Rattle.blocks.proofs.Instance.{reader}
 use Rattle.blocks.proofs.Runs.{run_of, run_lines}
 use Rattle.blocks.specs.Demand.{IsReading}
-use Rattle.promises.specs.Refusals.{bracketed, after_bracket, key_inline, octave_note, octave_chord, many_more, many_less, list_shape, list_range, list_rise, slashes_note, slashes_chord, slashes_rest, Here, token, note, parts_after, InMusic, MusicLine, Why, many_lines, long_line, high_field, high_music, second_tune, no_identifier, many_voices, middle_V, key_line, in_music, Smallest, At, KeyMeets, Begins, Reason, long_text, not_utf8, blank_text, short_scratch, at_line, no_measure, short_reading}
+use Rattle.promises.specs.Refusals.{bracketed, after_bracket, key_inline, octave_note, octave_chord, many_more, many_less, list_shape, list_range, list_rise, slashes_note, slashes_chord, slashes_rest, Here, token, note, parts_after, Why, many_lines, long_line, high_field, high_music, second_tune, no_identifier, many_voices, middle_V, key_line, in_music, Smallest, At, KeyMeets, Begins, Reason, long_text, not_utf8, blank_text, short_scratch, at_line, no_measure, short_reading}
 use Rattle.promises.proofs.TokenRefusals.{first_why, music_meets, LineNumber, key_field_range, music_range}
 use Rattle.promises.proofs.KeyFields.{key_field_why, key_field_meets, first_key_field}
 

@@ -1,45 +1,45 @@
 -- A V: LINE FOR THE VOICE BEING READ COSTS NOTHING: it ends a pending tie, slur start and grace brace, so it changes notes' flags, and nothing else of a part: not its measures, its notes, their kinds or, in the
 -- first edition, its syllables. So a voice's blocks may be joined by leaving out the second V: line, and the tally of the part stays. In the second edition, where a grace note takes no syllable, the tally
 -- stays but for its syllables (ArrangementExample has the text).
-use Prim.Native.Nat.{ℕ, zero, suc, ◌+◌, ◌≤◌, max}
+use Prim.Native.Nat.{ℕ, zero, suc, ◌≤◌, max}
 use mathlib.Core.Path.{◌≡◌, refl, sym, ap, subst, ◌∙◌}
-use mathlib.Core.Bool.{Bool, true, false, cond, not, ◌&&◌, ◌||◌, false≢true}
+use mathlib.Core.Bool.{Bool, true, false, cond, not, ◌||◌, false≢true}
 use mathlib.Core.Option.{Option, none, some}
 use mathlib.Core.List.{List, [], ◌∷◌, ◌++◌, map, reverse, reverse_aux}
 use native.Mathlib.Omega.{arith}
 use lib.Dec.{eqb, leb, ltb}
 use borrow.Author.Tests.{ltb-true, lt-ltb}
-use lib.ListN.{length, get_or, replicate, length-map}
+use lib.ListN.{length, get_or, length-map}
 use Rattle.laws.specs.Lists.{foldl, all, is_nil, alter_at, on_first, filter, any, elem, index_of}
 use Rattle.laws.proofs.Bools.{by_test}
 use Rattle.laws.proofs.Lists.{foldl_append, map_append}
 use Rattle.standard.specs.Keys.{Key}
 use Rattle.standard.specs.Fields.{Meter}
 use Rattle.standard.specs.Lengths.{Value}
-use Rattle.standard.specs.Pitches.{Written, Pitch}
+use Rattle.standard.specs.Pitches.{Written}
 use Rattle.standard.specs.Bars.{Barline, normal, repeatStart, repeatEnd, repeatBoth, double, final}
 use Rattle.standard.specs.Notes as notes
 use Rattle.standard.specs.Notes.{NoteKind, is_sounded, Behind, Pending, nothing_pending}
 use Rattle.editions.specs.declared.Edition.{Edition}
 use Rattle.editions.specs.declared.Edition.TheVariants.{First}
 use Rattle.reader.specs.Lengths.{Length, value_of}
-use Rattle.reader.specs.Pitches.{Scope, sounds_of, scope_after_all}
+use Rattle.reader.specs.Pitches.{sounds_of, scope_after_all}
 use Rattle.reader.specs.Token.{Token, space, overlay, quoted, broken, tuplet, slur, graceOpen, graceClose, decoration, barline, volta, unit, meter, key, field, chord, rest, note, nothing, skipped, refused}
 use Rattle.reader.specs.Tokens.{tokens}
 use Rattle.reader.specs.Text.{text_lines}
 use Rattle.reader.specs.Lines as lines
 use Rattle.reader.specs.Lines.{is_v, Kind, kind_of}
 use Rattle.reader.specs.Tokens.{Effect}
-use Rattle.reader.specs.Steps.{TextLine, Step, refuse, on, run, items_of}
+use Rattle.reader.specs.Steps.{TextLine, refuse, on, run, items_of}
 use Rattle.reader.specs.Scan.{Item, voice_declared, reset, keyInHeader, key_change, meter_change, lyric_line, music_line, Env, ScanState, begin, most_lines, most_voices, with_unnamed, voices_before, with_voices, at, first_refusal, play_on, voice_on, unit_on, act, step, scan, Items, Out}
-use Rattle.reader.specs.Answer.{Verdict, refusal, reading, Outcome, early, is_music, built, parts, ended, finish, scanned, unless, parse_abc}
+use Rattle.reader.specs.Answer.{Verdict, reading, Outcome, early, is_music, built, parts, finish, scanned, unless, parse_abc}
 use Rattle.blocks.specs.Demand.{Accepted, identifier}
 use Rattle.blocks.proofs.LineKinds.{Names, voice_begins}
 use Rattle.blocks.proofs.Instance.{reader}
 use Rattle.blocks.proofs.Keeps.{laws}
-use Rattle.blocks.proofs.Runs.{mine_append, Run, stop, then, run_run, run_of, run_cut, run_join, run_one}
+use Rattle.blocks.proofs.Runs.{mine_append, Run, stop, then, run_of, run_cut, run_join, run_one}
 use Rattle.blocks.proofs.End.{Not, early_not, late_no, ended_reading}
-use Rattle.reader.specs.State.{Group, Note, Measure, Volta, voltaAlone, voltaEnds, Half, Running, Line, Verses, PartState, with_beam, with_left, with_right, with_meter, with_key_mark, with_volta, set_key, set_scopes, set_measures, set_pending, set_verses, set_line, with_run, with_overlay, with_half, with_tuplet, with_unit, with_time, no_scopes, new_measure, new_line, new_part, on_open, is_empty, voice_in, voice_now, set_voice}
+use Rattle.reader.specs.State.{Note, Measure, voltaAlone, voltaEnds, Half, Running, Line, Verses, PartState, with_beam, with_right, with_meter, with_key_mark, with_volta, set_scopes, set_measures, set_verses, set_line, with_run, with_overlay, with_half, with_tuplet, with_time, no_scopes, new_measure, new_line, new_part, on_open, is_empty, voice_in, voice_now, set_voice}
 use Rattle.reader.specs.Part as part
 use Rattle.reader.specs.Part.{Part, no_flags, halved_note, broken_note, on_broken, after_half, can_beam, beamed, run_after, beamed_again, on_nothing, grouped, one_fewer, counted_in, append, rest_note, sound_note, on_sound, left_set, on_barline, hears, on_token, opened, line_begins, on_line, on_lyric, on_key, first_key, on_item, dropped, in_order, marked_by, marked, finished_measures, finished, build, empty_part}
 use Rattle.reader.specs.Lyrics.{Syllable, sung_in}

@@ -1,14 +1,12 @@
 -- ONE QUOTED TEXT OR DECORATION FOR ANOTHER changes no record: a music line goes into a reading by its tokens alone. Assumes nothing.
 use Prim.Native.Nat.{ℕ, zero, suc, max}
 use mathlib.Core.Path.{◌≡◌, refl, sym, ap, subst, ◌∙◌}
-use mathlib.Core.Bool.{Bool, true, false, cond, not, ◌||◌, false≢true}
+use mathlib.Core.Bool.{Bool, true, false, cond, not, ◌||◌}
 use mathlib.Core.Option.{Option, none, some}
 use mathlib.Core.List.{List, [], ◌∷◌, ◌++◌, map}
-use native.Mathlib.Omega.{arith}
-use lib.Dec.{eqb, ltb}
-use lib.ListN.{length, drop}
+use lib.Dec.{eqb}
+use lib.ListN.{length}
 use Rattle.laws.specs.Lists.{foldl, all, any}
-use Rattle.laws.proofs.Bools.{by_test}
 use Rattle.laws.proofs.Lists.{foldl_append}
 use Rattle.standard.specs.Keys.{Key}
 use Rattle.standard.specs.Fields.{Meter}
@@ -16,15 +14,15 @@ use Rattle.editions.specs.declared.Edition.{Edition}
 use Rattle.reader.specs.Text.{text_lines, clean, has_high}
 use Rattle.reader.specs.Token.{Token}
 use Rattle.reader.specs.Tokens.{Effect, tokens, effects, effect_of}
-use Rattle.reader.specs.Lines.{Kind, music, kind_of}
+use Rattle.reader.specs.Lines.{Kind, music}
 use Rattle.reader.specs.Steps.{TextLine, refuse, on, run, items_of}
 use Rattle.reader.specs.Scan.{Item, music_line, Items, Out, Env, ScanState, begin, first_refusal, play_on, act, step, scan}
 use Rattle.reader.specs.State.{PartState, new_part}
-use Rattle.reader.specs.Part.{on_token, line_begins, on_line, on_item, finished, build, empty_part, Part}
-use Rattle.reader.specs.Answer.{Verdict, reading, is_music, built, parts, parse_abc}
+use Rattle.reader.specs.Part.{on_token, line_begins, on_line, on_item, finished, build, empty_part}
+use Rattle.reader.specs.Answer.{reading, is_music, built, parts, parse_abc}
 use Rattle.blocks.specs.Demand.{Accepted}
 use Rattle.blocks.proofs.Instance.{reader}
-use Rattle.blocks.proofs.Runs.{mine_append, Run, then, run_run, run_of, run_cut, run_one}
+use Rattle.blocks.proofs.Runs.{mine_append, Run, then, run_of, run_cut, run_one}
 use Rattle.promises.specs.Free.{IsMusicRow, Sign, quote, bang, plus}
 use Rattle.promises.proofs.SameTally.{Scanned, accepted_scan, went, not_on}
 use Rattle.promises.proofs.Free.{quoted_token, bang_token, plus_token}

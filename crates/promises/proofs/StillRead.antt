@@ -1,7 +1,6 @@
 -- A TEXT WHOSE LINES ARE THE SAME ONCE CUT AND TRIMMED IS READ, TOO, where it passes the four tests before the first line and its reading store is no shorter. Assumes nothing.
 use Prim.Native.Nat.{ℕ, ◌≤◌}
 use mathlib.Core.Path.{◌≡◌, refl, sym, ap, subst, ◌∙◌}
-use mathlib.Core.Bool.{Bool, true, false}
 use mathlib.Core.Option.{Option, none, some}
 use mathlib.Core.List.{List, map}
 use native.Mathlib.Omega.{arith}
@@ -15,7 +14,7 @@ use Rattle.reader.specs.Text.{text_lines, clean}
 use Rattle.reader.specs.Steps.{refuse, on}
 use Rattle.reader.specs.Scan.{Items, Out, ScanState, scan}
 use Rattle.reader.specs.Part.{Part}
-use Rattle.reader.specs.Answer.{Outcome, refused_with, early, encode, measure_count, written, ended, finish, scanned, unless, parse_abc}
+use Rattle.reader.specs.Answer.{Outcome, early, encode, measure_count, written, ended, finish, scanned, unless, parse_abc}
 use Rattle.blocks.specs.Demand.{Accepted}
 use Rattle.blocks.proofs.End.{Not, early_not, late_no}
 use Rattle.promises.specs.Refusals.{parts_after, Begins}

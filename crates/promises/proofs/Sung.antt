@@ -226,7 +226,7 @@ all_take pre n (m ∷ ms) e =
     let t = filter is_sung (tagged 0 v) in
     let r = filter is_sung (all_notes ms) in
     let q : filter is_sung (by_voice 0 m.voices ++ all_notes ms) ≡ t ++ r = filter_append is_sung (by_voice 0 m.voices) (all_notes ms) ∙ ap (λ (l : List (ℕ × Note)). l ++ r) (voice_0 m.voices) in
-    rw q (
+    subst (λ (l : List (ℕ × Note)). All (All (Taker (pre ++ l))) (takers n v ∷ takers_in (n + sounded_in v) ms)) (sym q) (
       takers_take pre r n v e,
       subst (λ (l : List (ℕ × Note)). All (All (Taker l)) (takers_in (n + sounded_in v) ms)) (append_assoc pre t r)
           (all_take (pre ++ t) (n + sounded_in v) ms (omega (arith, length-append pre t, sung_count v, e))),

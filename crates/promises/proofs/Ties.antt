@@ -1,17 +1,17 @@
 -- THE NOTES THAT THE TALLY LEAVES OUT ARE THOSE THAT TAKE A TIE: in every part as many as its tokens say (`left-out-is`), since a note or chord that is read while a tie is pending
 -- bears the tie end flag, and nothing else changes that flag. So what a V: line does to them is told from the tokens alone. Assumes nothing.
 use Prim.Native.Nat.{ℕ, zero, suc, ◌+◌, ◌<◌}
-use mathlib.Core.Path.{◌≡◌, refl, sym, ap, subst, ◌∙◌}
-use mathlib.Core.Bool.{Bool, true, false, cond, not, ◌&&◌, ◌||◌, false≢true}
-use mathlib.Core.Option.{Option, none, some}
-use mathlib.Core.List.{List, [], ◌∷◌, ◌++◌, map, reverse}
-use native.Mathlib.Nat.{not-suc-le-zero}
+use mathlib.Core.Path.{◌≡◌, refl, sym, ap, ◌∙◌}
+use mathlib.Core.Bool.{Bool, true, false, cond, ◌&&◌, false≢true}
+use mathlib.Core.Option.{none}
+use mathlib.Core.List.{List, [], ◌∷◌, map, reverse}
+use native.Mathlib.Nat.{not-suc-le-zero, zero-add}
 use native.Mathlib.Omega.{arith}
 use lib.Dec.{eqb}
-use lib.ListN.{length, get_or}
-use Rattle.laws.specs.Lists.{foldl, all, any, sum, alter_at, on_first, is_nil}
-use Rattle.laws.proofs.Bools.{by_test, and_left, and_right, not_true, or_no_left, or_no_right}
-use Rattle.laws.proofs.Lists.{foldl_append, foldl_view, length_filter, sum_append, sum_map, sum_put_more, sum_reverse, sum_same}
+use lib.ListN.{length}
+use Rattle.laws.specs.Lists.{foldl, all, sum, alter_at, on_first, is_nil}
+use Rattle.laws.proofs.Bools.{by_test}
+use Rattle.laws.proofs.Lists.{foldl_view, length_filter, sum_append, sum_map, sum_put_more, sum_reverse, sum_same}
 use Rattle.standard.specs.Keys.{Key}
 use Rattle.standard.specs.Fields.{Meter}
 use Rattle.standard.specs.Lengths.{Value}
@@ -24,17 +24,17 @@ use Rattle.reader.specs.Lengths.{Length, value_of}
 use Rattle.reader.specs.Token.{Token, space, overlay, quoted, broken, tuplet, slur, graceOpen, graceClose, decoration, barline, volta, unit, meter, key, field, chord, rest, note, nothing, skipped, refused}
 use Rattle.reader.specs.Tokens.{tokens}
 use Rattle.reader.specs.Barlines.{left_of}
-use Rattle.reader.specs.Scan.{Item, voice_declared, reset, keyInHeader, key_change, meter_change, lyric_line, music_line, Env}
-use Rattle.reader.specs.State.{Note, Measure, PartState, with_beam, with_voices, with_right, with_meter, with_key_mark, with_volta, on_open, is_empty, voice_in, voice_now, set_voice, new_measure, new_part}
+use Rattle.reader.specs.Scan.{Item, voice_declared, reset, keyInHeader, key_change, meter_change, lyric_line, music_line}
+use Rattle.reader.specs.State.{Note, voltaBegins, Measure, PartState, with_beam, with_voices, with_right, with_meter, with_key_mark, with_volta, on_open, is_empty, voice_in, voice_now, set_voice, new_measure, new_part}
 use Rattle.reader.specs.Voltas.{close, closed}
-use Rattle.reader.specs.Part.{Part, broken_note, on_broken, after_half, can_beam, beamed, beamed_again, on_nothing, grouped, append, rest_note, sound_note, on_sound, left_set, ended, on_barline, hears, on_token, opened, line_begins, on_line, on_lyric, on_key, on_item, dropped, in_order, marked, finished_measures, finished, build, empty_part}
+use Rattle.reader.specs.Part.{Part, broken_note, on_broken, after_half, can_beam, beamed, beamed_again, on_nothing, grouped, append, rest_note, sound_note, on_sound, left_set, ended, on_barline, hears, on_token, opened, line_begins, on_line, on_lyric, on_key, on_item, dropped, in_order, marked, finished_measures, finished, build}
 use Rattle.reader.specs.Records.{tagged, by_voice, all_notes, notes_of}
-use Rattle.reader.specs.Answer.{is_music, built}
+use Rattle.reader.specs.Answer.{is_music}
 use Rattle.reader.specs.Tally.{is_held, left_out}
 use Rattle.reader.proofs.Sizes.{Fours}
 use Rattle.reader.proofs.LineLaws as lines
 use Rattle.reader.proofs.LineLaws.{Ready, ready_token, ready_begins, kept_item}
-use Rattle.promises.specs.Ties.{behind_sound, tie_behind, takes_tie, is_sound, ties_taken, is_reset, tokens_of, tie_after, tie_pending, held_by, sound_comes, tie_ended, no_tie_ended}
+use Rattle.promises.specs.Ties.{tie_behind, takes_tie, ties_taken, tokens_of, tie_after, tie_pending, held_by}
 use Rattle.promises.proofs.NoteLaws.{Kept, broken_kept, half_kept, again_kept, grouped_kept, left_voices, voices_of, close_voices, marked_voices}
 
 -- HELD NOTES, of a voice, of a measure's voices, of measures
@@ -129,7 +129,7 @@ ended_held b o t [] = refl
 ended_held b o t (m ∷ ms) = by_test (is_empty m) (λ e. rw (e, ended) (open_held (left_set b) (left_voices b) (m ∷ ms))) (λ e. rw (e, ended) (go o))
   where
     go : (o : Bool) → held (cond o (new_measure t (left_of b) ∷ with_right b m ∷ ms) (with_right b m ∷ ms)) ≡ held (m ∷ ms)
-    go true = refl
+    go true = zero-add _
     go false = refl
 
 -- ANY TOKEN
@@ -145,7 +145,7 @@ token_held s graceOpen r = omega arith
 token_held s graceClose r = omega arith
 token_held s decoration r = omega arith
 token_held s (barline b o) r = omega (arith, ended_held b o s.line.meter s.measures)
-token_held s (volta ps) r = omega (arith, open_held _ (λ m. refl) s.measures)
+token_held s (volta ps) r = omega (arith, open_held (with_volta voltaBegins ps) (λ m. refl) s.measures)
 token_held s (unit u) r = omega arith
 token_held s (meter t) r = omega (arith, open_held (with_meter t) (λ m. refl) s.measures)
 token_held s (key k) r = omega (arith, open_held (with_key_mark k) (λ m. refl) s.measures)
@@ -263,7 +263,7 @@ pending_is ed h is = foldl_view (λ (s : PartState). s.pending.tie) (on_item ed 
 -- THE END OF A PART
 empty_held : (vs : List (List Note)) → all is_nil vs ≡ true → in_voices vs ≡ 0
 empty_held [] h = refl
-empty_held ([] ∷ vs) h = empty_held vs h
+empty_held ([] ∷ vs) h = zero-add _ ∙ empty_held vs h
 empty_held ((x ∷ xs) ∷ vs) h = absurd (false≢true h)
 
 dropped_held : (ms : List Measure) → held (dropped ms) ≡ held ms

@@ -1,5 +1,5 @@
 -- WHAT COSTS NOTHING: lines, and signs of a music line, that change no record of a reading.
-use Rattle.std.specs.Prelude.{ℕ, ◌≡◌, true, false, List}
+use Rattle.std.specs.Prelude.{ℕ, ◌≡◌, true, false}
 use Rattle.laws.specs.Lists.{is_nil}
 use Rattle.editions.specs.declared.Edition.{Edition}
 use Rattle.reader.specs.Text.{clean, has_high}

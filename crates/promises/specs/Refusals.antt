@@ -1,5 +1,5 @@
 -- EACH REFUSAL UNDER ITS CONDITION (document 01, "Who can be refused", and document 02, T-01, T-03 and T-04): the twenty conditions by their numbers, and the order in which they are met.
-use Rattle.std.specs.Prelude.{ℕ, suc, ◌+◌, ◌≤◌, ◌<◌, max, ◌≡◌, Bool, true, false, not, ◌&&◌, ◌||◌, List, [], ◌∷◌, ◌++◌, map, length, take, drop}
+use Rattle.std.specs.Prelude.{ℕ, suc, ◌+◌, ◌≤◌, ◌<◌, max, ◌≡◌, Bool, true, false, not, ◌&&◌, ◌||◌, List, ◌∷◌, ◌++◌, map, length, take, drop}
 use Rattle.std.proofs.Math.Option.{Option, none, some}
 use Rattle.laws.specs.Lists.{elem, is_nil, all, any, sum, count_while, starts_with}
 use Rattle.standard.specs.Bytes.{ascii, is, is_digit, first}
@@ -17,7 +17,7 @@ use Rattle.standard.specs.Passes.{Item}
 use Rattle.reader.specs.PassLists.{list_items, numbers_in, is_pass, rise, is_pass_byte}
 use Rattle.reader.specs.Inline.{is_inline}
 use Rattle.reader.specs.Token.{Token}
-use Rattle.reader.specs.Tokens.{Effect, counts, refuses, effect_of, more, less, bracket, pitched, resting, class_of, token_of, tokens}
+use Rattle.reader.specs.Tokens.{counts, effect_of, more, less, bracket, pitched, resting, class_of, token_of, tokens}
 use Rattle.reader.specs.Lines.{is_v, is_k, is_l, is_m, is_x, is_lyric, is_field}
 use Rattle.reader.specs.Steps.{TextLine, on, run, items_of}
 use Rattle.reader.specs.Scan.{Items, ScanState, begin, most_lines, most_voices, most_notes, note_count, voices_before, first_refusal, step, scan}

@@ -15,7 +15,7 @@ use Rattle.reader.specs.Records.{measure_width}
 use Rattle.reading_sections.specs.Sections.{behind, record_at}
 use Rattle.reading_list.specs.Numbers.{number_at}
 use Rattle.reading_list.proofs.Numbers.{written_none, written_more}
-use Rattle.reading_walk.specs.Walk.{Bar, opens, closes, is_skipped}
+use Rattle.reading_walk.specs.Walk.{opens, closes, is_skipped}
 use Rattle.reading_walk.specs.Spans.{open_before, bar_at, bars_of}
 use Rattle.reading_walk.specs.Passes.{played_at, played_past, segment, Walking, Listing, Closed}
 use Rattle.reading_walk.proofs.Bars.{bar_get, bar_none}

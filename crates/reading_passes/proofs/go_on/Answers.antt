@@ -1,5 +1,4 @@
 -- `reading_passes::go_on` meets its contract.
-use borrow.Author.Rules.{rules}
 use Rattle.reading_passes.proofs.Leaves.{limit_later, leave_open}
 use Rattle.reading_passes.proofs.go_on.Goals as goal
 

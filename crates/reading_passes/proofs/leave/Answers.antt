@@ -19,7 +19,7 @@ pub returns-then-w-limit : goal.returns-then-w-limit
 returns-then-w-limit c =
     let l = c.limit_of-limit in
     let p = c.requires in
-    leave_again _ _ _ _ _ p.1 _ l.ensures.1 l.ensures.0 _ (add-one _) c.if-w-limit.true
+    leave_again _ _ _ _ _ p.1 _ l.ensures.limit_is l.ensures.section_lt_end _ (add-one _) c.if-w-limit.true
 
 pub overflow_add-result-2 : goal.overflow_add-result-2
 overflow_add-result-2 c = let p = c.requires in omega (arith, p.0.few, p.1.in_part)
@@ -31,4 +31,4 @@ pub returns : goal.returns
 returns c =
     let l = c.limit_of-limit in
     let p = c.requires in
-    leave_over _ _ _ _ _ p.1 _ l.ensures.1 l.ensures.0 _ (add-one _) c.if-w-limit.false
+    leave_over _ _ _ _ _ p.1 _ l.ensures.limit_is l.ensures.section_lt_end _ (add-one _) c.if-w-limit.false

@@ -3,9 +3,8 @@ use mathlib.Core.Path.{◌≡◌, sym, ◌∙◌}
 use mathlib.Core.Bool.{true, ◌&&◌}
 use native.Mathlib.Omega.{arith}
 use lib.Dec.{leb, ltb}
-use borrow.Author.Rules.{rules}
 use borrow.Author.Tests.{leb-true, ltb-true}
-use Rattle.laws.proofs.Bools.{not_false, and_left, and_right}
+use Rattle.laws.proofs.Bools.{and_left, and_right}
 use Rattle.reading_passes.proofs.Again.{listed_again}
 use Rattle.reading_passes.proofs.one_pass.Goals as goal
 
@@ -20,4 +19,4 @@ returns c =
     let p = c.requires in
     let a = c.args in
     let k : (leb a.kept.least a.start.at && ltb a.start.at a.kept.end) ≡ true = sym c.is_kept.ensures ∙ c.if-not-is_kept.false in
-    listed_again _ _ _ _ _ _ _ _ p.0.2 p.1.0 p.1.1 _ (leb-true _ _ (and_left (leb a.kept.least a.start.at) (ltb a.start.at a.kept.end) k)) (ltb-true _ _ (and_right (leb a.kept.least a.start.at) (ltb a.start.at a.kept.end) k)) c.repeat_numbers-c.ensures
+    listed_again _ _ _ _ _ _ _ _ p.here.2 p.kept_is.0 p.kept_is.1 _ (leb-true _ _ (and_left (leb a.kept.least a.start.at) (ltb a.start.at a.kept.end) k)) (ltb-true _ _ (and_right (leb a.kept.least a.start.at) (ltb a.start.at a.kept.end) k)) c.repeat_numbers-c.ensures

@@ -3,7 +3,7 @@ use mathlib.Core.Path.{refl}
 use native.Mathlib.Omega.{arith}
 use lib.ListN.{get_or-replicate}
 use borrow.Author.Rules.{rules}
-use Rattle.reading_passes.proofs.Playing.{Playing, rank_of, rank_less, went_in, playing_start, playing_lists, playing_starts, playing_end, playing_full, playing_on, room_same}
+use Rattle.reading_passes.proofs.Playing.{rank_less, went_in, playing_start, playing_lists, playing_starts, playing_end, playing_full, playing_on, room_same}
 use Rattle.reading_passes.proofs.play.Goals as goal
 
 pub loop-x-init : goal.loop-x-init
@@ -18,10 +18,11 @@ bounds-kept-pass c = let o = c.loop-x.invariant.stands.pass_most in omega (arith
 pub one_pass-w-requires : goal.one_pass-w-requires
 one_pass-w-requires c =
     let l = c.loop-x in
-    let p = c.requires in (
-      (p.0, room_same _ _ _ p.1 l.invariant.long, playing_starts _ _ _ _ _ _ _ _ _ p.0 p.1 l.invariant c.loop-x-test.true),
-      (l.invariant.kept _ l.x.pass (omega (arith, l.invariant.stands.pass_most)), playing_lists _ _ _ _ _ _ _ _ _ p.0 p.1 l.invariant),
-    )
+    let p = c.requires in
+    record {
+      here = (p.0, room_same _ _ _ p.1 l.invariant.long, playing_starts _ _ _ _ _ _ _ _ _ p.0 p.1 l.invariant c.loop-x-test.true);
+      kept_is = (l.invariant.kept _ l.x.pass (omega (arith, l.invariant.stands.pass_most)), playing_lists _ _ _ _ _ _ _ _ _ p.0 p.1 l.invariant);
+    }
 
 pub shape_of-list-then-w : goal.shape_of-list-then-w
 shape_of-list-then-w c = search (rules, c.loop-x.invariant.long)

@@ -1,9 +1,5 @@
 -- `reading_passes::play` meets its contract: pass after pass, as proofs/Playing has it.
-use mathlib.Core.Path.{refl}
-use native.Mathlib.Omega.{arith}
-use lib.ListN.{get_or-replicate}
-use borrow.Author.Rules.{rules}
-use Rattle.reading_passes.proofs.Playing.{Playing, rank_of, rank_less, went_in, playing_start, playing_lists, playing_starts, playing_end, playing_full, playing_on, room_same}
+use Rattle.reading_passes.proofs.Playing.{Playing, rank_of}
 use Rattle.reading_passes.proofs.play.Given as goal
 
 abbrev pub invariant-loop-x : goal.invariant-loop-x

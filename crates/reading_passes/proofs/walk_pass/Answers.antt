@@ -1,15 +1,14 @@
 -- `reading_passes::walk_pass` meets its contract: measure by measure, as proofs/Walks has it.
-use Prim.Native.Nat.{ℕ, ◌-◌}
+use Prim.Native.Nat.{ℕ}
 use mathlib.Core.Path.{sym, ap, ◌∙◌}
-use mathlib.Core.Logic.{⊎_elim}
 use native.Mathlib.Numerals.{add-one}
 use native.Mathlib.Omega.{arith}
 use borrow.Author.Rules.{rules}
 use Rattle.laws.specs.Bytes.{le32, splice}
-use Rattle.laws.proofs.Bools.{not_true, not_false}
 use Rattle.reading_list.specs.Numbers.{number_at}
-use Rattle.reading_passes.proofs.Walks.{Going, seen, record_in, going_start, going_skip, going_enter, plays_full, plays_on, plays_close, plays_open, going_end}
+use Rattle.reading_passes.proofs.Walks.{seen, record_in, going_start, going_skip, going_enter, plays_full, plays_on, plays_close, plays_open, going_end}
 use Rattle.reading_passes.proofs.walk_pass.Goals as goal
+use Rattle.reading_passes.proofs.walk_pass.Goals.{then-not-is_skipped+else-count-room+else-closes+else-start-p, else-not-is_skipped}
 
 -- src/lib.rt:99:5
 pub loop-at-init : goal.loop-at-init
@@ -119,13 +118,13 @@ loop-at-preserved c =
     let p = c.requires in
     let h = c.loop-at-test.true in
     let sn = seen _ _ _ _ _ l.invariant.listed.span_is c.bar_at-bar.ensures in
-    ⊎_elim
-    (λ w.
-    let g = going_enter _ _ _ _ _ _ p.0 p.2 _ _ _ _ _ _ h l.invariant sn (sym c.is_skipped.ensures ∙ not_true _ w.0.taken) w.1.ensures in
-    rw (w.12, w.13)
-    (plays_on _ _ _ _ _ _ p.0 p.2 _ _ _ _ _ g _ _ sn w.2.left (w.4.ensures ∙ ap (λ (x : ℕ). splice l.list (number_at l.count) (le32 x)) (add-one l.at)) _ _ (add-one l.count) (add-one l.at) (sym w.7.ensures ∙ w.8.left) w.11.left))
-    (λ w. rw (w.1, w.2) (going_skip _ _ _ _ _ _ p.0 p.2 _ _ _ _ _ _ (add-one l.at) h l.invariant sn (sym c.is_skipped.ensures ∙ not_false _ w.0.left)))
-    c.if-not-is_skipped.branch
+    elim c.if-not-is_skipped.branch [
+      | then-not-is_skipped+else-count-room+else-closes+else-start-p w ↦
+          let g = going_enter _ _ _ _ _ _ p.0 p.2 _ _ _ _ _ _ h l.invariant sn (sym c.is_skipped.ensures ∙ w.if-not-is_skipped.true) w.enter-p.ensures in
+          rw (w.list-is, w.count-is)
+          (plays_on _ _ _ _ _ _ p.0 p.2 _ _ _ _ _ g _ _ sn w.if-count-room.false (w.put_number.ensures ∙ ap (λ (x : ℕ). splice l.list (number_at l.count) (le32 x)) (add-one l.at)) _ _ (add-one l.count) (add-one l.at) (sym w.closes.ensures ∙ w.if-closes.false) w.if-start-p.false)
+      | else-not-is_skipped w ↦ rw (w.list-is, w.count-is) (going_skip _ _ _ _ _ _ p.0 p.2 _ _ _ _ _ _ (add-one l.at) h l.invariant sn (sym c.is_skipped.ensures ∙ w.if-not-is_skipped.false))
+    ]
 
 -- src/lib.rt:85:1
 pub shape_of-list : goal.shape_of-list

@@ -1,9 +1,7 @@
 -- `reading_played::has_part` meets its contract.
 use mathlib.Core.Path.{sym, ap, ◌∙◌}
 use native.Mathlib.Omega.{arith}
-use borrow.Author.Rules.{rules}
 use lib.Dec.{leb}
-use Rattle.laws.proofs.Bools.{not_true, not_false}
 use Rattle.reading_whole.proofs.Parts.{whole_room}
 use Rattle.reading_played.proofs.Calls.{part_broken, part_zero, part_there}
 use Rattle.reading_played.proofs.has_part.Goals as goal

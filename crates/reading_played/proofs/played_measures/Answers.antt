@@ -2,7 +2,6 @@
 use mathlib.Core.Path.{sym, ap, ◌∙◌}
 use native.Mathlib.Omega.{arith}
 use borrow.Author.Rules.{rules}
-use Rattle.laws.proofs.Bools.{not_true, not_false}
 use Rattle.reading_walk.specs.Played.{Outcome}
 use Rattle.reading_played.proofs.Calls.{part_is, call_refused, call_listed}
 use Rattle.reading_played.proofs.Parts.{part_room, part_listed, part_here}
@@ -12,7 +11,7 @@ pub returns-then-not-has_part : goal.returns-then-not-has_part
 returns-then-not-has_part c =
     let r = c.refuse.ensures in
     let e = call_refused _ _ _ (sym c.has_part.ensures ∙ c.if-not-has_part.true) in
-    (r.0 ∙ ap (λ (o : Outcome). o.answer) e, r.1 ∙ ap (λ (o : Outcome). o.store) e)
+    record { result_value = r.result_value ∙ ap (λ (o : Outcome). o.answer) e; list_after = r.list_after ∙ ap (λ (o : Outcome). o.store) e }
 
 pub overflow_sub-part : goal.overflow_sub-part
 overflow_sub-part c = let p = part_is _ _ (sym c.has_part.ensures ∙ c.if-not-has_part.false) in omega (arith, p.least)
@@ -37,4 +36,4 @@ returns c =
     let r = c.write_list.ensures in
     let h = sym c.has_part.ensures ∙ c.if-not-has_part.false in
     let e = part_listed _ _ _ _ c.part_at-at.ensures ∙ call_listed _ _ _ h in
-    (r.0 ∙ ap (λ (o : Outcome). o.answer) e, r.1 ∙ ap (λ (o : Outcome). o.store) e)
+    record { result_value = r.result_value ∙ ap (λ (o : Outcome). o.answer) e; list_after = r.list_after ∙ ap (λ (o : Outcome). o.store) e }

@@ -11,7 +11,7 @@ pub returns-then-list-lt-COUNT : goal.returns-then-list-lt-COUNT
 returns-then-list-lt-COUNT c =
     let r = c.refuse.ensures in
     let e = list_short _ _ c.if-list-lt-COUNT.true in
-    (r.0 ∙ ap (λ (o : Outcome). o.answer) e, r.1 ∙ ap (λ (o : Outcome). o.store) e)
+    record { result_value = r.result_value ∙ ap (λ (o : Outcome). o.answer) e; list_after = r.list_after ∙ ap (λ (o : Outcome). o.store) e }
 
 pub play-c-requires : goal.play-c-requires
 play-c-requires c = search rules
@@ -21,9 +21,9 @@ returns-then-c c =
     let a = c.args in
     let r = c.refuse-then-c.ensures in
     let e =
-    ap (refused_with 20) c.list-2-1.given
+    ap (refused_with 20) c.play-c.auto.list
     ∙ list_full (all_of a.reading.now a.part) _ _ c.if-list-lt-COUNT.false c.room_of-room.ensures (c.play-c.ensures.no_room c.if-c.true) in
-    (r.0 ∙ ap (λ (o : Outcome). o.answer) e, r.1 ∙ ap (λ (o : Outcome). o.store) e)
+    record { result_value = r.result_value ∙ ap (λ (o : Outcome). o.answer) e; list_after = r.list_after ∙ ap (λ (o : Outcome). o.store) e }
 
 pub overflow_cast-c : goal.overflow_cast-c
 overflow_cast-c c = let p = c.play-c.ensures.count_is c.if-c.false in omega (arith, p.1, c.room_of-room.ensures)
@@ -37,10 +37,11 @@ overflow_add-end c = let p = c.play-c.ensures.count_is c.if-c.false in omega (ar
 pub clear-requires : goal.clear-requires
 clear-requires c =
     let p = c.play-c.ensures.count_is c.if-c.false in
-    omega (arith, p.1, c.room_of-room.ensures, c.if-list-lt-COUNT.false, c.list-3-1.given, c.list-2-1.given)
+    omega (arith, p.1, c.room_of-room.ensures, c.if-list-lt-COUNT.false, c.put_u32.auto.store, c.play-c.auto.list)
 
 pub returns : goal.returns
 returns c =
     let p = c.play-c.ensures in
     let f = c.if-c.false in
-    list_fits _ _ _ _ _ _ _ _ c.if-list-lt-COUNT.false c.room_of-room.ensures (p.count_is f).0 (p.count_is f).1 refl (p.store f) c.put_u32.ensures c.clear.ensures
+    let e = list_fits _ _ _ _ _ _ _ _ c.if-list-lt-COUNT.false c.room_of-room.ensures (p.count_is f).0 (p.count_is f).1 refl (p.store f) c.put_u32.ensures c.clear.ensures in
+    record { result_value = e.0; list_after = e.1 }
