@@ -10,13 +10,13 @@ use lib.Dec.{eqb}
 use borrow.Author.Tests.{eq-eqb, ne_eqb}
 use lib.ListN.{length, get_or}
 use Rattle.laws.specs.Lists.{all, alter_at}
-use Rattle.laws.specs.Bytes.{part, splice, over, little, le32, u32_at}
+use Rattle.laws.specs.Bytes.{part, splice, little, le32, u32_at}
 use Rattle.laws.proofs.Bools.{and_true, eqb_sym}
 use Rattle.laws.proofs.Numbers.{little_at_part, little_at_little, little_at_own}
 use Rattle.standard.specs.Keys.{Key}
-use Rattle.standard.specs.Bars.{Barline, normal}
+use Rattle.standard.specs.Bars.{Barline}
 use Rattle.standard.specs.Fields.{Meter}
-use Rattle.reader.specs.State.{Volta, noVolta, voltaBegins}
+use Rattle.reader.specs.State.{voltaBegins}
 use Rattle.reader.specs.Codes.{barline_code, volta_code, mode_code}
 use Rattle.reader.specs.Records.{key_mark_bytes, pass_bits, signed8, measure_width}
 use Rattle.part_layout.specs.Log.{Head, new_head, with_counts, with_left, with_right, with_meter, with_key_mark, with_volta, is_empty_head}

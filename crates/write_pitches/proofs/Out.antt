@@ -5,7 +5,7 @@ use mathlib.Core.Bool.{Bool, true, false, cond}
 use mathlib.Core.List.{List, [], ◌∷◌, ◌++◌, map, append-nil}
 use native.Mathlib.Omega.{arith}
 use lib.Dec.{eqb}
-use lib.ListN.{length, get_or, take, drop, length-append, length-take, length-drop, take-append-drop}
+use lib.ListN.{length, take, drop, length-append, length-take, length-drop, take-append-drop}
 use Rattle.laws.specs.Lists.{All, filter, concat, sum}
 use Rattle.laws.specs.Bytes.{part, splice, enc_all, little, le32, u32_at}
 use Rattle.laws.proofs.Lists.{map_append, concat_append, length_concat, sum_map}
@@ -13,12 +13,12 @@ use Rattle.laws.proofs.Parts.{length_part}
 use Rattle.laws.proofs.Numbers.{little_at_part, little_at_little, little_at_own}
 use Rattle.laws.proofs.Rows.{enc_all_none, enc_all_append}
 use Rattle.reader.specs.State.{Note}
-use Rattle.reader.specs.Records.{note_bytes, pitch_bytes, section, measure_width}
+use Rattle.reader.specs.Records.{pitch_bytes, section, measure_width}
 use Rattle.part_layout.specs.Log.{Head, notes_in}
-use Rattle.part_layout.specs.Sections.{head_bytes, of_voice, by_voice, in_order}
+use Rattle.part_layout.specs.Sections.{of_voice, by_voice, in_order}
 use Rattle.part_rows.specs.Table.{Table}
 use Rattle.part_rows.specs.Read.{of_voice_at, pitch_count}
-use Rattle.part_rows.specs.Encoded.{row_bytes, note_row, note_row_width, pitch_row_width, voice_at, pitch_count_at}
+use Rattle.part_rows.specs.Encoded.{row_bytes, note_row, note_row_width, pitch_row_width, pitch_count_at}
 use Rattle.part_rows.proofs.Bytes.{length_note, length_pitch}
 use Rattle.part_rows.proofs.Notes.{byte_voice}
 use Rattle.part_measures.specs.Heads.{head_row, note_count, total}

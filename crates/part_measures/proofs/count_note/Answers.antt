@@ -4,7 +4,6 @@ use mathlib.Core.Path.{ap, ◌∙◌}
 use native.Mathlib.Numerals.{add-one}
 use Rattle.laws.specs.Bytes.{splice, le32}
 use Rattle.reader.specs.Records.{measure_width}
-use borrow.Author.Rules.{rules}
 use Rattle.part_measures.proofs.count_note.Goals as goal
 
 pub returns : goal.returns

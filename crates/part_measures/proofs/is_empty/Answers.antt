@@ -1,6 +1,5 @@
 -- `part_measures::is_empty` meets its contract: the first count that is not 0 decides.
 use Rattle.part_measures.proofs.Heads.{has_first, has_second, has_third, last_decides}
-use borrow.Author.Rules.{rules}
 use Rattle.part_measures.proofs.is_empty.Goals as goal
 
 pub returns-then-get_u32-ne0 : goal.returns-then-get_u32-ne0

@@ -2,7 +2,6 @@
 use mathlib.Core.Path.{refl}
 use Rattle.laws.proofs.Splices.{spliced_next}
 use Rattle.part_measures.specs.Heads.{new_row}
-use borrow.Author.Rules.{rules}
 use Rattle.part_measures.proofs.put_measure.Goals as goal
 
 pub returns : goal.returns

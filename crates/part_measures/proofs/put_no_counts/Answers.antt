@@ -1,7 +1,6 @@
 -- `part_measures::put_no_counts` meets its contract: four writes, each where the last one ended.
 use mathlib.Core.Path.{refl}
 use Rattle.laws.proofs.Splices.{spliced_next}
-use borrow.Author.Rules.{rules}
 use Rattle.part_measures.proofs.put_no_counts.Goals as goal
 
 pub returns : goal.returns

@@ -6,7 +6,6 @@ use Rattle.laws.specs.Bytes.{splice}
 use Rattle.laws.proofs.Splices.{spliced_next}
 use Rattle.reader.specs.Records.{measure_width}
 use Rattle.part_measures.specs.Heads.{key_mark_at}
-use borrow.Author.Rules.{rules}
 use Rattle.part_measures.proofs.set_key_mark.Goals as goal
 
 pub returns : goal.returns

@@ -1,7 +1,6 @@
 -- `part_measures::set_meter` meets its contract: two writes, the second where the first ended.
 use mathlib.Core.Path.{refl}
 use Rattle.laws.proofs.Splices.{spliced_next}
-use borrow.Author.Rules.{rules}
 use Rattle.part_measures.proofs.set_meter.Goals as goal
 
 pub returns : goal.returns

@@ -1,7 +1,6 @@
 -- `part_measures::set_volta` meets its contract: three writes, each where the last one ended.
 use mathlib.Core.Path.{refl}
 use Rattle.laws.proofs.Splices.{spliced_next}
-use borrow.Author.Rules.{rules}
 use Rattle.part_measures.proofs.set_volta.Goals as goal
 
 pub returns : goal.returns

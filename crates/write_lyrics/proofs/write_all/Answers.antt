@@ -1,7 +1,6 @@
 -- `write_lyrics::write_all` meets its contract: all rows at once where all are of voice 0.
 use mathlib.Core.Path.{sym, ◌∙◌}
 use mathlib.Core.Bool.{false}
-use borrow.Author.Rules.{rules}
 use Rattle.lyrics.specs.Sheet.{syllables_in}
 use Rattle.write_lyrics.proofs.Leads.{passed_all}
 use Rattle.write_lyrics.proofs.write_all.Goals as goal

@@ -2,7 +2,6 @@
 use mathlib.Core.Path.{sym}
 use mathlib.Core.Bool.{true, false}
 use mathlib.Core.List.{◌++◌}
-use borrow.Author.Rules.{rules}
 use Rattle.write_notes.proofs.Out.{wrote_as_lem}
 use Rattle.write_lyrics.proofs.Silent.{section_silent}
 use Rattle.write_lyrics.proofs.write_lyrics.Goals as goal

@@ -1,17 +1,14 @@
 -- `write_lyrics::write_measures` meets its contract: measure after measure.
-use Prim.Native.Nat.{ℕ, ◌+◌, ◌-◌, ◌*◌, ◌≤◌}
-use mathlib.Core.Path.{◌≡◌, refl, sym, ap}
+use Prim.Native.Nat.{ℕ, ◌+◌, ◌-◌, ◌*◌}
+use mathlib.Core.Path.{refl, sym, ap}
 use mathlib.Core.Bool.{false}
 use native.Mathlib.Omega.{arith}
-use borrow.Author.Rules.{rules}
-use lib.ListN.{length}
 use Rattle.reader.specs.Records.{measure_width}
 use Rattle.part_rows.specs.Encoded.{note_row_width}
-use Rattle.part_measures.specs.Heads.{total}
 use Rattle.part_measures.proofs.Counts.{total_step}
-use Rattle.write_notes.proofs.Written.{Written, begin, written_in, written_as_lem, written_on_lem, written_none, written_all}
+use Rattle.write_notes.proofs.Written.{begin, written_in, written_as_lem, written_on_lem, written_none, written_all}
 use Rattle.lyrics.specs.Sheet.{syllables_in}
-use Rattle.write_lyrics.specs.Out.{sung_rows, sung_total, measures_out}
+use Rattle.write_lyrics.specs.Out.{sung_rows, measures_out}
 use Rattle.write_lyrics.proofs.Out.{passed_to, passed_none, sung_low, sung_total_step, sung_total_none, measures_step, measures_none}
 use Rattle.write_lyrics.proofs.write_measures.Goals as goal
 

@@ -1,6 +1,5 @@
 -- `write_lyrics::write_none` meets its contract: two counts.
 use native.Mathlib.Omega.{arith}
-use borrow.Author.Rules.{rules}
 use Rattle.store_sections.proofs.Writes.{told, in_store, next_to, next_none, none}
 use Rattle.write_lyrics.proofs.write_none.Goals as goal
 

@@ -2,7 +2,6 @@
 use mathlib.Core.Path.{refl}
 use mathlib.Core.Bool.{false}
 use native.Mathlib.Omega.{arith}
-use borrow.Author.Rules.{rules}
 use Rattle.write_lyrics.proofs.Out.{passed_to, passed_none, counted_short, counted_none, counted_fits, counted_wrote}
 use Rattle.write_lyrics.proofs.write_records.Goals as goal
 

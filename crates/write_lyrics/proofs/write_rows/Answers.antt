@@ -1,18 +1,16 @@
 -- `write_lyrics::write_rows` meets its contract: what is left of the rows gives what is left to write.
-use Prim.Native.Nat.{◌+◌, ◌-◌, ◌*◌, ◌≤◌}
-use mathlib.Core.Path.{◌≡◌, refl, sym, ◌∙◌}
+use Prim.Native.Nat.{◌+◌, ◌-◌}
+use mathlib.Core.Path.{refl, sym, ◌∙◌}
 use mathlib.Core.Bool.{false}
 use native.Mathlib.Omega.{arith}
 use native.Mathlib.Nat.{le_refl}
-use borrow.Author.Rules.{rules}
-use lib.ListN.{length}
 use Rattle.part_rows.specs.Encoded.{note_row_width}
 use Rattle.laws.proofs.Bools.{not_true, not_false}
 use Rattle.store_sections.proofs.Writes.{told}
-use Rattle.write_notes.proofs.Written.{Written, begin, written_in, written_as_lem, written_on_lem, written_none, written_all}
+use Rattle.write_notes.proofs.Written.{begin, written_in, written_as_lem, written_on_lem, written_none, written_all}
 use Rattle.lyrics.specs.Sheet.{syllables_in}
 use Rattle.part_rows.proofs.Notes.{row_other, row_rest, row_sung}
-use Rattle.write_lyrics.specs.Out.{sung_rows, rows_out}
+use Rattle.write_lyrics.specs.Out.{rows_out}
 use Rattle.write_lyrics.proofs.Out.{sung_other, sung_one, sung_none, rows_other, rows_rest, rows_sung, rows_none}
 use Rattle.write_lyrics.proofs.write_rows.Goals as goal
 

@@ -1,6 +1,5 @@
 -- `write_lyrics::write_sung` meets its contract: the texts of as many notes as the records passed.
 use native.Mathlib.Omega.{arith}
-use borrow.Author.Rules.{rules}
 use Rattle.store_sections.proofs.Writes.{told, in_store, next_to, next_none, none}
 use Rattle.lyrics.specs.Sheet.{syllables_in}
 use Rattle.write_notes.proofs.Out.{wrote_as_lem}

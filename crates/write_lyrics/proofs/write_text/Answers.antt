@@ -2,7 +2,6 @@
 use mathlib.Core.Path.{refl}
 use mathlib.Core.Bool.{true}
 use native.Mathlib.Omega.{arith}
-use borrow.Author.Rules.{rules}
 use Rattle.store_sections.proofs.Writes.{told}
 use Rattle.write_lyrics.proofs.Out.{counted_short, counted_none, counted_fits, counted_wrote}
 use Rattle.write_lyrics.proofs.write_text.Goals as goal

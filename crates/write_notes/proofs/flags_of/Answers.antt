@@ -1,6 +1,5 @@
 -- `write_notes::flags_of` meets its contract.
 use mathlib.Core.Path.{refl}
-use borrow.Author.Rules.{rules}
 use Rattle.reader.specs.Codes.{bit}
 use Rattle.write_notes.specs.Out.{is_lone}
 use Rattle.write_notes.proofs.Out.{flags_are}

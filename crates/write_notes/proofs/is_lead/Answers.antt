@@ -1,13 +1,7 @@
 -- `write_notes::is_lead` meets its contract.
-use Prim.Native.Nat.{◌+◌, ◌*◌, ◌≤◌}
-use mathlib.Core.Path.{◌≡◌, refl, sym, ◌∙◌}
+use mathlib.Core.Path.{refl, sym, ◌∙◌}
 use native.Mathlib.Omega.{arith}
-use lib.ListN.{length}
-use Rattle.part_rows.specs.Encoded.{note_row_width}
-use Rattle.laws.proofs.Bools.{not_true, not_false}
-use Rattle.write_notes.specs.Out.{leads}
 use Rattle.write_notes.proofs.Leads.{leads_yes, leads_no, leads_none}
-use borrow.Author.Rules.{rules}
 use Rattle.write_notes.proofs.is_lead.Goals as goal
 
 pub loop-left-init : goal.loop-left-init

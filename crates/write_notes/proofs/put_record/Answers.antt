@@ -1,7 +1,6 @@
 -- `write_notes::put_record` meets its contract.
 use native.Mathlib.Omega.{arith}
 use Rattle.write_notes.proofs.Out.{note_wrote}
-use borrow.Author.Rules.{rules}
 use Rattle.write_notes.proofs.put_record.Goals as goal
 
 pub returns : goal.returns

@@ -2,7 +2,6 @@
 use mathlib.Core.Path.{sym, ◌∙◌}
 use Rattle.write_notes.proofs.Out.{wrote_as_lem}
 use Rattle.write_notes.proofs.Leads.{lead_measures}
-use borrow.Author.Rules.{rules}
 use Rattle.write_notes.proofs.write_all.Goals as goal
 
 pub returns-then-lead : goal.returns-then-lead

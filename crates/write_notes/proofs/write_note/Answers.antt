@@ -1,7 +1,6 @@
 -- `write_notes::write_note` meets its contract.
 use native.Mathlib.Omega.{arith}
 use Rattle.write_notes.proofs.Out.{length_note_out}
-use borrow.Author.Rules.{rules}
 use Rattle.write_notes.proofs.write_note.Goals as goal
 
 pub returns-then-to-lt-NOTE : goal.returns-then-to-lt-NOTE

@@ -2,13 +2,12 @@
 use native.Mathlib.Omega.{arith}
 use Rattle.store_sections.proofs.Writes.{told, in_store, next_to, next_none, none}
 use Rattle.write_notes.proofs.Out.{notes_say}
-use borrow.Author.Rules.{rules}
 use Rattle.write_notes.proofs.write_notes.Goals as goal
 
 -- the count has no room
 pub returns-in_default : goal.returns-in_default
 returns-in_default c =
-    notes_say (none (told c.write_u32.ensures c.in_default.is) _)
+    let w = none (told c.write_u32.ensures c.in_default.is) _ in record { wrote_is = w; wrote_is_2 = (notes_say {t = c.args.t} w).1 }
 
 pub slice_bounds-write_all-count : goal.slice_bounds-write_all-count
 slice_bounds-write_all-count c = omega (arith, (in_store (told c.write_u32.ensures c.in-To.is)).0)
@@ -19,7 +18,7 @@ slice_bounds-write_all-start c = omega (arith, (in_store (told c.write_u32.ensur
 -- the records have none
 pub returns-in_default-write_all : goal.returns-in_default-write_all
 returns-in_default-write_all c =
-    notes_say (next_none (told c.write_u32.ensures c.in-To.is) (told c.write_all.ensures c.in_default-write_all.is))
+    let w = next_none (told c.write_u32.ensures c.in-To.is) (told c.write_all.ensures c.in_default-write_all.is) in record { wrote_is = w; wrote_is_2 = (notes_say {t = c.args.t} w).1 }
 
 pub overflow_add-result : goal.overflow_add-result
 overflow_add-result c =
@@ -28,4 +27,4 @@ overflow_add-result c =
 -- both wrote
 pub returns : goal.returns
 returns c =
-    notes_say (next_to (told c.write_u32.ensures c.in-To.is) (told c.write_all.ensures c.in-To-write_all.is))
+    let w = next_to (told c.write_u32.ensures c.in-To.is) (told c.write_all.ensures c.in-To-write_all.is) in record { wrote_is = w; wrote_is_2 = (notes_say {t = c.args.t} w).1 }

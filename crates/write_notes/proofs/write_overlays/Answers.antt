@@ -1,11 +1,10 @@
 -- `write_notes::write_overlays` meets its contract: voice after voice.
-use Prim.Native.Nat.{◌+◌, ◌-◌, ◌≤◌}
-use mathlib.Core.Path.{◌≡◌, refl}
+use Prim.Native.Nat.{◌+◌, ◌-◌}
+use mathlib.Core.Path.{refl}
 use native.Mathlib.Omega.{arith}
-use lib.ListN.{length}
 use Rattle.store_sections.proofs.Writes.{told}
 use Rattle.write_notes.specs.Out.{voices_out}
-use Rattle.write_notes.proofs.Written.{Written, begin, written_in, written_on_lem, written_none, written_all}
+use Rattle.write_notes.proofs.Written.{begin, written_in, written_on_lem, written_none, written_all}
 use Rattle.write_notes.proofs.Out.{voices_step, voices_none}
 use borrow.Author.Rules.{rules}
 use Rattle.write_notes.proofs.write_overlays.Goals as goal

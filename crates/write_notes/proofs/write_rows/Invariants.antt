@@ -1,14 +1,11 @@
 -- `write_notes::write_rows` meets its contract: what is left of the rows gives what is left of the records, for which there is room.
 use Prim.Native.Nat.{◌+◌, ◌*◌, ◌≤◌}
-use mathlib.Core.Path.{◌≡◌, refl}
-use native.Mathlib.Omega.{arith}
+use mathlib.Core.Path.{◌≡◌}
 use lib.ListN.{length}
 use Rattle.reader.specs.Records.{note_width}
 use Rattle.part_rows.specs.Encoded.{note_row_width}
 use Rattle.write_notes.specs.Out.{records_out}
-use Rattle.write_notes.proofs.Written.{Written, begin, written_in, written_on_lem, written_all}
-use Rattle.write_notes.proofs.Leads.{records_step, records_none, length_records}
-use borrow.Author.Rules.{rules}
+use Rattle.write_notes.proofs.Written.{Written}
 use Rattle.write_notes.proofs.write_rows.Given as goal
 
 abbrev pub invariant-loop-left : goal.invariant-loop-left

@@ -1,15 +1,10 @@
 -- `write_notes::write_voice` meets its contract: what is left of the rows gives what is left of the records.
-use Prim.Native.Nat.{◌+◌, ◌-◌, ◌*◌, ◌≤◌}
-use mathlib.Core.Path.{◌≡◌, refl, sym, ◌∙◌}
-use native.Mathlib.Omega.{arith}
+use Prim.Native.Nat.{◌+◌, ◌*◌, ◌≤◌}
+use mathlib.Core.Path.{◌≡◌}
 use lib.ListN.{length}
 use Rattle.part_rows.specs.Encoded.{note_row_width}
-use Rattle.laws.proofs.Bools.{not_true, not_false}
-use Rattle.store_sections.proofs.Writes.{told}
 use Rattle.write_notes.specs.Out.{voice_out}
-use Rattle.write_notes.proofs.Written.{Written, begin, written_in, written_as_lem, written_on_lem, written_none, written_all}
-use Rattle.write_notes.proofs.Out.{voice_yes, voice_no, voice_none}
-use borrow.Author.Rules.{rules}
+use Rattle.write_notes.proofs.Written.{Written}
 use Rattle.write_notes.proofs.write_voice.Given as goal
 
 abbrev pub invariant-loop-left : goal.invariant-loop-left

@@ -1,7 +1,6 @@
 -- `write_part::write_sections` meets its contract.
 use mathlib.Core.Path.{sym, ◌∙◌}
 use native.Mathlib.Omega.{arith}
-use borrow.Author.Rules.{rules}
 use Rattle.write_part.proofs.write_sections.Goals as goal
 
 pub is_lead-requires : goal.is_lead-requires

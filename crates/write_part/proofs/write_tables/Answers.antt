@@ -1,7 +1,6 @@
 -- `write_part::write_tables` meets its contract: section after section, each where the last one ended.
 use mathlib.Core.List.{[]}
 use native.Mathlib.Omega.{arith}
-use borrow.Author.Rules.{rules}
 use Rattle.store_sections.proofs.Writes.{told, in_store, next_to, next_none, none}
 use Rattle.lyrics.specs.Sheet.{syllables_in}
 use Rattle.write_part.proofs.Sections.{sections_say}

@@ -1,10 +1,6 @@
 -- `write_pitches::pitches_end` meets its contract.
-use Prim.Native.Nat.{◌+◌, ◌*◌, ◌≤◌}
-use mathlib.Core.Path.{◌≡◌, refl}
+use mathlib.Core.Path.{refl}
 use native.Mathlib.Omega.{arith}
-use lib.ListN.{length}
-use Rattle.part_rows.specs.Encoded.{note_row_width, pitch_row_width}
-use Rattle.write_notes.specs.Tables.{pitch_total}
 use Rattle.write_pitches.proofs.Out.{pitch_total_step, pitch_total_none}
 use Rattle.write_pitches.proofs.pitches_end.Goals as goal
 

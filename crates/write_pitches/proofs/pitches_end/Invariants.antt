@@ -1,11 +1,9 @@
 -- `write_pitches::pitches_end` meets its contract.
 use Prim.Native.Nat.{◌+◌, ◌*◌, ◌≤◌}
-use mathlib.Core.Path.{◌≡◌, refl}
-use native.Mathlib.Omega.{arith}
+use mathlib.Core.Path.{◌≡◌}
 use lib.ListN.{length}
 use Rattle.part_rows.specs.Encoded.{note_row_width, pitch_row_width}
 use Rattle.write_notes.specs.Tables.{pitch_total}
-use Rattle.write_pitches.proofs.Out.{pitch_total_step, pitch_total_none}
 use Rattle.write_pitches.proofs.pitches_end.Given as goal
 
 abbrev pub invariant-loop-left : goal.invariant-loop-left

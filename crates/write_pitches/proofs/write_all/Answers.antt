@@ -6,7 +6,6 @@ use Rattle.part_rows.specs.Encoded.{pitch_row_width}
 use Rattle.write_notes.proofs.Out.{wrote_as_lem}
 use Rattle.write_notes.specs.Tables.{pitch_total}
 use Rattle.write_pitches.proofs.Leads.{lead_measures}
-use borrow.Author.Rules.{rules}
 use Rattle.write_pitches.proofs.write_all.Goals as goal
 
 pub returns-then-lead : goal.returns-then-lead

@@ -3,7 +3,6 @@ use mathlib.Core.Path.{sym, ◌∙◌}
 use native.Mathlib.Omega.{arith}
 use Rattle.write_notes.proofs.Out.{wrote_as_lem}
 use Rattle.write_pitches.proofs.Leads.{lead_run}
-use borrow.Author.Rules.{rules}
 use Rattle.write_pitches.proofs.write_measure.Goals as goal
 
 pub is_lead-requires : goal.is_lead-requires

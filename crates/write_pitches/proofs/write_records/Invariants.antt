@@ -1,18 +1,13 @@
 -- `write_pitches::write_records` meets its contract: measure after measure.
-use Prim.Native.Nat.{ℕ, ◌+◌, ◌-◌, ◌*◌, ◌≤◌}
-use mathlib.Core.Path.{◌≡◌, refl, ap, sym}
-use native.Mathlib.Omega.{arith}
+use Prim.Native.Nat.{◌+◌, ◌*◌, ◌≤◌}
+use mathlib.Core.Path.{◌≡◌}
 use lib.ListN.{length}
 use Rattle.reader.specs.Records.{measure_width}
 use Rattle.part_rows.specs.Encoded.{note_row_width, pitch_row_width}
-use Rattle.store_sections.proofs.Writes.{told}
-use Rattle.write_notes.proofs.Written.{Written, begin, written_in, written_as_lem, written_on_lem, written_none, written_all}
+use Rattle.write_notes.proofs.Written.{Written}
 use Rattle.part_measures.specs.Heads.{total}
 use Rattle.write_notes.specs.Tables.{pitch_total}
-use Rattle.part_measures.proofs.Counts.{total_step}
 use Rattle.write_pitches.specs.Out.{pitches_out}
-use Rattle.write_pitches.proofs.Out.{pitch_total_split, pitches_step, pitches_none}
-use borrow.Author.Rules.{rules}
 use Rattle.write_pitches.proofs.write_records.Given as goal
 
 abbrev pub invariant-loop-left : goal.invariant-loop-left

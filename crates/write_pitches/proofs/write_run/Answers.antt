@@ -1,7 +1,6 @@
 -- `write_pitches::write_run` meets its contract.
 use native.Mathlib.Omega.{arith}
 use Rattle.write_pitches.proofs.Out.{run_wrote, run_none}
-use borrow.Author.Rules.{rules}
 use Rattle.write_pitches.proofs.write_run.Goals as goal
 
 pub returns-then-to-len : goal.returns-then-to-len

@@ -1,16 +1,11 @@
 -- `write_pitches::write_voice` meets its contract: what is left of the rows gives what is left of the pitches.
-use Prim.Native.Nat.{◌+◌, ◌-◌, ◌*◌, ◌≤◌}
-use mathlib.Core.Path.{◌≡◌, refl, sym, ◌∙◌}
-use native.Mathlib.Omega.{arith}
+use Prim.Native.Nat.{◌+◌, ◌*◌, ◌≤◌}
+use mathlib.Core.Path.{◌≡◌}
 use lib.ListN.{length}
 use Rattle.part_rows.specs.Encoded.{note_row_width, pitch_row_width}
-use Rattle.laws.proofs.Bools.{not_true, not_false}
-use Rattle.store_sections.proofs.Writes.{told}
-use Rattle.write_notes.proofs.Written.{Written, begin, written_in, written_as_lem, written_on_lem, written_none, written_all}
+use Rattle.write_notes.proofs.Written.{Written}
 use Rattle.write_notes.specs.Tables.{pitch_total}
 use Rattle.write_pitches.specs.Out.{voice_out}
-use Rattle.write_pitches.proofs.Out.{pitch_total_step, voice_yes, voice_no, voice_none}
-use borrow.Author.Rules.{rules}
 use Rattle.write_pitches.proofs.write_voice.Given as goal
 
 abbrev pub invariant-loop-left : goal.invariant-loop-left

@@ -1,13 +1,9 @@
 -- `write_pitches::write_voices` meets its contract: voice after voice.
-use Prim.Native.Nat.{◌+◌, ◌-◌, ◌≤◌}
-use mathlib.Core.Path.{◌≡◌, refl}
-use native.Mathlib.Omega.{arith}
+use Prim.Native.Nat.{◌-◌, ◌≤◌}
+use mathlib.Core.Path.{◌≡◌}
 use lib.ListN.{length}
-use Rattle.store_sections.proofs.Writes.{told}
-use Rattle.write_notes.proofs.Written.{Written, begin, written_in, written_on_lem, written_none, written_all}
+use Rattle.write_notes.proofs.Written.{Written}
 use Rattle.write_pitches.specs.Out.{voices_out}
-use Rattle.write_pitches.proofs.Out.{voices_step, voices_none}
-use borrow.Author.Rules.{rules}
 use Rattle.write_pitches.proofs.write_voices.Given as goal
 
 abbrev pub invariant-loop-voice : goal.invariant-loop-voice

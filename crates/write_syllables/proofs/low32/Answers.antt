@@ -1,5 +1,4 @@
 -- `write_syllables::low32` meets its contract.
-use borrow.Author.Rules.{rules}
 use Rattle.write_syllables.proofs.Pieces.{low_bytes}
 use Rattle.write_syllables.proofs.low32.Goals as goal
 

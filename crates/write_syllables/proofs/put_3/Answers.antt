@@ -1,6 +1,5 @@
 -- `write_syllables::put_3` meets its contract: three stores, each where the last ended.
 use native.Mathlib.Omega.{arith}
-use borrow.Author.Rules.{rules}
 use lib.ListN.{length-set}
 use Rattle.laws.proofs.Splices.{set_splice, splice_snoc}
 use Rattle.write_syllables.proofs.put_3.Goals as goal

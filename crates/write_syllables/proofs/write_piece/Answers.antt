@@ -1,6 +1,5 @@
 -- `write_syllables::write_piece` meets its contract.
 use Rattle.lyric_walk.specs.Walks.{syllable_is}
-use borrow.Author.Rules.{rules}
 use Rattle.write_syllables.proofs.write_piece.Goals as goal
 
 pub returns-then-texts : goal.returns-then-texts

@@ -1,6 +1,5 @@
 -- `write_syllables::write_place` meets its contract.
 use mathlib.Core.Path.{sym}
-use borrow.Author.Rules.{rules}
 use Rattle.store_sections.proofs.Writes.{start}
 use Rattle.write_notes.proofs.Out.{wrote_as_lem}
 use Rattle.write_syllables.proofs.Pieces.{place_none, place_one}

@@ -1,6 +1,5 @@
 -- `write_syllables::write_record` meets its contract: three writes, each where the last ended.
 use native.Mathlib.Omega.{arith}
-use borrow.Author.Rules.{rules}
 use Rattle.reader.specs.Codes.{bit}
 use Rattle.write_syllables.proofs.Pieces.{record_none, record_wrote}
 use Rattle.write_syllables.proofs.write_record.Goals as goal

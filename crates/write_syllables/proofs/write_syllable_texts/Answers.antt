@@ -2,7 +2,6 @@
 use mathlib.Core.Path.{sym, ap, ◌∙◌}
 use mathlib.Core.Bool.{true}
 use native.Mathlib.Omega.{arith}
-use borrow.Author.Rules.{rules}
 use Rattle.store_sections.proofs.Writes.{start}
 use Rattle.write_notes.proofs.Out.{wrote_as_lem}
 use Rattle.lyrics.specs.Sheet.{syllables_in}

@@ -1,9 +1,8 @@
 -- `write_syllables::write_text` meets its contract: byte after byte.
-use Prim.Native.Nat.{ℕ, ◌-◌, ◌≤◌}
+use Prim.Native.Nat.{ℕ, ◌-◌}
 use mathlib.Core.Path.{◌≡◌, refl, ap, ◌∙◌}
 use native.Mathlib.Omega.{arith}
 use borrow.Author.Rules.{rules}
-use lib.ListN.{length}
 use Rattle.laws.specs.Bytes.{part, splice}
 use Rattle.laws.proofs.Splices.{length_spliced}
 use Rattle.standard.specs.Lyrics.{syllable_text}

@@ -1,13 +1,9 @@
 -- `write_syllables::write_text` meets its contract: byte after byte.
-use Prim.Native.Nat.{ℕ, ◌-◌, ◌≤◌}
-use mathlib.Core.Path.{◌≡◌, refl, ap, ◌∙◌}
-use native.Mathlib.Omega.{arith}
-use borrow.Author.Rules.{rules}
+use Prim.Native.Nat.{◌-◌, ◌≤◌}
+use mathlib.Core.Path.{◌≡◌}
 use lib.ListN.{length}
 use Rattle.laws.specs.Bytes.{part, splice}
-use Rattle.laws.proofs.Splices.{length_spliced}
 use Rattle.standard.specs.Lyrics.{syllable_text}
-use Rattle.write_syllables.proofs.Pieces.{text_none, text_wrote, text_start, text_on}
 use Rattle.write_syllables.proofs.write_text.Given as goal
 
 abbrev pub invariant-loop-j : goal.invariant-loop-j

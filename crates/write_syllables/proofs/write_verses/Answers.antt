@@ -1,11 +1,10 @@
 -- `write_syllables::write_verses` meets its contract: window after window.
-use Prim.Native.Nat.{ℕ, ◌+◌, ◌-◌, ◌%◌, ◌≤◌}
-use mathlib.Core.Path.{◌≡◌, refl}
+use Prim.Native.Nat.{◌+◌}
+use mathlib.Core.Path.{refl}
 use native.Mathlib.Omega.{arith}
 use borrow.Author.Rules.{rules}
-use lib.ListN.{length}
 use Rattle.store_sections.proofs.Writes.{told}
-use Rattle.write_notes.proofs.Written.{Written, begin, written_in, written_as_lem, written_on_lem, written_none, written_all}
+use Rattle.write_notes.proofs.Written.{begin, written_in, written_as_lem, written_on_lem, written_none, written_all}
 use Rattle.lyric_walk.specs.Walks.{chain, within, window}
 use Rattle.lyric_walk.proofs.Steps.{clear}
 use Rattle.write_syllables.specs.Pieces.{pieces}
@@ -28,7 +27,7 @@ pub slice_bounds-write_window-start : goal.slice_bounds-write_window-start
 slice_bounds-write_window-start c = omega (arith, (written_in c.loop-from.invariant.3).0)
 
 pub write_window-requires : goal.write_window-requires
-write_window-requires c = (c.requires, omega (arith, c.loop-from.invariant.0), c.type_inv.held.ensures)
+write_window-requires c = (c.requires, omega (arith, c.loop-from.invariant.0), c.gather-span.ensures)
 
 -- no room for a window
 pub returns-in_default : goal.returns-in_default
@@ -54,7 +53,7 @@ returns-then-span-from c =
     let a = c.args in
     let l = c.loop-from in
     let w = written_on_lem l.invariant.3 (told c.write_window.ensures c.in-To.is) (chain_next a.texts a.note a.text.now a.store.now a.log a.k l.from (l.from + window) past (omega arith) (omega (arith, c.loop-from-test.true, l.invariant.1))) in
-    written_all w (verses_end a.texts a.note a.text.now a.store.now a.log a.k l.from _ _ _ c.type_inv.held.ensures (l.from + window) past c.if-span-from.true)
+    written_all w (verses_end a.texts a.note a.text.now a.store.now a.log a.k l.from _ _ _ c.gather-span.ensures (l.from + window) past c.if-span-from.true)
 
 pub overflow_add-from-in-loop-from : goal.overflow_add-from-in-loop-from
 overflow_add-from-in-loop-from c = omega (arith, c.loop-from.invariant.0)

@@ -1,15 +1,10 @@
 -- `write_syllables::write_verses` meets its contract: window after window.
-use Prim.Native.Nat.{ℕ, ◌+◌, ◌-◌, ◌%◌, ◌≤◌}
-use mathlib.Core.Path.{◌≡◌, refl}
-use native.Mathlib.Omega.{arith}
-use borrow.Author.Rules.{rules}
+use Prim.Native.Nat.{ℕ, ◌-◌, ◌%◌, ◌≤◌}
+use mathlib.Core.Path.{◌≡◌}
 use lib.ListN.{length}
-use Rattle.store_sections.proofs.Writes.{told}
-use Rattle.write_notes.proofs.Written.{Written, begin, written_in, written_as_lem, written_on_lem, written_none, written_all}
+use Rattle.write_notes.proofs.Written.{Written}
 use Rattle.lyric_walk.specs.Walks.{chain, within, window}
-use Rattle.lyric_walk.proofs.Steps.{clear}
 use Rattle.write_syllables.specs.Pieces.{pieces}
-use Rattle.write_syllables.proofs.Pieces.{verses_end, chain_start, chain_next, chain_end}
 use Rattle.write_syllables.proofs.write_verses.Given as goal
 
 -- past every verse

@@ -1,11 +1,9 @@
 -- `write_syllables::write_window` meets its contract: verse after verse.
-use Prim.Native.Nat.{◌+◌, ◌-◌, ◌≤◌}
-use mathlib.Core.Path.{◌≡◌, refl}
+use Prim.Native.Nat.{◌+◌, ◌-◌}
+use mathlib.Core.Path.{refl}
 use native.Mathlib.Omega.{arith}
-use borrow.Author.Rules.{rules}
-use lib.ListN.{length}
 use Rattle.store_sections.proofs.Writes.{told}
-use Rattle.write_notes.proofs.Written.{Written, begin, written_in, written_as_lem, written_on_lem, written_none, written_all}
+use Rattle.write_notes.proofs.Written.{begin, written_in, written_as_lem, written_on_lem, written_none, written_all}
 use Rattle.lyric_walk.specs.Walks.{chain, within, window}
 use Rattle.write_syllables.specs.Pieces.{pieces}
 use Rattle.write_syllables.proofs.Pieces.{window_start, window_next, window_end}
