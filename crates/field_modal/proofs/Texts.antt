@@ -1,17 +1,17 @@
 -- THE KEY OF A KEY TEXT by its words: the name stands in the first, the mode behind it or in the second.
 use Prim.Native.Nat.{ℕ, zero, suc, ◌+◌, ◌-◌, ◌≤◌, ◌<◌}
 use mathlib.Core.Path.{◌≡◌, refl, sym, ap, ◌∙◌}
-use mathlib.Core.Bool.{Bool, true, false, cond, not, ◌&&◌, ◌||◌, true≢false}
+use mathlib.Core.Bool.{Bool, true, false, cond, ◌||◌, true≢false}
 use mathlib.Core.Option.{Option, none, some}
 use mathlib.Core.List.{List, [], ◌∷◌, ◌++◌, map, append-nil}
 use native.Mathlib.Omega.{arith}
 use native.Mathlib.Decide.{dec_lt}
-use lib.Dec.{eqb, leb}
+use lib.Dec.{eqb}
 use lib.ListN.{length, take, drop}
 use lib.Seq.{take-append-le, drop-append-le}
 use borrow.Author.Tests.{eqb-true, eqb-false}
-use Rattle.laws.specs.Lists.{all, All, is_nil, filter, starts_with}
-use Rattle.laws.proofs.Bools.{by_test, and_left, and_right, not_true, or_false}
+use Rattle.laws.specs.Lists.{all, All}
+use Rattle.laws.proofs.Bools.{by_test, and_left, and_right, not_true}
 use Rattle.laws.proofs.Lists.{All-filter}
 use Rattle.laws.proofs.Parts.{between_none}
 use Rattle.laws.specs.Bytes.{between}
@@ -21,7 +21,7 @@ use Rattle.standard.specs.Keys.{Key, plain_key, place, tonic, Mode, mode_names, 
 use Rattle.editions.specs.declared.Edition.TheVariants.{Second}
 use Rattle.reader.specs.Text.{is_space, within}
 use Rattle.reader.specs.Pieces.{field_words, trim_start}
-use Rattle.reader.specs.Keys.{is_key_word, joined, key_text, name_length, or_lone_m, mode_of, key_on, modal_key, key_of, minor_or}
+use Rattle.reader.specs.Keys.{is_key_word, joined, key_text, name_length, or_lone_m, mode_of, key_on, modal_key, key_of}
 use Rattle.text_words.specs.Words.{not_space}
 use Rattle.field_keys.proofs.KeyTexts.{IsWord, words_are, joined_first, start_stays}
 use Rattle.field_modes.specs.Modes.{key_words, mode_at, mode_from, lone_m}

@@ -8,7 +8,6 @@ use Rattle.reader.specs.Pieces.{before, after}
 use Rattle.reader.specs.Fields.{meter_number, meter_bottom, unit_number, identifier}
 use Rattle.reader.specs.Token.{Token, unit, meter, key, field, refused}
 use Rattle.text_words.specs.declared.Part.{Part}
-use Rattle.field_keys.specs.declared.Key.{Key}
 use Rattle.field_keys.specs.Passed.{key_as}
 use Rattle.field_values.specs.declared.Meter.{Meter}
 use Rattle.field_values.specs.declared.FieldUnit.{FieldUnit}

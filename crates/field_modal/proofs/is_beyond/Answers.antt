@@ -1,6 +1,5 @@
 -- `field_modal::is_beyond` meets its contract.
 use Rattle.reader.specs.Keys.{is_beyond}
-use borrow.Author.Rules.{rules}
 use Rattle.field_modal.proofs.is_beyond.Goals as goal
 
 pub returns : goal.returns

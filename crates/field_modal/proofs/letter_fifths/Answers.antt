@@ -1,5 +1,4 @@
 -- `field_modal::letter_fifths` meets its contract, letter by letter.
-use Prim.Native.Nat.{◌≤◌}
 use mathlib.Core.Path.{◌≡◌}
 use native.Mathlib.Omega.{arith}
 use Rattle.standard.specs.Keys.{place}

@@ -1,12 +1,10 @@
 -- `field_modal::mark_behind` meets its contract, by the byte behind the letter.
-use Prim.Native.Nat.{◌≤◌, ◌<◌, ◌+◌}
-use mathlib.Core.Path.{sym, ◌∙◌}
+use Prim.Native.Nat.{◌+◌}
 use native.Mathlib.Omega.{arith}
 use borrow.Author.Tests.{eq-eqb, ne_eqb}
 use Rattle.laws.proofs.Parts.{between_none}
 use Rattle.field_modal.specs.ModalKeys.{mark_behind}
 use Rattle.field_modes.proofs.Words.{first_between}
-use borrow.Author.Rules.{rules}
 use Rattle.field_modal.proofs.mark_behind.Goals as goal
 
 pub returns-then-e-i : goal.returns-then-e-i

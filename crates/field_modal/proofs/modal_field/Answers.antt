@@ -1,11 +1,8 @@
 -- `field_modal::modal_field` meets its contract, by what is met first.
-use mathlib.Core.Path.{◌≡◌, sym, ap, ◌∙◌}
-use mathlib.Core.Bool.{Bool}
-use Rattle.standard.specs.Keys.{Key}
+use mathlib.Core.Path.{sym, ap, ◌∙◌}
 use Rattle.reader.specs.Keys.{is_beyond}
-use Rattle.reader.specs.Fields.{first_met, key_refusal}
+use Rattle.reader.specs.Fields.{key_refusal}
 use Rattle.field_modal.specs.ModalKeys.{met_as}
-use borrow.Author.Rules.{rules}
 use Rattle.field_modal.proofs.modal_field.Goals as goal
 
 pub returns-in-Nothing : goal.returns-in-Nothing

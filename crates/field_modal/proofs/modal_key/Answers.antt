@@ -1,9 +1,8 @@
 -- `field_modal::modal_key` meets its contract, by the first word of the key text.
-use Prim.Native.Nat.{◌≤◌, ◌<◌}
-use mathlib.Core.Path.{◌≡◌, sym, ◌∙◌}
+use Prim.Native.Nat.{◌<◌}
+use mathlib.Core.Path.{sym, ◌∙◌}
 use native.Mathlib.Omega.{arith}
 use Rattle.field_modal.proofs.Texts.{modal_value, modal_none}
-use borrow.Author.Rules.{rules}
 use Rattle.field_modal.proofs.modal_key.Goals as goal
 
 pub returns-then-b-i : goal.returns-then-b-i

@@ -1,7 +1,6 @@
 -- `field_modal::name_end` meets its contract.
 use native.Mathlib.Omega.{arith}
 use borrow.Author.Tests.{eq-eqb, ne_eqb}
-use borrow.Author.Rules.{rules}
 use Rattle.field_modal.proofs.name_end.Goals as goal
 
 pub overflow_add-result : goal.overflow_add-result

@@ -1,7 +1,6 @@
 -- `field_modal::with_mark` meets its contract, by the mark.
 use borrow.Author.Tests.{eq-eqb, ne_eqb}
 use Rattle.field_modal.specs.ModalKeys.{tonic_with}
-use borrow.Author.Rules.{rules}
 use Rattle.field_modal.proofs.with_mark.Goals as goal
 
 pub returns-then-mark-eq35 : goal.returns-then-mark-eq35

@@ -1,16 +1,15 @@
 -- `field_modal::word_key` meets its contract: no letter, or the key on its tonic in its mode.
-use Prim.Native.Nat.{◌+◌, ◌≤◌, ◌<◌}
-use mathlib.Core.Path.{◌≡◌, sym, ap, ◌∙◌}
+use Prim.Native.Nat.{◌≤◌, ◌<◌}
+use mathlib.Core.Path.{◌≡◌, sym, ◌∙◌}
 use mathlib.Core.Bool.{true}
 use native.Mathlib.Omega.{arith}
 use lib.ListN.{length, get_or}
 use lib.Dec.{leb}
 use borrow.Author.Tests.{leb-true}
-use Rattle.laws.proofs.Bools.{and_left, and_right, not_true, not_false}
+use Rattle.laws.proofs.Bools.{and_left, and_right}
 use Rattle.laws.proofs.Parts.{between_first, drop_between}
 use Rattle.field_modes.proofs.Names.{below_seven}
 use Rattle.field_modal.proofs.Texts.{no_tonic, key_named_lem, name_inside, place_small, tonic_small}
-use borrow.Author.Rules.{rules}
 use Rattle.standard.specs.Pitches.{step_of}
 use Rattle.reader.specs.Text.{within}
 use Rattle.field_modal.proofs.word_key.Goals as goal
@@ -50,7 +49,7 @@ overflow_add-result c =
     let letter_range : (127 ≤ c.letter_fifths.result) × (c.letter_fifths.result ≤ 133) = let e = c.letter_fifths.ensures in
     let s = place_small (step_of (get_or c.args.line.now c.args.i 0)) in
     (omega (arith, e), omega (arith, e, s)) in
-    let range : (120 ≤ c.with_mark-fifths.result) × (c.with_mark-fifths.result ≤ 140) = λ = let q. letter_range in rw c.with_mark-fifths.ensures (tonic_small _ _ q.0 q.1) in
+    let range : (120 ≤ c.with_mark-fifths.result) × (c.with_mark-fifths.result ≤ 140) = let q = letter_range in rw c.with_mark-fifths.ensures (tonic_small _ _ q.0 q.1) in
     omega (arith, range.1)
 
 pub overflow_sub-result : goal.overflow_sub-result
@@ -58,7 +57,7 @@ overflow_sub-result c =
     let letter_range : (127 ≤ c.letter_fifths.result) × (c.letter_fifths.result ≤ 133) = let e = c.letter_fifths.ensures in
     let s = place_small (step_of (get_or c.args.line.now c.args.i 0)) in
     (omega (arith, e), omega (arith, e, s)) in
-    let range : (120 ≤ c.with_mark-fifths.result) × (c.with_mark-fifths.result ≤ 140) = λ = let q. letter_range in rw c.with_mark-fifths.ensures (tonic_small _ _ q.0 q.1) in
+    let range : (120 ≤ c.with_mark-fifths.result) × (c.with_mark-fifths.result ≤ 140) = let q = letter_range in rw c.with_mark-fifths.ensures (tonic_small _ _ q.0 q.1) in
     let mode_range : c.mode_from-mode.result < 7 = rw c.mode_from-mode.ensures (below_seven _) in
     omega (arith, range.0, mode_range)
 

@@ -1,7 +1,6 @@
 -- `field_modal::word_met` meets its contract, by its tests.
 use mathlib.Core.Path.{sym, ◌∙◌}
 use Rattle.field_modal.specs.ModalKeys.{word_met}
-use borrow.Author.Rules.{rules}
 use Rattle.field_modal.proofs.word_met.Goals as goal
 
 pub returns-then-starts_with : goal.returns-then-starts_with

@@ -3,7 +3,6 @@ use mathlib.Core.Path.{sym, ap, ◌∙◌}
 use Rattle.reader.specs.Token.{key}
 use Rattle.reader.specs.Fields.{key_refusal}
 use Rattle.reader.specs.Inline.{token_unless, key_token}
-use borrow.Author.Rules.{rules}
 use Rattle.field_values.proofs.inline_key.Goals as goal
 
 pub returns-then-has_middle : goal.returns-then-has_middle

@@ -2,7 +2,6 @@
 use mathlib.Core.Path.{sym, ap, ◌∙◌}
 use Rattle.reader.specs.Inline.{unit_token}
 use Rattle.field_values.specs.Values.{unit_as}
-use borrow.Author.Rules.{rules}
 use Rattle.field_values.proofs.inline_unit.Goals as goal
 
 pub returns-in-Nothing : goal.returns-in-Nothing

@@ -6,7 +6,6 @@ use Rattle.reader.specs.Fields.{or_four}
 use Rattle.text_numbers.specs.declared.Digits.{Digits}
 use Rattle.text_numbers.specs.Digits.{option}
 use Rattle.field_values.proofs.FieldLaws.{numeral_le, meter_number_lem}
-use borrow.Author.Rules.{rules}
 use Rattle.field_values.proofs.meter_number.Goals as goal
 
 pub overflow_cast-result : goal.overflow_cast-result

@@ -5,7 +5,6 @@ use native.Mathlib.Omega.{arith}
 use Rattle.laws.proofs.Parts.{end_in_ge, end_in_le}
 use Rattle.text_words.specs.Words.{not_byte}
 use Rattle.field_values.proofs.FieldLaws.{parts_slash, parts_plain}
-use borrow.Author.Rules.{rules}
 use Rattle.field_values.proofs.meter_parts.Goals as goal
 
 pub meter_number-top-requires : goal.meter_number-top-requires

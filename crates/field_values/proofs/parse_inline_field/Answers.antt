@@ -4,7 +4,6 @@ use mathlib.Core.Path.{sym, ap, ◌∙◌}
 use native.Mathlib.Omega.{arith}
 use Rattle.reader.specs.Token.{meter}
 use Rattle.field_values.proofs.FieldLaws.{field_too_short, field_no_colon, field_unit, field_meter, field_key, field_other}
-use borrow.Author.Rules.{rules}
 use Rattle.field_values.proofs.parse_inline_field.Goals as goal
 
 pub returns-then-b-a-lt2 : goal.returns-then-b-a-lt2

@@ -2,7 +2,6 @@
 use mathlib.Core.Path.{sym, ◌∙◌}
 use Rattle.reader.specs.Fields.{meter_of}
 use Rattle.field_values.proofs.FieldLaws.{meter_common, meter_cut, meter_small, meter_plain}
-use borrow.Author.Rules.{rules}
 use Rattle.field_values.proofs.parse_meter.Goals as goal
 
 pub returns-then-is_text : goal.returns-then-is_text

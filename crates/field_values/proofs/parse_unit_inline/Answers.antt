@@ -2,7 +2,6 @@
 use mathlib.Core.Path.{sym, ◌∙◌}
 use Rattle.reader.specs.Fields.{unit_inline}
 use Rattle.field_values.proofs.FieldLaws.{inline_absent, inline_bad, inline_set}
-use borrow.Author.Rules.{rules}
 use Rattle.field_values.proofs.parse_unit_inline.Goals as goal
 
 pub returns-in-Absent : goal.returns-in-Absent

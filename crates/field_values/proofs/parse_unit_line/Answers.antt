@@ -2,7 +2,6 @@
 use mathlib.Core.Path.{sym, ◌∙◌}
 use Rattle.reader.specs.Fields.{unit_of}
 use Rattle.field_values.proofs.FieldLaws.{line_absent, line_bad, line_set}
-use borrow.Author.Rules.{rules}
 use Rattle.field_values.proofs.parse_unit_line.Goals as goal
 
 pub returns-in-Absent : goal.returns-in-Absent

@@ -1,7 +1,6 @@
 -- `field_values::plain_field` meets its contract, by its test.
 use mathlib.Core.Path.{sym, ◌∙◌}
 use Rattle.reader.specs.Fields.{key_refusal}
-use borrow.Author.Rules.{rules}
 use Rattle.field_values.proofs.plain_field.Goals as goal
 
 pub returns-then-has_middle : goal.returns-then-has_middle

@@ -1,5 +1,4 @@
 -- `field_values::read_key` meets its contract, by the edition.
-use borrow.Author.Rules.{rules}
 use Rattle.field_values.proofs.read_key.Goals as goal
 
 pub returns-in-First : goal.returns-in-First

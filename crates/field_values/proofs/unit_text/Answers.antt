@@ -8,7 +8,6 @@ use Rattle.text_numbers.specs.Digits.{option}
 use Rattle.text_words.specs.Words.{not_byte}
 use Rattle.field_values.specs.Values.{numbered}
 use Rattle.field_values.proofs.FieldLaws.{numeral_le, unit_absent, unit_present}
-use borrow.Author.Rules.{rules}
 use Rattle.field_values.proofs.unit_text.Goals as goal
 
 pub returns-then-e-k : goal.returns-then-e-k

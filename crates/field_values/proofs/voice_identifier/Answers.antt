@@ -1,6 +1,5 @@
 -- `field_values::voice_identifier` meets its contract: the first word stands between the two positions.
 use Rattle.field_values.proofs.FieldLaws.{identifier_at}
-use borrow.Author.Rules.{rules}
 use Rattle.field_values.proofs.voice_identifier.Goals as goal
 
 pub returns : goal.returns

@@ -10,7 +10,6 @@ use Rattle.standard.specs.Bytes.{is_digit}
 use Rattle.token_lexemes.specs.Lexemes.{cut_for}
 use Rattle.token_lexemes.proofs.Closed.{to_the_end}
 use Rattle.token_brackets.proofs.Opened.{is_ending, field_closes, is_field_lem, is_chord}
-use borrow.Author.Rules.{rules}
 use Rattle.token_brackets.proofs.bracket.Goals as goal
 
 pub returns-then-is_digit : goal.returns-then-is_digit

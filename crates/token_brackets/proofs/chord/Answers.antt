@@ -6,7 +6,6 @@ use Prim.Native.Nat.{◌+◌}
 use lib.Dec.{eqb}
 use Rattle.laws.proofs.Spans.{end_le}
 use Rattle.token_brackets.proofs.Chorded.{chord_refused, chord_many, chord_empty, chord_full}
-use borrow.Author.Rules.{rules}
 use Rattle.token_brackets.proofs.chord.Goals as goal
 
 pub parse_abc_chord-requires : goal.parse_abc_chord-requires

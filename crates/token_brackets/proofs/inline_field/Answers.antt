@@ -1,7 +1,6 @@
 -- `token_brackets::inline_field` meets its contract.
 use Rattle.token_lexemes.specs.Lexemes.{lexeme_for}
 use Rattle.token_brackets.proofs.Opened.{field_cut}
-use borrow.Author.Rules.{rules}
 use Rattle.token_brackets.proofs.inline_field.Goals as goal
 
 pub returns-in-Unit : goal.returns-in-Unit

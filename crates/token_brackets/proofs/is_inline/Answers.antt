@@ -1,7 +1,6 @@
 -- `token_brackets::is_inline` meets its contract.
 use mathlib.Core.Path.{sym, ◌∙◌}
 use Rattle.token_brackets.proofs.Inlines.{no_close, quote_first, colon_inside}
-use borrow.Author.Rules.{rules}
 use Rattle.token_brackets.proofs.is_inline.Goals as goal
 
 pub returns-then-line-close : goal.returns-then-line-close
