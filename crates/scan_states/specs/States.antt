@@ -1,5 +1,5 @@
 -- What the scan knows between two lines, as the definitions have it, and what one line comes to.
-use Rattle.std.specs.Prelude.{ℕ, suc, ◌+◌, ◌*◌, ◌≤◌, ◌<◌, ◌≡◌, List, []}
+use Rattle.std.specs.Prelude.{ℕ, suc, ◌+◌, ◌≤◌, ◌<◌, ◌≡◌, List}
 use Rattle.reader.specs.Steps.{refuse, on, first}
 use Rattle.reader.specs.Scan.{ScanState, Out}
 use Rattle.field_keys.specs.Passed.{key_as}

@@ -14,14 +14,14 @@ use Rattle.laws.proofs.Lists.{index_lt, index_none}
 use Rattle.laws.proofs.Parts.{between_none}
 use Rattle.laws.proofs.Splices.{length_splice}
 use Rattle.reader.specs.Lines.{voice}
-use Rattle.reader.specs.Steps.{refuse, on, first}
-use Rattle.reader.specs.Scan.{Item, Items, voice_declared, reset, ScanState, Out, with_unnamed, voices_before, voice_on, act}
+use Rattle.reader.specs.Steps.{on, first}
+use Rattle.reader.specs.Scan.{Item, Items, voice_declared, reset, with_unnamed, voices_before, voice_on, act}
 use Rattle.scan_table.specs.declared.Row.{Row}
 use Rattle.scan_table.specs.Rows.{voice_row_width, item_row_width, row_from, voices_in, item_in, items_in, enc_item}
 use Rattle.scan_table.proofs.Rows.{length_voice, length_voices, voices_none, voices_push, voices_below, items_push, items_above}
 use Rattle.scan_states.specs.declared.State.{State}
 use Rattle.scan_states.specs.declared.Step.TheVariants.{On, Refused}
-use Rattle.scan_states.specs.States.{state_with, state_in, out_in, next_state, Stepped}
+use Rattle.scan_states.specs.States.{state_with, state_in, out_in, Stepped}
 use Rattle.scan_voices.specs.Voices.{moved_to, Unnamed, Moved}
 
 -- THE UNNAMED VOICE

@@ -4,7 +4,6 @@ use native.Mathlib.Omega.{arith}
 use Rattle.reader.specs.Scan.{act, lyric_line}
 use Rattle.scan_table.specs.Rows.{item_in, item_as, items_in}
 use Rattle.scan_states.proofs.Items.{stays, one_item, words}
-use borrow.Author.Rules.{rules}
 use Rattle.scan_states.proofs.lyric_line.Goals as goal
 
 pub returns-then-st : goal.returns-then-st

@@ -1,7 +1,5 @@
 -- `scan_states::next_line` meets its contract.
-use mathlib.Core.Path.{refl}
 use native.Mathlib.Numerals.{add-one}
-use borrow.Author.Rules.{rules}
 use Rattle.scan_states.proofs.next_line.Goals as goal
 
 pub returns : goal.returns

@@ -3,7 +3,6 @@ use mathlib.Core.Path.{refl}
 use native.Mathlib.Omega.{arith}
 use Rattle.reader.specs.Scan.{act}
 use Rattle.scan_states.proofs.Items.{stays}
-use borrow.Author.Rules.{rules}
 use Rattle.scan_states.proofs.tune_line.Goals as goal
 
 pub returns-then-st : goal.returns-then-st

@@ -1,6 +1,4 @@
 -- `scan_voices::named_voice` meets its contract: each way out is a case of the definition.
-use mathlib.Core.Path.{refl}
-use native.Mathlib.Omega.{arith}
 use Rattle.laws.specs.Bytes.{between}
 use mathlib.Core.List.{[]}
 use Rattle.scan_voices.proofs.Voices.{known_middle, too_many, new_middle, on_known, on_new}

@@ -11,9 +11,10 @@ use Rattle.scan_voices.proofs.new_voice.Goals as goal
 pub returns : goal.returns
 unfolding item_in item_as
 returns c =
-    let a = c.args in (
-      rw c.add_item.ensures.value (record { lines = refl; voices = refl; part = refl; items = omega arith }),
-      λ text. c.add_item.ensures.by_index text
+    let a = c.args in
+    record {
+      moved = rw c.add_item.ensures.value (record { lines = refl; voices = refl; part = refl; items = omega arith });
+      by_index = λ text. c.add_item.ensures.by_index text
           ∙ new_voice text a.scratch.now _ _ a.n a.st.items a.a a.b _ a.st.in_header c.push_voice.ensures c.put_item.ensures (search rules) (search rules) (search rules)
-          (search rules) (search rules) (search rules) (λ i. (a.n, voice_declared (c.flag.ensures i))) (search rules) (moved_to a.st a.n) _ refl,
-    )
+          (search rules) (search rules) (search rules) (λ i. (a.n, voice_declared (c.flag.ensures i))) (search rules) (moved_to a.st a.n) _ refl;
+    }

@@ -1,0 +1,11 @@
+-- `scan_voices::known_voice` meets its contract: one item more.
+use mathlib.Core.Path.{refl}
+use Rattle.scan_table.specs.Rows.{item_in, item_as}
+use Rattle.scan_voices.proofs.known_voice.Goals as goal
+
+pub returns : goal.returns
+unfolding item_in item_as
+returns c = record {
+  moved = rw c.add_item.ensures.value (record { lines = refl; voices = refl; part = refl; items = refl });
+  by_index = λ text. c.add_item.ensures.by_index text;
+}
