@@ -1,8 +1,8 @@
 // Document 01's tally of standard input. The stored input is document 01's example.
 #![tactic(auto)]
 
-use libc::STDIN_FILENO;
+use std::io::Result;
 
-fn main() {
-    tally_run::run(STDIN_FILENO);
+fn main(rt: HostRuntime) -> Result<()> {
+    tally_run::run(&rt, &mut rt.stdin())
 }

@@ -6,8 +6,8 @@ ghost use Rattle.io.specs.Counts as io_counts;
 ghost use Rattle.tally_text.specs.Printed.{reading_bytes, scratch_bytes, out_bytes, printed, reading_left, scratch_left};
 
 use editions::Edition;
-use libc::STDOUT_FILENO;
 use reading_answers::Answer;
+use std::io::{Read, Result};
 
 // The longest input that is read.
 const MOST_INPUT: usize = 1792;
@@ -35,21 +35,21 @@ pub fn tally(input: &[u8], reading: &mut [u8], scratch: &mut [u8], out: &mut [u8
     }
 }
 
-// The tally of what is read from `fd`, to standard output. One byte more than the longest input is read, to tell a longer one. A read that fails is an error and
-// not the input's end: it is said on standard error, and nothing is printed. `read_full` stops at the first read that fails or finds the end; errno, which is 0
-// before and which no read that succeeds sets, tells the two apart.
-pub fn run(fd: i32) {
-    let mut input = [0u8; MOST_INPUT + 1];
-    let n = io::read_full(fd, &mut input);
-    if n <= MOST_INPUT {
-        if os::errno() != 0 {
-            os::fail(b"tally: the input cannot be read");
-            return;
-        }
+// The tally of what is read from `input`, to standard output. One byte more than the longest input is read, to tell a longer one. A read that fails is an error and
+// not the input's end: it is said on standard error, and nothing is printed. What cannot be written is an error of the call.
+pub fn run<R: Read>(rt: &(impl Print + Eprint), input: &mut R) -> Result<()> {
+    let mut text = [0u8; MOST_INPUT + 1];
+    match tally_input::read_full(input, &mut text) {
+        Ok(n) => print_tally(rt, &text[..n]),
+        Err(e) => eprintln!(rt; "tally: the input cannot be read: {e}"),
     }
+}
+
+// Prints the tally of an input.
+fn print_tally(rt: &impl Print, input: &[u8]) -> Result<()> {
     let mut reading = [0u8; READING];
     let mut scratch = io::large_buffer();
     let mut out = [0u8; OUT];
-    let k = tally(&input[..n], &mut reading, &mut scratch, &mut out);
-    io::write_all(STDOUT_FILENO, &out[..k]);
+    let k = tally(input, &mut reading, &mut scratch, &mut out);
+    rt.write_all(&out[..k])
 }

@@ -14,8 +14,8 @@
 
 ghost use Rattle.std.specs.Prelude.{◌+◌, ◌≤◌, ◌<◌, length};
 
-use libc::STDIN_FILENO;
 use reading_answers::Answer;
+use std::io::Result;
 use test_rows::{Counts, decode, fill, holds, number, print_counts, short_number, with_row};
 
 // The length of the row that `rows` begins with.
@@ -72,26 +72,27 @@ fn agrees(row: &[u8], list: &mut [u8]) -> bool
     )
 }
 
-fn replay(rows: &[u8], list: &mut [u8]) -> Counts {
+fn replay(rt: &impl Print, rows: &[u8], list: &mut [u8]) -> Result<Counts> {
     let mut c = Counts { rows: 0, differ: 0 };
     let mut at: usize = 0;
     while 12 <= rows.len() - at {
         let n = row_length(&rows[at..]);
         if rows.len() - at < n {
-            return c;
+            return Ok(c);
         }
         let end = at + n;
-        c = with_row(c, agrees(&rows[at..end], list));
+        c = with_row(rt, c, agrees(&rows[at..end], list))?;
         at = end;
     }
-    c
+    Ok(c)
 }
 
-fn main() {
+fn main(rt: HostRuntime) -> Result<()> {
     let mut text = [0u8; 196608];
-    let n = io::read_full(STDIN_FILENO, &mut text);
+    let n = tally_input::read_full(&mut rt.stdin(), &mut text)?;
     let mut rows = [0u8; 98304];
     let m = decode(&text[..n], &mut rows);
     let mut list = [0u8; 4096];
-    print_counts(replay(&rows[..m], &mut list));
+    let counts = replay(&rt, &rows[..m], &mut list)?;
+    print_counts(&rt, counts)
 }

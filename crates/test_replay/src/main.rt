@@ -2,7 +2,8 @@
 #![tactic(auto)]
 
 use editions::Edition;
+use std::io::Result;
 
-fn main() {
-    test_texts::run(Edition::First);
+fn main(rt: HostRuntime) -> Result<()> {
+    test_texts::run(&rt, &mut rt.stdin(), Edition::First)
 }

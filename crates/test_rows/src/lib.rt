@@ -3,7 +3,7 @@
 
 ghost use Rattle.std.specs.Prelude.{◌+◌, ◌≤◌, ◌<◌, length};
 
-use libc::STDOUT_FILENO;
+use std::io::Result;
 
 // How many rows there are, and how many of them differ.
 #[derive(Clone, Copy)]
@@ -144,31 +144,23 @@ fn one_more(n: u32) -> u32 {
     if n < 4294967295 { n + 1 } else { n }
 }
 
-fn print_row(n: u32) {
-    io::write_all(STDOUT_FILENO, b"row ");
-    io::print_decimal(STDOUT_FILENO, n as u64);
-    io::write_all(STDOUT_FILENO, b" differs\n");
-}
-
 // One row more; one that differs is printed by its number, the first being 1.
-pub fn with_row(c: Counts, agreed: bool) -> Counts {
+pub fn with_row(rt: &impl Print, c: Counts, agreed: bool) -> Result<Counts> {
     let rows = one_more(c.rows);
     if agreed {
-        return Counts {
+        return Ok(Counts {
             rows,
             differ: c.differ,
-        };
+        });
     }
-    print_row(rows);
-    Counts {
+    println!(rt; "row {rows} differs")?;
+    Ok(Counts {
         rows,
         differ: one_more(c.differ),
-    }
+    })
 }
 
-pub fn print_counts(c: Counts) {
-    io::print_decimal(STDOUT_FILENO, c.rows as u64);
-    io::write_all(STDOUT_FILENO, b" answers, ");
-    io::print_decimal(STDOUT_FILENO, c.differ as u64);
-    io::write_all(STDOUT_FILENO, b" differ\n");
+pub fn print_counts(rt: &impl Print, c: Counts) -> Result<()> {
+    let Counts { rows, differ } = c;
+    println!(rt; "{rows} answers, {differ} differ")
 }

@@ -13,8 +13,8 @@
 ghost use Rattle.std.specs.Prelude.{◌+◌, ◌≤◌, ◌<◌, length};
 
 use editions::Edition;
-use libc::STDIN_FILENO;
 use reading_answers::Answer;
+use std::io::{Read, Result};
 use test_rows::{
     Counts, decode, fill, holds, is_clear, number, print_counts, short_number, with_row,
 };
@@ -83,28 +83,35 @@ fn agrees(edition: Edition, row: &[u8], reading: &mut [u8], scratch: &mut [u8]) 
 
 // THE REPLAY
 
-fn replay(edition: Edition, rows: &[u8], reading: &mut [u8], scratch: &mut [u8]) -> Counts {
+fn replay(
+    rt: &impl Print,
+    edition: Edition,
+    rows: &[u8],
+    reading: &mut [u8],
+    scratch: &mut [u8],
+) -> Result<Counts> {
     let mut c = Counts { rows: 0, differ: 0 };
     let mut at: usize = 0;
     while 11 <= rows.len() - at {
         let n = row_length(&rows[at..]);
         if rows.len() - at < n {
-            return c;
+            return Ok(c);
         }
         let end = at + n;
-        c = with_row(c, agrees(edition, &rows[at..end], reading, scratch));
+        c = with_row(rt, c, agrees(edition, &rows[at..end], reading, scratch))?;
         at = end;
     }
-    c
+    Ok(c)
 }
 
-// The rows on standard input.
-pub fn run(edition: Edition) {
+// The rows that the input gives.
+pub fn run<R: Read>(rt: &impl Print, input: &mut R, edition: Edition) -> Result<()> {
     let mut text = [0u8; 393216];
-    let n = io::read_full(STDIN_FILENO, &mut text);
+    let n = tally_input::read_full(input, &mut text)?;
     let mut rows = [0u8; 196608];
     let m = decode(&text[..n], &mut rows);
     let mut reading = [0u8; 41216];
     let mut scratch = io::large_buffer();
-    print_counts(replay(edition, &rows[..m], &mut reading, &mut scratch));
+    let counts = replay(rt, edition, &rows[..m], &mut reading, &mut scratch)?;
+    print_counts(rt, counts)
 }

@@ -7,4 +7,4 @@ use Rattle.tally_text.proofs.append_bytes.Goals as goal
 pub returns : goal.returns
 returns c =
     let a = c.args in
-    (copied a.out.now a.src.now _ a.at c.requires c.copy.ensures, refl)
+    record { adds = copied a.out.now a.src.now _ a.at c.requires c.copy.ensures; value = refl }

@@ -10,12 +10,12 @@ use Rattle.tally_text.proofs.append_decimal.Goals as goal
 
 pub append_bytes-requires : goal.append_bytes-requires
 append_bytes-requires c =
-    let d = c.type_inv.digits in
+    let d = c.decimal-k in
     let m : c.args.n < 18446744073709551616 = search rules in
-    omega (arith, few_digits d.result c.args.n m d.ensures.1.0, length-take d.result d.new.1.0, c.requires)
+    omega (arith, few_digits d.result c.args.n m d.ensures.len, length-take d.result d.new.out, c.requires)
 
 pub returns : goal.returns
 returns c =
-    let d = c.type_inv.digits.ensures in
+    let d = c.decimal-k.ensures in
     let m : c.args.n < 18446744073709551616 = search rules in
-    called _ _ c.append_bytes.ensures.adds (d.1.1 ∙ decimal_is _ _ (few_digits _ _ m d.1.0) d.1.0)
+    called _ _ c.append_bytes.ensures.adds (d.digits ∙ decimal_is _ _ (few_digits _ _ m d.len) d.len)

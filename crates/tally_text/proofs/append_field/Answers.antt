@@ -10,4 +10,4 @@ unfolding field
 returns c =
     let a = c.args in
     let t = then _ _ c.append_bytes-behind.ensures.adds c.append_decimal.ensures in
-    (t, omega (arith, t.ends, field_most a.word.now a.n))
+    record { adds = t; upper_bound = omega (arith, t.ends, field_most a.word.now a.n) }

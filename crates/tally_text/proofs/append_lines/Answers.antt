@@ -6,7 +6,7 @@ use Rattle.tally_text.proofs.Lines.{Doing, nothing, part_there, line_there, next
 use Rattle.tally_text.proofs.append_lines.Goals as goal
 
 pub loop-i-init : goal.loop-i-init
-loop-i-init c = let p = c.requires in nothing _ _ _ _ p.0 p.1
+loop-i-init c = let p = c.requires in nothing _ _ _ _ p.parts_within p.n_in_bounds
 
 pub count_part-c-requires : goal.count_part-c-requires
 count_part-c-requires c = part_there _ _ _ _ _ _ _ _ c.loop-i.invariant c.loop-i-test.true
@@ -18,7 +18,7 @@ pub loop-i-preserved : goal.loop-i-preserved
 loop-i-preserved c =
     let l = c.loop-i in
     let p = c.count_part-c.ensures in
-    next _ _ _ _ _ _ _ _ l.invariant c.loop-i-test.true _ _ _ _ p.0 p.1 (search rules) c.append_line-end.ensures
+    next _ _ _ _ _ _ _ _ l.invariant c.loop-i-test.true _ _ _ _ p.syllables_value p.end_value (search rules) c.append_line-end.ensures
 
 pub shape_of-out : goal.shape_of-out
 shape_of-out c = c.loop-i.invariant.kept
