@@ -55,19 +55,11 @@ loop-i-preserved c =
       omega (arith, c.loop-i-test.true),
       bar_after s a.at l.i l.span c.bar_at-bar.result c.bar_at-bar.ensures l.invariant.1,
       part_more s a.at a.start l.i l.limit.most l.limit.end l.invariant.2 c.greatest_pass.result h
-<<<<<<< HEAD
           (c.greatest_pass.ensures ∙ ap walk.top_of (bar_span s a.at l.i l.span c.bar_at-bar.result c.bar_at-bar.ensures l.invariant.1))
-          (⊎_elim
-          (λ w g. bar_opens s a.at l.i l.span c.bar_at-bar.result c.bar_at-bar.ensures l.invariant.1 w.1.ensures w.2.left)
-          (λ w g. absurd (omega (arith, w.left, g)))
-          c.else-start-i.branch),
-=======
-          (c.greatest_pass.ensures ∙ ap walk.top_of (bar_span s a.at l.i l.span b.bar_at-bar.result b.bar_at-bar.ensures l.invariant.1))
           (elim c.else-start-i.branch [
-            | else-start-i-via-then-start-i+else-opens w ↦ λ g. bar_opens s a.at l.i l.span b.bar_at-bar.result b.bar_at-bar.ensures l.invariant.1 w.opens.ensures w.if-opens.false
+            | else-start-i-via-then-start-i+else-opens w ↦ λ g. bar_opens s a.at l.i l.span c.bar_at-bar.result c.bar_at-bar.ensures l.invariant.1 w.opens.ensures w.if-opens.false
             | else-start-i-via-else-start-i w ↦ λ g. absurd (omega (arith, w.if-start-i.false, g))
           ]),
->>>>>>> 5a564237126c68791e74d36621a988dabc1f218a
     )
 
 pub returns : goal.returns
