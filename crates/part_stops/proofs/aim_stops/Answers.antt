@@ -1,6 +1,6 @@
 -- `part_stops::aim_stops` meets its contract.
 use native.Mathlib.Omega.{arith}
-use Rattle.part_stops.proofs.Backward.{Aiming, aiming_start, aiming_on, aiming_next, aiming_end}
+use Rattle.part_stops.proofs.Backward.{aiming_start, aiming_on, aiming_next, aiming_end}
 use Rattle.part_stops.proofs.aim_stops.Goals as goal
 
 pub loop-j-init : goal.loop-j-init

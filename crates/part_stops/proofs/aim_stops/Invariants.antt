@@ -1,6 +1,5 @@
 -- `part_stops::aim_stops` meets its contract.
-use native.Mathlib.Omega.{arith}
-use Rattle.part_stops.proofs.Backward.{Aiming, aiming_start, aiming_on, aiming_next, aiming_end}
+use Rattle.part_stops.proofs.Backward.{Aiming}
 use Rattle.part_stops.proofs.aim_stops.Given as goal
 
 abbrev pub invariant-loop-j : goal.invariant-loop-j

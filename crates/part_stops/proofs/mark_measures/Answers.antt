@@ -1,6 +1,6 @@
 -- `part_stops::mark_measures` meets its contract.
 use native.Mathlib.Omega.{arith}
-use Rattle.part_stops.proofs.Forward.{AllMarking, all_start, rows_before, all_room, all_next, all_end}
+use Rattle.part_stops.proofs.Forward.{all_start, rows_before, all_room, all_next, all_end}
 use Rattle.part_stops.proofs.mark_measures.Goals as goal
 
 pub loop-left-init : goal.loop-left-init

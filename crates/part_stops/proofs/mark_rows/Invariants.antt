@@ -1,6 +1,5 @@
 -- `part_stops::mark_rows` meets its contract.
-use native.Mathlib.Omega.{arith}
-use Rattle.part_stops.proofs.Forward.{Marking, marking_start, marking_length, marking_room, marking_next, marking_end}
+use Rattle.part_stops.proofs.Forward.{Marking}
 use Rattle.part_stops.proofs.mark_rows.Given as goal
 
 abbrev pub invariant-loop-left : goal.invariant-loop-left

@@ -1,6 +1,5 @@
 -- `part_stops::mark_taker` meets its contract.
 use mathlib.Core.Path.{refl}
-use borrow.Author.Rules.{rules}
 use Rattle.part_stops.proofs.Forward.{mark_later, mark_first}
 use Rattle.part_stops.proofs.mark_taker.Goals as goal
 

@@ -1,6 +1,5 @@
 -- `part_stops::write_stops` meets its contract.
 use native.Mathlib.Omega.{arith}
-use borrow.Author.Rules.{rules}
 use Rattle.part_stops.proofs.Bars.{stopped}
 use Rattle.part_stops.proofs.write_stops.Goals as goal
 
