@@ -1,5 +1,5 @@
 -- EVERY ITEM IS OF A PART THAT THERE IS: its number is below the number of voices, or 0 where none is named.
-use Prim.Native.Nat.{ℕ, suc, ◌+◌, ◌≤◌, ◌<◌, max}
+use Prim.Native.Nat.{ℕ, ◌+◌, ◌≤◌, ◌<◌, max}
 use mathlib.Core.Path.{◌≡◌, refl, subst}
 use mathlib.Core.Bool.{Bool, true, false}
 use mathlib.Core.Option.{Option, none, some}
@@ -8,14 +8,14 @@ use native.Mathlib.Nat.{le_refl}
 use native.Mathlib.Omega.{arith}
 use lib.Dec.{ltb, leb}
 use lib.ListN.{length, length-append}
-use Rattle.laws.specs.Lists.{All, elem, index_of}
+use Rattle.laws.specs.Lists.{All, elem}
 use Rattle.laws.proofs.Bools.{by_test}
 use Rattle.laws.proofs.Lists.{All-append, All-map, index_lt}
 use Rattle.editions.specs.declared.Edition.{Edition}
 use Rattle.reader.specs.Tokens.{Effect}
 use Rattle.reader.specs.Lines.{Kind, blank, refused, lyric, voice, key, meter, unit, tune, other, music, kind_of}
-use Rattle.reader.specs.Steps.{TextLine, refuse, on, run}
-use Rattle.reader.specs.Scan.{Item, Items, ScanState, Out, begin, most_voices, most_lines, first_refusal, voices_before, play_on, voice_on, unit_on, act, step, scan}
+use Rattle.reader.specs.Steps.{TextLine, on, run}
+use Rattle.reader.specs.Scan.{Item, Items, ScanState, begin, most_voices, most_lines, first_refusal, voices_before, play_on, voice_on, unit_on, act, step, scan}
 use Rattle.bounds.proofs.ScanWeights.{Holds, holds_run, voice_count, before_count}
 
 -- the items of n parts

@@ -1,7 +1,6 @@
 -- A PART WITHOUT A MUSIC LINE: built from its items it has no measure, so its five sections are those of the empty part.
-use Prim.Native.Nat.{ℕ}
-use mathlib.Core.Path.{◌≡◌, refl, sym, ap, ◌∙◌}
-use mathlib.Core.Bool.{Bool, true, false, true≢false}
+use mathlib.Core.Path.{◌≡◌, refl, sym, ap}
+use mathlib.Core.Bool.{false, true≢false}
 use mathlib.Core.List.{List, [], ◌∷◌}
 use Rattle.laws.specs.Lists.{foldl, any}
 use Rattle.laws.proofs.Bools.{by_test, or_no_left, or_no_right}

@@ -1,10 +1,9 @@
 -- A PART WITH A MUSIC LINE has a measure: the line opens one, nothing takes the only one away.
 use Prim.Native.Nat.{ℕ, suc, ◌≤◌, ◌<◌}
 use mathlib.Core.Path.{◌≡◌, refl, sym, ap, ◌∙◌}
-use mathlib.Core.Bool.{Bool, true, false, false≢true}
+use mathlib.Core.Bool.{true, false≢true}
 use mathlib.Core.Option.{Option, none, some}
 use mathlib.Core.List.{List, [], ◌∷◌, map, reverse}
-use native.Mathlib.Nat.{not-suc-le-zero}
 use native.Mathlib.Omega.{arith}
 use lib.ListN.{length, length-map}
 use Rattle.laws.specs.Lists.{foldl, any, sum}
@@ -15,9 +14,9 @@ use Rattle.editions.specs.declared.Edition.{Edition}
 use Rattle.reader.specs.Tokens.{tokens}
 use Rattle.reader.specs.Scan.{Item, voice_declared, reset, keyInHeader, key_change, meter_change, lyric_line, music_line, Env}
 use Rattle.reader.specs.State.{PartState, Measure, is_empty, on_open, new_part}
-use Rattle.reader.specs.Part.{Part, hears, on_lyric, on_key, on_item, on_line, line_begins, dropped, in_order, marked, finished, build, finished_measures}
+use Rattle.reader.specs.Part.{hears, on_lyric, on_key, on_item, on_line, line_begins, dropped, in_order, marked, finished, build, finished_measures}
 use Rattle.reader.specs.Voltas.{starts, ends_at, close, closed}
-use Rattle.reader.specs.Answer.{is_music, built, parts, measure_count}
+use Rattle.reader.specs.Answer.{is_music, built, measure_count}
 use Rattle.reader.proofs.LineLaws.{Kept, kept_item, ready_begins, ready_after}
 
 -- a measure there stays

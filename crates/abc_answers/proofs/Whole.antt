@@ -1,7 +1,7 @@
 -- THE READING, WHOLE: the bytes of its parts as they are written one behind the other, and when there is a measure.
-use Prim.Native.Nat.{ℕ, zero, suc, ◌+◌, ◌≤◌, ◌<◌, max}
+use Prim.Native.Nat.{ℕ, zero, suc, ◌+◌, ◌≤◌, ◌<◌}
 use mathlib.Core.Path.{◌≡◌, refl, sym, ap, ◌∙◌}
-use mathlib.Core.Bool.{Bool, true, false, cond, false≢true}
+use mathlib.Core.Bool.{true, false, false≢true}
 use mathlib.Core.List.{List, [], ◌∷◌, ◌++◌, append-nil, append_assoc}
 use native.Mathlib.Nat.{zero-add}
 use native.Mathlib.Omega.{arith}
@@ -9,22 +9,19 @@ use lib.Dec.{eqb, leb}
 use borrow.Author.Tests.{le-leb, lt-leb, eqb-true, eqb-false}
 use Rattle.laws.specs.Lists.{any, sum}
 use Rattle.laws.specs.Bytes.{le32}
-use Rattle.laws.proofs.Bools.{by_test, or_left, or_right, eqb_same}
+use Rattle.laws.proofs.Bools.{by_test, or_right, eqb_same}
 use Rattle.laws.proofs.Lists.{any_none}
 use Rattle.editions.specs.declared.Edition.{Edition}
 use Rattle.reader.proofs.PartLaws.{parts_count}
-use Rattle.standard.specs.Keys.{Key}
 use Rattle.reader.specs.Steps.{items_of}
 use Rattle.reader.specs.Scan.{Item, Items, Env}
-use Rattle.reader.specs.Part.{Part, build}
 use Rattle.reader.specs.Records.{sections}
 use Rattle.reader.specs.Answer.{is_music, built, parts, part_bytes, encode, measure_count}
-use Rattle.bounds.proofs.ScanWeights.{voice_count}
 use Rattle.bounds.proofs.Length.{silent_parts}
 use Rattle.abc_answers.specs.Parts.{parts_of, bytes_of, has_music}
 use Rattle.abc_answers.proofs.Silent.{built_sections}
 use Rattle.abc_answers.proofs.Sounding.{built_some}
-use Rattle.abc_answers.proofs.Owners.{Below, items_owned}
+use Rattle.abc_answers.proofs.Owners.{Below}
 
 -- THE BYTES
 -- a part more at the end
