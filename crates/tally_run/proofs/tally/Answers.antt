@@ -8,27 +8,39 @@ pub returns-then-input-gt-MOST_INPUT : goal.returns-then-input-gt-MOST_INPUT
 returns-then-input-gt-MOST_INPUT c =
     let l = c.if-input-gt-MOST_INPUT.true in
     let h = whole _ c.append_bytes.ensures.adds (long _ l) in
-    (h.counts, (h.text, (h.rest, (reading_long _ _ l, scratch_long _ _ l))))
+    record { prefix_len = h.counts; out_after = h.text; out_unchanged = h.rest; reading_after = reading_long _ _ l; scratch_after = scratch_long _ _ l }
 
 pub append_reading-requires : goal.append_reading-requires
 append_reading-requires c =
     let p = c.parse_abc.ensures in
-    ((read_text _ _ _ _ _ _ p.0 c.in-Read.is p.1.0).room, search rules)
+    record { first_part_in_bounds = (read_text _ _ _ _ _ _ p.result_value c.in-Read.is p.reading_after).room; out_bytes_in_bounds = search rules }
 
 pub returns-in-Read : goal.returns-in-Read
 returns-in-Read c =
     let p = c.parse_abc.ensures in
     let q = c.requires in
     let l = c.if-input-gt-MOST_INPUT.false in
-    let t = (read_text _ _ _ _ _ _ p.0 c.in-Read.is p.1.0).is in
+    let t = (read_text _ _ _ _ _ _ p.result_value c.in-Read.is p.reading_after).is in
     let h = whole _ c.append_reading.ensures (t ∙ short _ _ _ l q.0 q.1) in
-    (h.counts, (h.text, (h.rest, (p.1.0 ∙ reading_short _ _ _ _ l q.0 q.1, p.1.1 ∙ scratch_short _ _ _ _ l q.0 q.1))))
+    record {
+      prefix_len = h.counts;
+      out_after = h.text;
+      out_unchanged = h.rest;
+      reading_after = p.reading_after ∙ reading_short _ _ _ _ l q.0 q.1;
+      scratch_after = p.scratch_after ∙ scratch_short _ _ _ _ l q.0 q.1;
+    }
 
 pub returns-in-Refused : goal.returns-in-Refused
 returns-in-Refused c =
     let p = c.parse_abc.ensures in
     let q = c.requires in
     let l = c.if-input-gt-MOST_INPUT.false in
-    let t = refused_text_lem _ _ _ _ p.0 c.in-Refused.is in
+    let t = refused_text_lem _ _ _ _ p.result_value c.in-Refused.is in
     let h = whole _ c.append_refusal.ensures (t ∙ short _ _ _ l q.0 q.1) in
-    (h.counts, (h.text, (h.rest, (p.1.0 ∙ reading_short _ _ _ _ l q.0 q.1, p.1.1 ∙ scratch_short _ _ _ _ l q.0 q.1))))
+    record {
+      prefix_len = h.counts;
+      out_after = h.text;
+      out_unchanged = h.rest;
+      reading_after = p.reading_after ∙ reading_short _ _ _ _ l q.0 q.1;
+      scratch_after = p.scratch_after ∙ scratch_short _ _ _ _ l q.0 q.1;
+    }

@@ -6,7 +6,7 @@ use lib.ListN.{length}
 use Rattle.test_played.proofs.replay.Given as goal
 
 abbrev pub invariant-loop-at : goal.invariant-loop-at
-invariant-loop-at l = (l.at ≤ length l.rows) × (length l.list ≡ length l.initial.list)
+invariant-loop-at g l = (l.at ≤ length l.rows) × (length l.list ≡ length l.initial.list)
 
 abbrev pub decreases-loop-at : goal.decreases-loop-at
-decreases-loop-at l = length l.rows - l.at
+decreases-loop-at g l = length l.rows - l.at

@@ -6,7 +6,7 @@ use lib.ListN.{length}
 use Rattle.test_texts.proofs.replay.Given as goal
 
 abbrev pub invariant-loop-at : goal.invariant-loop-at
-invariant-loop-at l = (l.at ≤ length l.rows) × (length l.reading ≡ length l.initial.reading) × (length l.scratch ≡ length l.initial.scratch)
+invariant-loop-at g l = (l.at ≤ length l.rows) × (length l.reading ≡ length l.initial.reading) × (length l.scratch ≡ length l.initial.scratch)
 
 abbrev pub decreases-loop-at : goal.decreases-loop-at
-decreases-loop-at l = length l.rows - l.at
+decreases-loop-at g l = length l.rows - l.at
