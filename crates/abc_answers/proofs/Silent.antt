@@ -6,7 +6,7 @@ use Rattle.laws.specs.Lists.{foldl, any}
 use Rattle.laws.proofs.Bools.{by_test, or_no_left, or_no_right}
 use Rattle.standard.specs.Keys.{Key}
 use Rattle.editions.specs.declared.Edition.{Edition}
-use Rattle.reader.specs.Scan.{Item, voice_declared, reset, keyInHeader, key_change, meter_change, lyric_line, music_line, Env}
+use Rattle.reader.specs.Scan.{Item, voice_declared, reset, key_in_header, key_change, meter_change, lyric_line, music_line, Env}
 use Rattle.reader.specs.State.{PartState, Measure, on_open, new_part}
 use Rattle.reader.specs.Part.{Part, empty_part, hears, on_lyric, on_key, on_item, dropped, marked, finished, build, finished_measures}
 use Rattle.reader.specs.Voltas.{close, closed}
@@ -27,7 +27,7 @@ item_none : (ed : Edition) (header : Key) (s : PartState) (i : Item) → is_musi
 unfolding on_item on_lyric is_music
 item_none ed header s (voice_declared b) e h = h
 item_none ed header s reset e h = h
-item_none ed header s keyInHeader e h = h
+item_none ed header s key_in_header e h = h
 item_none ed header s (key_change k) e h = key_none header k s.measures s h h
 item_none ed header s (meter_change t) e h = open_none _ s h
 item_none ed header s (lyric_line b t) e h = h

@@ -12,7 +12,7 @@ use Rattle.laws.proofs.Lists.{length_on_first, sum_reverse}
 use Rattle.standard.specs.Keys.{Key}
 use Rattle.editions.specs.declared.Edition.{Edition}
 use Rattle.reader.specs.Tokens.{tokens}
-use Rattle.reader.specs.Scan.{Item, voice_declared, reset, keyInHeader, key_change, meter_change, lyric_line, music_line, Env}
+use Rattle.reader.specs.Scan.{Item, voice_declared, reset, key_in_header, key_change, meter_change, lyric_line, music_line, Env}
 use Rattle.reader.specs.State.{PartState, Measure, is_empty, on_open, new_part}
 use Rattle.reader.specs.Part.{hears, on_lyric, on_key, on_item, on_line, line_begins, dropped, in_order, marked, finished, build, finished_measures}
 use Rattle.reader.specs.Voltas.{starts, ends_at, close, closed}
@@ -38,7 +38,7 @@ item_some : (ed : Edition) (header : Key) (s : PartState) (i : Item) → Kept s 
 unfolding on_item on_lyric
 item_some ed header s (voice_declared b) k h = h
 item_some ed header s reset k h = h
-item_some ed header s keyInHeader k h = h
+item_some ed header s key_in_header k h = h
 item_some ed header s (key_change q) k h = key_some header q s.measures s h
 item_some ed header s (meter_change t) k h = open_some _ s h
 item_some ed header s (lyric_line b t) k h = h
@@ -53,7 +53,7 @@ music_some : (ed : Edition) (header : Key) (s : PartState) (i : Item) → Kept s
 unfolding is_music
 music_some ed header s (voice_declared b) k e = absurd (false≢true e)
 music_some ed header s reset k e = absurd (false≢true e)
-music_some ed header s keyInHeader k e = absurd (false≢true e)
+music_some ed header s key_in_header k e = absurd (false≢true e)
 music_some ed header s (key_change q) k e = absurd (false≢true e)
 music_some ed header s (meter_change t) k e = absurd (false≢true e)
 music_some ed header s (lyric_line b t) k e = absurd (false≢true e)

@@ -13,7 +13,7 @@ use Rattle.laws.specs.Lists.{All, sum, foldl}
 use Rattle.laws.proofs.Lists.{none_any}
 use Rattle.laws.proofs.Bools.{some≢none}
 use Rattle.editions.specs.declared.Edition.{Edition}
-use Rattle.reader.specs.Text.{Utf8, between, one, two, three, afterE0, afterED, afterF0, afterF4, invalid, utf8_step, is_between, is_utf8, White, white, inC2, inE1, inE19A, inE2, inE280, inE281, inE3, inE380, other, white_step, is_all_white, is_blank}
+use Rattle.reader.specs.Text.{Utf8, between, one, two, three, after_e0, after_ed, after_f0, after_f4, invalid, utf8_step, is_between, is_utf8, White, white, in_c2, in_e1, in_e19a, in_e2, in_e280, in_e281, in_e3, in_e380, other, white_step, is_all_white, is_blank}
 use Rattle.reader.specs.Scan.{Item, Env}
 use Rattle.reader.specs.Part.{Part, build, empty_part}
 use Rattle.reader.specs.Answer.{Verdict, reading, Outcome, most_bytes, scratch_needed, refused_with, early, is_music, built, parts, encode, measure_count, written, ended, finish}
@@ -27,22 +27,22 @@ is_between_lem between h = refl
 is_between_lem one h = absurd (false≢true h)
 is_between_lem two h = absurd (false≢true h)
 is_between_lem three h = absurd (false≢true h)
-is_between_lem afterE0 h = absurd (false≢true h)
-is_between_lem afterED h = absurd (false≢true h)
-is_between_lem afterF0 h = absurd (false≢true h)
-is_between_lem afterF4 h = absurd (false≢true h)
+is_between_lem after_e0 h = absurd (false≢true h)
+is_between_lem after_ed h = absurd (false≢true h)
+is_between_lem after_f0 h = absurd (false≢true h)
+is_between_lem after_f4 h = absurd (false≢true h)
 is_between_lem invalid h = absurd (false≢true h)
 
 not_white : (q : White) → (q ≡ white → ⊥) → is_all_white q ≡ false
 not_white white h = absurd (h refl)
-not_white inC2 h = refl
-not_white inE1 h = refl
-not_white inE19A h = refl
-not_white inE2 h = refl
-not_white inE280 h = refl
-not_white inE281 h = refl
-not_white inE3 h = refl
-not_white inE380 h = refl
+not_white in_c2 h = refl
+not_white in_e1 h = refl
+not_white in_e19a h = refl
+not_white in_e2 h = refl
+not_white in_e280 h = refl
+not_white in_e281 h = refl
+not_white in_e3 h = refl
+not_white in_e380 h = refl
 not_white other h = refl
 
 utf8_of : (t : List ℕ) → is_utf8 t ≡ true → IsUtf8 t

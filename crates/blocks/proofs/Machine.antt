@@ -10,7 +10,7 @@ use borrow.Author.Tests.{eqb-true}
 use Rattle.laws.specs.Lists.{foldl}
 use Rattle.laws.proofs.Bools.{by_test}
 use Rattle.laws.proofs.Lists.{foldl_append, is_nil_true}
-use Rattle.reader.specs.Text.{Utf8, between, one, two, three, afterE0, afterED, afterF0, afterF4, invalid, utf8_step, is_between, White, white, inC2, inE1, inE19A, inE2, inE280, inE281, inE3, inE380, other, white_step, is_all_white}
+use Rattle.reader.specs.Text.{Utf8, between, one, two, three, after_e0, after_ed, after_f0, after_f4, invalid, utf8_step, is_between, White, white, in_c2, in_e1, in_e19a, in_e2, in_e280, in_e281, in_e3, in_e380, other, white_step, is_all_white}
 use Rattle.blocks.specs.Blocks.{closed}
 
 module _ {Q : Type 0} (d : Q → ℕ → Q) (q0 dead : Q) (differ : dead ≡ q0 → ⊥) (lf : (q : Q) → (d q 10 ≡ q0) ⊎ (d q 10 ≡ dead)) (stuck : (c : ℕ) → d dead c ≡ dead) where
@@ -49,14 +49,14 @@ other_white e = false≢true (ap is_all_white e)
 white_lf : (q : White) → (white_step q 10 ≡ white) ⊎ (white_step q 10 ≡ other)
 unfolding white_step
 white_lf white = inl refl
-white_lf inC2 = inr refl
-white_lf inE1 = inr refl
-white_lf inE19A = inr refl
-white_lf inE2 = inr refl
-white_lf inE280 = inr refl
-white_lf inE281 = inr refl
-white_lf inE3 = inr refl
-white_lf inE380 = inr refl
+white_lf in_c2 = inr refl
+white_lf in_e1 = inr refl
+white_lf in_e19a = inr refl
+white_lf in_e2 = inr refl
+white_lf in_e280 = inr refl
+white_lf in_e281 = inr refl
+white_lf in_e3 = inr refl
+white_lf in_e380 = inr refl
 white_lf other = inr refl
 
 other_stuck : (c : ℕ) → white_step other c ≡ other
@@ -79,10 +79,10 @@ utf8_lf between = inl refl
 utf8_lf one = inr refl
 utf8_lf two = inr refl
 utf8_lf three = inr refl
-utf8_lf afterE0 = inr refl
-utf8_lf afterED = inr refl
-utf8_lf afterF0 = inr refl
-utf8_lf afterF4 = inr refl
+utf8_lf after_e0 = inr refl
+utf8_lf after_ed = inr refl
+utf8_lf after_f0 = inr refl
+utf8_lf after_f4 = inr refl
 utf8_lf invalid = inr refl
 
 invalid_stuck : (c : ℕ) → utf8_step invalid c ≡ invalid

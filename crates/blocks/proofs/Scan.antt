@@ -16,7 +16,7 @@ use Rattle.editions.specs.declared.Edition.{Edition}
 use Rattle.reader.specs.Tokens.{Effect, counts, refuses, sets_unit, sets_meter, no_effect}
 use Rattle.reader.specs.Lines.{is_v, is_lyric, Kind, blank, refused, lyric, voice, key, meter, unit, tune, other, music, kind_of}
 use Rattle.reader.specs.Steps.{TextLine, refuse, on, tag, items_of}
-use Rattle.reader.specs.Scan.{Item, voice_declared, reset, keyInHeader, key_change, meter_change, lyric_line, music_line, ScanState, most_notes, most_lines, most_voices, note_count, last_unit, last_meter, first_refusal, further, at, next_line, with_unnamed, voices_before, with_voices, Items, Out, play_on, voice_on, act, step}
+use Rattle.reader.specs.Scan.{Item, voice_declared, reset, key_in_header, key_change, meter_change, lyric_line, music_line, ScanState, most_notes, most_lines, most_voices, note_count, last_unit, last_meter, first_refusal, further, at, next_line, with_unnamed, voices_before, with_voices, Items, Out, play_on, voice_on, act, step}
 use Rattle.reader.specs.Answer.{is_music}
 use Rattle.blocks.specs.Kinds.{is_music_line, unit_after, meter_after}
 use Rattle.blocks.specs.Frame.{GoesThrough}
@@ -406,7 +406,7 @@ act_no_music s (refused n) h p = tt
 act_no_music s (lyric t) true p = λ x. tt
 act_no_music s (lyric t) false p = λ x. no_music_item s.part p (lyric_line (ltb s.part s.places) t) [] refl tt
 act_no_music s (voice v mid) h p = voice_no_music s v (voices_before s) (elem v (voices_before s)) (leb most_voices (length (voices_before s))) mid p
-act_no_music s (key k) true p = λ x. no_music_item s.part p keyInHeader [] refl tt
+act_no_music s (key k) true p = λ x. no_music_item s.part p key_in_header [] refl tt
 act_no_music s (key k) false p = λ x. no_music_item s.part p (key_change k) [] refl tt
 act_no_music s (meter m) true p = λ x. tt
 act_no_music s (meter m) false p = λ x. no_music_item s.part p (meter_change m) [] refl tt

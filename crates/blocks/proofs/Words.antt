@@ -13,7 +13,7 @@ use Rattle.laws.proofs.Lists.{All-append, All-left, All-right, All-concat, All-u
 use Rattle.laws.proofs.Orders.{All-perm, perm_nil}
 use Rattle.editions.specs.declared.Edition.{Edition}
 use Rattle.reader.specs.Text as text
-use Rattle.reader.specs.Text.{White, white, inC2, inE1, inE19A, inE2, inE280, inE281, inE3, inE380, white_step, is_all_white, is_blank, text_lines, cut, trim, clean}
+use Rattle.reader.specs.Text.{White, white, in_c2, in_e1, in_e19a, in_e2, in_e280, in_e281, in_e3, in_e380, white_step, is_all_white, is_blank, text_lines, cut, trim, clean}
 use Rattle.reader.specs.Lines.{is_k}
 use Rattle.reader.specs.Steps.{TextLine}
 use Rattle.blocks.specs.Blocks.{ends_lF, up_to_k, after_k, until_v, blocks_of, header, opening, blocks, rebuilt}
@@ -28,27 +28,27 @@ use Rattle.blocks.proofs.TextLines.{lines_concat, lines_closed, lines_all, rebui
 white_lf : (q : White) → is_all_white (white_step q 10) ≡ is_all_white q
 unfolding white_step
 white_lf white = refl
-white_lf inC2 = refl
-white_lf inE1 = refl
-white_lf inE19A = refl
-white_lf inE2 = refl
-white_lf inE280 = refl
-white_lf inE281 = refl
-white_lf inE3 = refl
-white_lf inE380 = refl
+white_lf in_c2 = refl
+white_lf in_e1 = refl
+white_lf in_e19a = refl
+white_lf in_e2 = refl
+white_lf in_e280 = refl
+white_lf in_e281 = refl
+white_lf in_e3 = refl
+white_lf in_e380 = refl
 white_lf text.other = refl
 
 white_cr : (q : White) → is_all_white (white_step q 13) ≡ is_all_white q
 unfolding white_step
 white_cr white = refl
-white_cr inC2 = refl
-white_cr inE1 = refl
-white_cr inE19A = refl
-white_cr inE2 = refl
-white_cr inE280 = refl
-white_cr inE281 = refl
-white_cr inE3 = refl
-white_cr inE380 = refl
+white_cr in_c2 = refl
+white_cr in_e1 = refl
+white_cr in_e19a = refl
+white_cr in_e2 = refl
+white_cr in_e280 = refl
+white_cr in_e281 = refl
+white_cr in_e3 = refl
+white_cr in_e380 = refl
 white_cr text.other = refl
 
 -- a byte c that is white space at any end

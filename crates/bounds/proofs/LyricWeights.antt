@@ -21,9 +21,9 @@ use Rattle.standard.specs.Lyrics.{Word, skip, hold, syllable, syllable_text, syl
 use Rattle.editions.specs.declared.Edition.TheVariants.{First, Second}
 use Rattle.reader.specs.Text.{push}
 use Rattle.reader.specs.Pieces.{pieces, words, separator, white_at}
-use Rattle.reader.specs.Token.{Token, space, overlay, quoted, broken, tuplet, slur, graceOpen, graceClose, decoration, barline, volta, unit, meter, key, field, chord, rest, note, nothing, skipped, refused}
+use Rattle.reader.specs.Token.{Token, space, overlay, quoted, broken, tuplet, slur, grace_open, grace_close, decoration, barline, volta, unit, meter, key, field, chord, rest, note, nothing, skipped, refused}
 use Rattle.reader.specs.Tokens.{tokens}
-use Rattle.reader.specs.Scan.{Item, voice_declared, reset, keyInHeader, key_change, meter_change, lyric_line, music_line}
+use Rattle.reader.specs.Scan.{Item, voice_declared, reset, key_in_header, key_change, meter_change, lyric_line, music_line}
 use Rattle.reader.specs.State.{PartState, Note, Measure, Sung, Verses, voice_now, set_voice, on_open, new_part}
 use Rattle.reader.specs.Lyrics.{Syllable, or_skip, word_of, words_of, lyric_words, put, held, sing, sung_by, held_at, sung_at, sing_on, sing_bars, sung_by_bars, sung_in, bars_from, sung_word, sung_each}
 use Rattle.reader.specs.Part.{on_broken, on_nothing, counted_in, append, on_sound, on_barline, hears, on_token, line_begins, on_line, on_lyric, on_key, on_item, finished, build, takers_in, finished_measures}
@@ -229,8 +229,8 @@ token_lines s quoted = refl
 token_lines s (broken up n) = broken_lines up n (voice_now s) s
 token_lines s (tuplet t) = refl
 token_lines s slur = refl
-token_lines s graceOpen = refl
-token_lines s graceClose = refl
+token_lines s grace_open = refl
+token_lines s grace_close = refl
 token_lines s decoration = refl
 token_lines s (barline b o) = refl
 token_lines s (volta ps) = refl
@@ -265,7 +265,7 @@ item_lines : (ed : Edition) (header : Key) (s : PartState) (i : Item) → lines_
 unfolding on_item on_lyric on_line on_open line_begins lyric_bytes
 item_lines ed header s (voice_declared b) = omega arith
 item_lines ed header s reset = omega arith
-item_lines ed header s keyInHeader = omega arith
+item_lines ed header s key_in_header = omega arith
 item_lines ed header s (key_change k) = omega (arith, same_bytes s (on_key header k s.measures s) (key_lines header k s.measures s))
 item_lines ed header s (meter_change t) = omega arith
 item_lines ed header s (lyric_line b t) = omega arith

@@ -12,7 +12,7 @@ use Rattle.laws.proofs.Bools.{by_test}
 use Rattle.laws.proofs.Lists.{All-alter_at, All-on_first, All-map, All-reverse, All-here}
 use Rattle.standard.specs.Keys.{Key, key_alter, place}
 use Rattle.standard.specs.Fields.{Meter}
-use Rattle.standard.specs.Bars.{Barline, normal, repeatStart, repeatEnd, repeatBoth, double, final}
+use Rattle.standard.specs.Bars.{Barline, normal, repeat_start, repeat_end, repeat_both, double, final}
 use Rattle.standard.specs.Lengths.{dotted, halved}
 use Rattle.standard.specs.Pitches.{Accidental, Written, Pitch, altered}
 use Rattle.standard.specs.Tuplets.{compound, normal_in, boundary}
@@ -22,11 +22,11 @@ use Rattle.standard.specs.Lyrics.{next_verse}
 use Rattle.editions.specs.declared.Edition.{Edition}
 use Rattle.reader.specs.Lengths.{Length, value_of}
 use Rattle.reader.specs.Pitches.{Scope, remembered, or_key, sound_by, sound_of, scope_by, scope_after, sounds_of, scope_after_all}
-use Rattle.reader.specs.Token.{Token, space, overlay, quoted, broken, tuplet, slur, graceOpen, graceClose, decoration, barline, volta, unit, meter, key, field, chord, rest, note, nothing, skipped, refused}
+use Rattle.reader.specs.Token.{Token, space, overlay, quoted, broken, tuplet, slur, grace_open, grace_close, decoration, barline, volta, unit, meter, key, field, chord, rest, note, nothing, skipped, refused}
 use Rattle.reader.specs.Tokens.{tokens}
 use Rattle.reader.specs.Barlines.{left_of}
-use Rattle.reader.specs.Scan.{Item, voice_declared, reset, keyInHeader, key_change, meter_change, lyric_line, music_line}
-use Rattle.reader.specs.State.{PartState, Note, Measure, Half, Running, Verses, with_beam, with_voices, with_right, with_left, with_meter, with_key_mark, with_volta, Volta, voltaBegins, on_open, is_empty, voice_in, voice_now, set_voice, new_measure, new_part, new_line, no_scopes}
+use Rattle.reader.specs.Scan.{Item, voice_declared, reset, key_in_header, key_change, meter_change, lyric_line, music_line}
+use Rattle.reader.specs.State.{PartState, Note, Measure, Half, Running, Verses, with_beam, with_voices, with_right, with_left, with_meter, with_key_mark, with_volta, Volta, volta_begins, on_open, is_empty, voice_in, voice_now, set_voice, new_measure, new_part, new_line, no_scopes}
 use Rattle.reader.specs.Voltas.{starts, ends_at, close, closed}
 use Rattle.reader.specs.Part.{halved_note, broken_note, on_broken, after_half, can_beam, beamed, beamed_again, on_nothing, group_in, grouped, one_fewer, counted_in, append, rest_note, sound_note, on_sound, left_set, ended, on_barline, hears, on_token, opened, line_begins, on_line, on_lyric, on_key, on_item, dropped, in_order, marked_by, marked, finished, in_meter, finished_measures}
 use Rattle.reader.proofs.ValueLaws.{value_range}
@@ -99,9 +99,9 @@ rest_fits : (k : NoteKind) (u : ℕ) (l : Length) → NoteFits (rest_note k (val
 unfolding rest_note
 rest_fits Notes.sounded u l = record { value_fits = omega (arith, (value_range u l).0); dots_fit = omega (arith, (value_range u l).1); actual_fits = lit< tt; normal_fits = lit< tt; boundary_fits = lit< tt; pitches_fit = tt }
 rest_fits Notes.rest u l = record { value_fits = omega (arith, (value_range u l).0); dots_fit = omega (arith, (value_range u l).1); actual_fits = lit< tt; normal_fits = lit< tt; boundary_fits = lit< tt; pitches_fit = tt }
-rest_fits Notes.invisibleRest u l = record { value_fits = omega (arith, (value_range u l).0); dots_fit = omega (arith, (value_range u l).1); actual_fits = lit< tt; normal_fits = lit< tt; boundary_fits = lit< tt; pitches_fit = tt }
-rest_fits Notes.barRest u l = record { value_fits = lit≤ tt; dots_fit = lit≤ tt; actual_fits = lit< tt; normal_fits = lit< tt; boundary_fits = lit< tt; pitches_fit = tt }
-rest_fits Notes.invisibleBarRest u l = record { value_fits = lit≤ tt; dots_fit = lit≤ tt; actual_fits = lit< tt; normal_fits = lit< tt; boundary_fits = lit< tt; pitches_fit = tt }
+rest_fits Notes.invisible_rest u l = record { value_fits = omega (arith, (value_range u l).0); dots_fit = omega (arith, (value_range u l).1); actual_fits = lit< tt; normal_fits = lit< tt; boundary_fits = lit< tt; pitches_fit = tt }
+rest_fits Notes.bar_rest u l = record { value_fits = lit≤ tt; dots_fit = lit≤ tt; actual_fits = lit< tt; normal_fits = lit< tt; boundary_fits = lit< tt; pitches_fit = tt }
+rest_fits Notes.invisible_bar_rest u l = record { value_fits = lit≤ tt; dots_fit = lit≤ tt; actual_fits = lit< tt; normal_fits = lit< tt; boundary_fits = lit< tt; pitches_fit = tt }
 
 -- PITCHES
 altered_fits : (w : Written) (a : Accidental) → WrittenFits w → SignFits (some a) → PitchFits (altered w a)
@@ -185,9 +185,9 @@ mark_open k m h = record { fits = mark_measure k m h.fits; volta_open = h.volta_
 volta_measure : (v : Volta) (ps : List ℕ) → PassesFit 0 ps → (m : Measure) → MeasureFits m → MeasureFits (with_volta v ps m)
 volta_measure v ps f m h = record { voices_fit = h.voices_fit; meter_fits = h.meter_fits; passes_fit = f }
 
-volta_begins : (ps : List ℕ) → PassesFit 0 ps → (m : Measure) → OpenFits m → OpenFits (with_volta voltaBegins ps m)
+volta_begins_lem : (ps : List ℕ) → PassesFit 0 ps → (m : Measure) → OpenFits m → OpenFits (with_volta volta_begins ps m)
 unfolding VoltaOpen
-volta_begins ps f m h = record { fits = volta_measure voltaBegins ps f m h.fits; volta_open = tt }
+volta_begins_lem ps f m h = record { fits = volta_measure volta_begins ps f m h.fits; volta_open = tt }
 
 -- a new one
 new_measure_lem : (t : Meter) (b : Barline) → MeterFits t → OpenFits (new_measure t b)
@@ -198,9 +198,9 @@ new_measure_lem t b f = record { fits = record { voices_fit = (tt, (tt, (tt, (tt
 left_set_lem : (b : Barline) (m : Measure) → OpenFits m → OpenFits (left_set b m)
 unfolding left_set
 left_set_lem normal m h = h
-left_set_lem repeatStart m h = left_measure repeatStart m h
-left_set_lem repeatEnd m h = h
-left_set_lem repeatBoth m h = left_measure repeatBoth m h
+left_set_lem repeat_start m h = left_measure repeat_start m h
+left_set_lem repeat_end m h = h
+left_set_lem repeat_both m h = left_measure repeat_both m h
 left_set_lem double m h = left_measure double m h
 left_set_lem final m h = h
 
@@ -295,12 +295,12 @@ token_state s quoted f h = h
 token_state s (broken up n) f h = broken_state up n (voice_now s) s (now_fits s h) h
 token_state s (tuplet t) f h = record { measures_fit = h.measures_fit; scopes_fit = h.scopes_fit; meter_fits = h.meter_fits; tuplet_fits = (f.0, normal_in_fits s.line.meter t.normal f.1); verse_fits = h.verse_fits; lines_fit = h.lines_fit }
 token_state s slur f h = record { measures_fit = h.measures_fit; scopes_fit = h.scopes_fit; meter_fits = h.meter_fits; tuplet_fits = h.tuplet_fits; verse_fits = h.verse_fits; lines_fit = h.lines_fit }
-token_state s graceOpen f h = record { measures_fit = h.measures_fit; scopes_fit = h.scopes_fit; meter_fits = h.meter_fits; tuplet_fits = h.tuplet_fits; verse_fits = h.verse_fits; lines_fit = h.lines_fit }
-token_state s graceClose f h = record { measures_fit = h.measures_fit; scopes_fit = h.scopes_fit; meter_fits = h.meter_fits; tuplet_fits = h.tuplet_fits; verse_fits = h.verse_fits; lines_fit = h.lines_fit }
+token_state s grace_open f h = record { measures_fit = h.measures_fit; scopes_fit = h.scopes_fit; meter_fits = h.meter_fits; tuplet_fits = h.tuplet_fits; verse_fits = h.verse_fits; lines_fit = h.lines_fit }
+token_state s grace_close f h = record { measures_fit = h.measures_fit; scopes_fit = h.scopes_fit; meter_fits = h.meter_fits; tuplet_fits = h.tuplet_fits; verse_fits = h.verse_fits; lines_fit = h.lines_fit }
 token_state s decoration f h = h
 token_state s (barline b o) f h =
     record { measures_fit = ended_fit b o s.line.meter s.measures h.meter_fits h.measures_fit; scopes_fit = no_scopes_fit; meter_fits = h.meter_fits; tuplet_fits = h.tuplet_fits; verse_fits = h.verse_fits; lines_fit = h.lines_fit }
-token_state s (volta ps) f h = open_state (with_volta voltaBegins ps) (volta_begins ps f) s h
+token_state s (volta ps) f h = open_state (with_volta volta_begins ps) (volta_begins_lem ps f) s h
 token_state s (unit u) f h = record { measures_fit = h.measures_fit; scopes_fit = h.scopes_fit; meter_fits = h.meter_fits; tuplet_fits = h.tuplet_fits; verse_fits = h.verse_fits; lines_fit = h.lines_fit }
 token_state s (meter t) f h =
     open_state (with_meter t) (meter_measure t f) _
@@ -350,7 +350,7 @@ pub item_state : (ed : Edition) (header : Key) (s : PartState) (i : Item) → It
 unfolding on_item on_lyric ItemFits
 item_state ed header s (voice_declared b) f h = record { measures_fit = h.measures_fit; scopes_fit = h.scopes_fit; meter_fits = h.meter_fits; tuplet_fits = h.tuplet_fits; verse_fits = h.verse_fits; lines_fit = h.lines_fit }
 item_state ed header s reset f h = record { measures_fit = h.measures_fit; scopes_fit = h.scopes_fit; meter_fits = h.meter_fits; tuplet_fits = h.tuplet_fits; verse_fits = h.verse_fits; lines_fit = h.lines_fit }
-item_state ed header s keyInHeader f h = record { measures_fit = h.measures_fit; scopes_fit = h.scopes_fit; meter_fits = h.meter_fits; tuplet_fits = h.tuplet_fits; verse_fits = h.verse_fits; lines_fit = h.lines_fit }
+item_state ed header s key_in_header f h = record { measures_fit = h.measures_fit; scopes_fit = h.scopes_fit; meter_fits = h.meter_fits; tuplet_fits = h.tuplet_fits; verse_fits = h.verse_fits; lines_fit = h.lines_fit }
 item_state ed header s (key_change k) f h = key_state header k s.measures s h
 item_state ed header s (meter_change t) f h = open_state (with_meter t) (meter_measure t f) s h
 item_state ed header s (lyric_line b t) f h =

@@ -15,18 +15,18 @@ use Rattle.editions.specs.declared.Edition.{Edition}
 use Rattle.reader.proofs.PartLaws.{length_sounds}
 use Rattle.standard.specs.Keys.{Key}
 use Rattle.standard.specs.Fields.{Meter}
-use Rattle.standard.specs.Bars.{Barline, normal, repeatStart, repeatEnd, repeatBoth, double, final}
+use Rattle.standard.specs.Bars.{Barline, normal, repeat_start, repeat_end, repeat_both, double, final}
 use Rattle.standard.specs.Lengths.{Value}
 use Rattle.standard.specs.Pitches.{Accidental, Written}
 use Rattle.standard.specs.Notes
 use Rattle.standard.specs.Notes.{NoteKind, Behind, pending_after}
 use Rattle.reader.specs.Lengths.{Length, value_of}
 use Rattle.reader.specs.Pitches.{Scope, scope_by, scope_after, sounds_of, scope_after_all}
-use Rattle.reader.specs.Token.{Token, space, overlay, quoted, broken, tuplet, slur, graceOpen, graceClose, decoration, barline, volta, unit, meter, key, field, chord, rest, note, nothing, skipped, refused}
+use Rattle.reader.specs.Token.{Token, space, overlay, quoted, broken, tuplet, slur, grace_open, grace_close, decoration, barline, volta, unit, meter, key, field, chord, rest, note, nothing, skipped, refused}
 use Rattle.reader.specs.Tokens.{tokens}
 use Rattle.reader.specs.Barlines.{left_of}
-use Rattle.reader.specs.Scan.{Item, voice_declared, reset, keyInHeader, key_change, meter_change, lyric_line, music_line}
-use Rattle.reader.specs.State.{PartState, Note, Measure, Half, Running, with_beam, with_voices, with_right, with_meter, with_key_mark, with_volta, voltaBegins, on_open, is_empty, voice_in, voice_now, set_voice, set_scopes, set_pending, new_measure, new_part, no_scopes}
+use Rattle.reader.specs.Scan.{Item, voice_declared, reset, key_in_header, key_change, meter_change, lyric_line, music_line}
+use Rattle.reader.specs.State.{PartState, Note, Measure, Half, Running, with_beam, with_voices, with_right, with_meter, with_key_mark, with_volta, volta_begins, on_open, is_empty, voice_in, voice_now, set_voice, set_scopes, set_pending, new_measure, new_part, no_scopes}
 use Rattle.reader.specs.Voltas.{starts, ends_at, close, closed}
 use Rattle.reader.specs.Part.{halved_note, broken_note, on_broken, after_half, can_beam, beamed, beamed_again, on_nothing, grouped, append, rest_note, sound_note, on_sound, left_set, ended, on_barline, hears, on_token, opened, line_begins, on_line, on_lyric, on_key, on_item, dropped, in_order, marked_by, marked, finished, build, finished_measures}
 use Rattle.reader.proofs.LineLaws.{Kept, kept_item, ready_begins, ready_after}
@@ -184,17 +184,17 @@ module _ (ed : Edition) (p : Weights) where
   unfolding rest_note note_weight
   rest_note_weight Notes.sounded w = omega arith
   rest_note_weight Notes.rest w = omega arith
-  rest_note_weight Notes.invisibleRest w = omega arith
-  rest_note_weight Notes.barRest w = omega arith
-  rest_note_weight Notes.invisibleBarRest w = omega arith
+  rest_note_weight Notes.invisible_rest w = omega arith
+  rest_note_weight Notes.bar_rest w = omega arith
+  rest_note_weight Notes.invisible_bar_rest w = omega arith
 
   -- BARLINES
   left_voices : (b : Barline) (m : Measure) → (left_set b m).voices ≡ m.voices
   unfolding left_set
   left_voices normal m = refl
-  left_voices repeatStart m = refl
-  left_voices repeatEnd m = refl
-  left_voices repeatBoth m = refl
+  left_voices repeat_start m = refl
+  left_voices repeat_end m = refl
+  left_voices repeat_both m = refl
   left_voices double m = refl
   left_voices final m = refl
 
@@ -246,11 +246,11 @@ module _ (ed : Edition) (p : Weights) where
     token_step s (broken up n) = omega (arith, broken_step up n (voice_now s) s refl)
     token_step s (tuplet t) = omega arith
     token_step s slur = omega arith
-    token_step s graceOpen = omega arith
-    token_step s graceClose = omega arith
+    token_step s grace_open = omega arith
+    token_step s grace_close = omega arith
     token_step s decoration = omega arith
     token_step s (barline b o) = omega (arith, ended_weight b o s.line.meter s.measures, no_scopes_lem)
-    token_step s (volta ps) = omega (arith, leaves_weight (with_volta voltaBegins ps) (λ m. refl) s.measures)
+    token_step s (volta ps) = omega (arith, leaves_weight (with_volta volta_begins ps) (λ m. refl) s.measures)
     token_step s (unit u) = omega arith
     token_step s (meter t) = omega (arith, leaves_weight (with_meter t) (λ m. refl) s.measures)
     token_step s (key k) = omega (arith, leaves_weight (with_key_mark k) (λ m. refl) s.measures, no_scopes_lem)
@@ -297,7 +297,7 @@ module _ (ed : Edition) (p : Weights) where
     unfolding on_item on_lyric on_open state_weight music_bytes
     item_step header s (voice_declared b) k = omega arith
     item_step header s reset k = omega arith
-    item_step header s keyInHeader k = omega arith
+    item_step header s key_in_header k = omega arith
     item_step header s (key_change q) k = omega (arith, key_step header q s.measures s)
     item_step header s (meter_change t) k = omega (arith, leaves_weight (with_meter t) (λ m. refl) s.measures, first_leaves (with_meter t) s.measures)
     item_step header s (lyric_line b t) k = omega arith

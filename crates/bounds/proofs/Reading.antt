@@ -14,7 +14,7 @@ use Rattle.laws.proofs.Bools.{by_test, and_no_right}
 use Rattle.laws.proofs.Numbers.{little_bytes}
 use Rattle.editions.specs.declared.Edition.{Edition}
 use Rattle.reader.proofs.PartLaws.{parts_count}
-use Rattle.reader.specs.Text.{within, Utf8, between, one, two, three, afterE0, afterED, afterF0, afterF4, invalid, utf8_step, is_between, is_utf8, is_blank, text_lines}
+use Rattle.reader.specs.Text.{within, Utf8, between, one, two, three, after_e0, after_ed, after_f0, after_f4, invalid, utf8_step, is_between, is_utf8, is_blank, text_lines}
 use Rattle.reader.specs.Steps.{refuse, on, items_of}
 use Rattle.reader.specs.Scan.{Item, Env, ScanState, scan, Items, Out, most_voices}
 use Rattle.reader.specs.Part.{Part}
@@ -44,10 +44,10 @@ big_invalid between c h =
 big_invalid one c h = rw (not_within 0x80 0xbf c (omega arith))
 big_invalid two c h = rw (not_within 0x80 0xbf c (omega arith))
 big_invalid three c h = rw (not_within 0x80 0xbf c (omega arith))
-big_invalid afterE0 c h = rw (not_within 0xa0 0xbf c (omega arith))
-big_invalid afterED c h = rw (not_within 0x80 0x9f c (omega arith))
-big_invalid afterF0 c h = rw (not_within 0x90 0xbf c (omega arith))
-big_invalid afterF4 c h = rw (not_within 0x80 0x8f c (omega arith))
+big_invalid after_e0 c h = rw (not_within 0xa0 0xbf c (omega arith))
+big_invalid after_ed c h = rw (not_within 0x80 0x9f c (omega arith))
+big_invalid after_f0 c h = rw (not_within 0x90 0xbf c (omega arith))
+big_invalid after_f4 c h = rw (not_within 0x80 0x8f c (omega arith))
 big_invalid invalid c h = refl
 
 -- and it stays so

@@ -13,13 +13,13 @@ use Rattle.laws.proofs.Lists.{All-append}
 use Rattle.laws.proofs.Numbers.{little_bytes}
 use Rattle.reader.proofs.CodeLaws.{bit_le}
 use Rattle.standard.specs.Keys.{Key}
-use Rattle.standard.specs.Bars.{Barline, normal, repeatStart, repeatEnd, repeatBoth, double, final}
+use Rattle.standard.specs.Bars.{Barline, normal, repeat_start, repeat_end, repeat_both, double, final}
 use Rattle.standard.specs.Notes
 use Rattle.standard.specs.Notes.{NoteKind, Beam}
 use Rattle.standard.specs.Lyrics
 use Rattle.standard.specs.Lyrics.{Syllabic}
 use Rattle.standard.specs.Pitches.{Pitch}
-use Rattle.reader.specs.State.{Note, Measure, Volta, noVolta, voltaBegins, voltaEnds, voltaAlone}
+use Rattle.reader.specs.State.{Note, Measure, Volta, no_volta, volta_begins, volta_ends, volta_alone}
 use Rattle.reader.specs.Lyrics.{Syllable}
 use Rattle.reader.specs.Part.{Part}
 use Rattle.reader.specs.Codes.{barline_code, volta_code, mode_code, kind_code, beam_code, syllabic_code}
@@ -33,19 +33,19 @@ both a b = All-append (λ c. c < 256) a b
 -- CODES: "0 normal .. 5 final"
 pub barline_range : (b : Barline) → barline_code b ≤ 5
 barline_range normal = lit≤ tt
-barline_range repeatStart = lit≤ tt
-barline_range repeatEnd = lit≤ tt
-barline_range repeatBoth = lit≤ tt
+barline_range repeat_start = lit≤ tt
+barline_range repeat_end = lit≤ tt
+barline_range repeat_both = lit≤ tt
 barline_range double = lit≤ tt
 barline_range final = lit≤ tt
 
 -- a volta
 pub volta_range : (v : Volta) → volta_code v ≤ 3
 unfolding volta_code
-volta_range noVolta = lit≤ tt
-volta_range voltaBegins = lit≤ tt
-volta_range voltaEnds = lit≤ tt
-volta_range voltaAlone = lit≤ tt
+volta_range no_volta = lit≤ tt
+volta_range volta_begins = lit≤ tt
+volta_range volta_ends = lit≤ tt
+volta_range volta_alone = lit≤ tt
 
 -- a mode
 pub mode_range : (m : Bool) → mode_code m ≤ 2
@@ -58,9 +58,9 @@ pub kind_range : (k : NoteKind) → kind_code k ≤ 4
 unfolding kind_code
 kind_range Notes.sounded = lit≤ tt
 kind_range Notes.rest = lit≤ tt
-kind_range Notes.invisibleRest = lit≤ tt
-kind_range Notes.barRest = lit≤ tt
-kind_range Notes.invisibleBarRest = lit≤ tt
+kind_range Notes.invisible_rest = lit≤ tt
+kind_range Notes.bar_rest = lit≤ tt
+kind_range Notes.invisible_bar_rest = lit≤ tt
 
 -- a beam
 pub beam_range : (b : Beam) → beam_code b ≤ 3

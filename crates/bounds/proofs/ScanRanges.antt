@@ -16,7 +16,7 @@ use Rattle.standard.specs.Keys.{Key}
 use Rattle.editions.specs.declared.Edition.{Edition}
 use Rattle.reader.specs.Text.{is_blank, push, text_lines, cut, trim, clean, has_high}
 use Rattle.reader.specs.Fields.{middle_word, identifier, key_refusal}
-use Rattle.reader.specs.Token.{Token, space, overlay, quoted, broken, tuplet, slur, graceOpen, graceClose, decoration, barline, volta, chord, rest, note, nothing, skipped}
+use Rattle.reader.specs.Token.{Token, space, overlay, quoted, broken, tuplet, slur, grace_open, grace_close, decoration, barline, volta, chord, rest, note, nothing, skipped}
 use Rattle.reader.specs.Token
 use Rattle.reader.specs.Tokens.{tokens, Effect, counts, refuses, sets_unit, sets_meter, no_effect, effect_of, effects}
 use Rattle.reader.specs.Lines.{is_v, is_k, is_l, is_m, is_x, is_lyric, is_field, Kind, blank, refused, lyric, voice, key, meter, unit, tune, other, music, voice_kind, key_kind, field_kind, line_kind, kind_of, kind_unless}
@@ -90,8 +90,8 @@ effect_fits quoted h = tt
 effect_fits (broken up n) h = tt
 effect_fits (tuplet t) h = tt
 effect_fits slur h = tt
-effect_fits graceOpen h = tt
-effect_fits graceClose h = tt
+effect_fits grace_open h = tt
+effect_fits grace_close h = tt
 effect_fits decoration h = tt
 effect_fits (barline b o) h = tt
 effect_fits (volta ps) h = tt

@@ -71,15 +71,15 @@ unfolding voices_before
 before_count s = unnamed_count s.opened s.env.voices
 
 -- THE WEIGHT OF A LINE: an item's, and that of a byte of the item's line; the budget of a byte of the text, and what is left to the line feed; a voice's
-module _ (ed : Edition) (item byte perByte rest voice_weight : ℕ) where
+module _ (ed : Edition) (item byte per_byte rest voice_weight : ℕ) where
   -- each byte's budget covers these weights
   pub record Enough : Type 0 where
     -- a line of one byte, and its feed
-    pub bytes : byte ≤ perByte
-    pub lines : item + byte ≤ perByte + rest
-    pub feed : rest ≤ perByte
+    pub bytes : byte ≤ per_byte
+    pub lines : item + byte ≤ per_byte + rest
+    pub feed : rest ≤ per_byte
     -- a V line has three bytes, two items and a voice
-    pub voices : 2 * item + voice_weight ≤ 3 * perByte + rest
+    pub voices : 2 * item + voice_weight ≤ 3 * per_byte + rest
 
   -- an item with its line
   abbrev pub weight : Item → ℕ
@@ -91,20 +91,20 @@ module _ (ed : Edition) (item byte perByte rest voice_weight : ℕ) where
 
   -- n bytes cover the items and the voices that are new, but for what is left to the line feed
   abbrev pub Budget : ScanState → ℕ → ScanState → Items → Type 0
-  Budget s n t a = total a + voice_weight * voice_count t ≤ voice_weight * voice_count s + perByte * n + rest
+  Budget s n t a = total a + voice_weight * voice_count t ≤ voice_weight * voice_count s + per_byte * n + rest
 
   module _ (enough : Enough) where
     -- a line of n bytes, of which m + 1 weigh
-    line_weight : (m n : ℕ) → suc m ≤ n → item + byte * suc m ≤ perByte * n + rest
-    line_weight m n h = omega (arith, mul_le_left byte perByte m enough.bytes, mul-suc byte m, mul-suc perByte m, mul_le_right perByte (suc m) n h, enough.lines)
+    line_weight : (m n : ℕ) → suc m ≤ n → item + byte * suc m ≤ per_byte * n + rest
+    line_weight m n h = omega (arith, mul_le_left byte per_byte m enough.bytes, mul-suc byte m, mul-suc per_byte m, mul_le_right per_byte (suc m) n h, enough.lines)
 
     -- a line of two bytes
-    item_weight_lem : (n : ℕ) → 2 ≤ n → item ≤ perByte * n + rest
-    item_weight_lem n h = omega (arith, mul_le_right perByte 2 n h, enough.lines, enough.bytes)
+    item_weight_lem : (n : ℕ) → 2 ≤ n → item ≤ per_byte * n + rest
+    item_weight_lem n h = omega (arith, mul_le_right per_byte 2 n h, enough.lines, enough.bytes)
 
     -- three bytes
-    three : (n : ℕ) → 3 ≤ n → 3 * perByte ≤ perByte * n
-    three n h = omega (arith, mul_le_right perByte 3 n h)
+    three : (n : ℕ) → 3 ≤ n → 3 * per_byte ≤ per_byte * n
+    three n h = omega (arith, mul_le_right per_byte 3 n h)
 
     -- as many voices
     same_voices : (m n : ℕ) → m ≡ n → voice_weight * m ≡ voice_weight * n
@@ -165,8 +165,8 @@ module _ (ed : Edition) (item byte perByte rest voice_weight : ℕ) where
         by_test (ltb s.lines most_lines) (λ e. rw e (act_budget s (line_kind ed (clean r)) s.env.in_header (length (clean r)) (kind_fits ed (clean r)))) (λ e. rw e tt)
 
     -- a line feed covers what is left to it
-    fed_row : (m n : ℕ) → m < n → perByte * m + rest ≤ perByte * n
-    fed_row m n h = omega (arith, mul_le_right perByte (suc m) n h, mul-suc perByte m, enough.feed)
+    fed_row : (m n : ℕ) → m < n → per_byte * m + rest ≤ per_byte * n
+    fed_row m n h = omega (arith, mul_le_right per_byte (suc m) n h, mul-suc per_byte m, enough.feed)
 
     -- THE LINES OF A TEXT
     pub lines_budget : (rs : List TextLine) → Fed rs → (s : ScanState) → Holds (Budget s (sum length rs)) (run (step ed) s rs)
@@ -174,10 +174,10 @@ module _ (ed : Edition) (item byte perByte rest voice_weight : ℕ) where
     lines_budget [] f s = omega arith
     lines_budget (r ∷ []) f s =
         holds_run ed (Budget s (length (clean r))) (Budget s (length r + 0)) (λ t a u b. (u ≡ t) × (b ≡ [])) s r [] (line_budget s r) (λ t a h. (refl, refl))
-        (λ t a u b h q. omega (arith, h, sum_append (λ (x : ℕ × Item). weight x.1) a b, ap total q.1, ap (λ (x : ScanState). voice_weight * voice_count x) q.0, mul_le_right perByte (length (clean r)) (length r + 0) (omega (arith, clean_length r))))
+        (λ t a u b h q. omega (arith, h, sum_append (λ (x : ℕ × Item). weight x.1) a b, ap total q.1, ap (λ (x : ScanState). voice_weight * voice_count x) q.0, mul_le_right per_byte (length (clean r)) (length r + 0) (omega (arith, clean_length r))))
     lines_budget (r ∷ q ∷ rs) f s =
         holds_run ed (Budget s (length (clean r))) (Budget s (sum length (r ∷ q ∷ rs))) (λ t a u b. Budget t (sum length (q ∷ rs)) u b) s r (q ∷ rs) (line_budget s r) (λ t a h. lines_budget (q ∷ rs) f.1 t)
-        (λ t a u b h k. omega (arith, h, k, sum_append (λ (x : ℕ × Item). weight x.1) a b, fed_row (length (clean r)) (length r) f.0, mul-add perByte (length r) (sum length (q ∷ rs))))
+        (λ t a u b h k. omega (arith, h, k, sum_append (λ (x : ℕ × Item). weight x.1) a b, fed_row (length (clean r)) (length r) f.0, mul-add per_byte (length r) (sum length (q ∷ rs))))
 
     -- IN THE HEADER no item is music. A line of it: the header goes on, or this is its K line, of two bytes or more
     record Head (s : ScanState) (n : ℕ) (t : ScanState) (a : Items) : Type 0 where
@@ -219,14 +219,14 @@ module _ (ed : Edition) (item byte perByte rest voice_weight : ℕ) where
         (λ q. rw q tt)
 
     -- THE LINES FROM THE HEADER ON: nothing is played, or the K line and its feed cover `extra` too
-    module _ (extra : ℕ) (room : item + extra ≤ 3 * perByte) where
+    module _ (extra : ℕ) (room : item + extra ≤ 3 * per_byte) where
       -- what the lines from the header on come to
       abbrev pub Headed : ScanState → ℕ → ScanState → Items → Type 0
-      Headed s n t a = Silent a ⊎ (total a + voice_weight * voice_count t + extra ≤ voice_weight * voice_count s + perByte * n + rest)
+      Headed s n t a = Silent a ⊎ (total a + voice_weight * voice_count t + extra ≤ voice_weight * voice_count s + per_byte * n + rest)
 
       -- a K line and its feed
-      three_bytes : (m n : ℕ) → 2 ≤ m → m < n → item + extra ≤ perByte * n
-      three_bytes m n h l = omega (arith, room, mul_le_right perByte 3 n (omega arith))
+      three_bytes : (m n : ℕ) → 2 ≤ m → m < n → item + extra ≤ per_byte * n
+      three_bytes m n h l = omega (arith, room, mul_le_right per_byte 3 n (omega arith))
 
       -- so it is for any lines
       pub head_budget : (rs : List TextLine) → Fed rs → (s : ScanState) → s.env.in_header ≡ true → Holds (Headed s (sum length rs)) (run (step ed) s rs)
@@ -253,6 +253,6 @@ module _ (ed : Edition) (item byte perByte rest voice_weight : ℕ) where
               → Headed t (sum length (q ∷ rs)) u b ⊎ (Budget t (sum length (q ∷ rs)) u b × Key s (length (clean r)) t a) → Headed s (length r + sum length (q ∷ rs)) u (a ++ b)
           both t a u b h (inl (inl k)) = inl (All-append _ a b h.silent k)
           both t a u b h (inl (inr k)) =
-              inr (omega (arith, h.budget, k, sum_append (λ (x : ℕ × Item). weight x.1) a b, fed_row (length (clean r)) (length r) f.0, mul-add perByte (length r) (sum length (q ∷ rs))))
+              inr (omega (arith, h.budget, k, sum_append (λ (x : ℕ × Item). weight x.1) a b, fed_row (length (clean r)) (length r) f.0, mul-add per_byte (length r) (sum length (q ∷ rs))))
           both t a u b h (inr (k, (two, (one, same)))) =
-              inr (omega (arith, k, one, sum_append (λ (x : ℕ × Item). weight x.1) a b, three_bytes (length (clean r)) (length r) two f.0, mul-add perByte (length r) (sum length (q ∷ rs)), same_voices (voice_count t) (voice_count s) same))
+              inr (omega (arith, k, one, sum_append (λ (x : ℕ × Item). weight x.1) a b, three_bytes (length (clean r)) (length r) two f.0, mul-add per_byte (length r) (sum length (q ∷ rs)), same_voices (voice_count t) (voice_count s) same))

@@ -32,7 +32,7 @@ use Rattle.reader.proofs.LengthLaws.{with_length_lem}
 use Rattle.reader.proofs.PassTests.{tests_in_turn}
 use Rattle.reader.specs.Inline.{unit_token, key_token, field_token, is_inline, inline_at, token_unless}
 use Rattle.reader.specs.Sounds.{chord_taken, chord_at, rest_as, note_as, note_after, note_of}
-use Rattle.reader.specs.Tokens.{closed_by, broken_of, bracket_of, Class, white, ampersand, quote, more, less, paren, braceOpen, braceClose, bang, plus, bars, bracket, pitched, none-of-these, resting, class_of, token_as, token_of, tokens}
+use Rattle.reader.specs.Tokens.{closed_by, broken_of, bracket_of, Class, white, ampersand, quote, more, less, paren, brace_open, brace_close, bang, plus, bars, bracket, pitched, none-of-these, resting, class_of, token_as, token_of, tokens}
 use Rattle.reader.specs.Keys.{key_of, is_beyond, is_key_word}
 use Rattle.bounds.specs.Ranges.{MeterFits, PassesFit, SignFits, WrittenFits, LineRefusal, TokenFits}
 use Rattle.reader.proofs.Tuplets.{normal_most}
@@ -460,8 +460,8 @@ as_fits ed quote s = closed_fits (is "\"") quoted (drop 1 s) (taken quoted (leng
 as_fits ed more s = broken_fits true (suc (count_while (is ">") (drop 1 s))) s
 as_fits ed less s = broken_fits false (suc (count_while (is "<") (drop 1 s))) s
 as_fits ed paren s = tuplet_fits ed (drop 1 s)
-as_fits ed braceOpen s = tt
-as_fits ed braceClose s = tt
+as_fits ed brace_open s = tt
+as_fits ed brace_close s = tt
 as_fits ed bang s = closed_fits (is "!") decoration (drop 1 s) (taken skipped 1) tt tt
 as_fits ed plus s = closed_fits (is "+") decoration (drop 1 s) (taken skipped 1) tt tt
 as_fits ed bars s = barline_fits s (symbol_at bar_symbols s)

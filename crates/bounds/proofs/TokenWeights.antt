@@ -10,7 +10,7 @@ use Rattle.laws.specs.Lists.{sum}
 use Rattle.laws.proofs.Numbers.{mul_le_right}
 use Rattle.standard.specs.Pitches.{Accidental, Written}
 use Rattle.editions.specs.declared.Edition.{Edition}
-use Rattle.reader.specs.Token.{Token, space, overlay, quoted, broken, tuplet, slur, graceOpen, graceClose, decoration, barline, volta, unit, meter, key, field, chord, rest, note, nothing, skipped, refused}
+use Rattle.reader.specs.Token.{Token, space, overlay, quoted, broken, tuplet, slur, grace_open, grace_close, decoration, barline, volta, unit, meter, key, field, chord, rest, note, nothing, skipped, refused}
 use Rattle.reader.specs.Tokens.{token_of, tokens}
 use Rattle.reader.proofs.TokenLaws.{takes_a_byte}
 use Rattle.reader.proofs.TokenBounds.{takes_what_is_there}
@@ -56,8 +56,8 @@ module _ (ed : Edition) (p : Weights) (enough : Covered p) where
   token_same (broken up n) = zero-le
   token_same (tuplet t) = zero-le
   token_same slur = zero-le
-  token_same graceOpen = zero-le
-  token_same graceClose = zero-le
+  token_same grace_open = zero-le
+  token_same grace_close = zero-le
   token_same decoration = zero-le
   token_same (barline b o) = omega arith
   token_same (volta ps) = zero-le

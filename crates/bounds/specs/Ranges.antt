@@ -4,9 +4,9 @@ use Rattle.std.proofs.Math.Option.{Option, none, some}
 use Rattle.laws.specs.Lists.{All}
 use Rattle.standard.specs.Pitches.{Accidental, Written, Pitch}
 use Rattle.standard.specs.Fields.{Meter}
-use Rattle.reader.specs.Token.{Token, space, overlay, quoted, broken, tuplet, slur, graceOpen, graceClose, decoration, barline, volta, unit, meter, key, field, chord, rest, note, nothing, skipped, refused}
-use Rattle.reader.specs.Scan.{Item, voice_declared, reset, keyInHeader, key_change, meter_change, lyric_line, music_line}
-use Rattle.reader.specs.State.{Note, Measure, Volta, noVolta, voltaBegins, voltaEnds, voltaAlone, Running, Sung, PartState}
+use Rattle.reader.specs.Token.{Token, space, overlay, quoted, broken, tuplet, slur, grace_open, grace_close, decoration, barline, volta, unit, meter, key, field, chord, rest, note, nothing, skipped, refused}
+use Rattle.reader.specs.Scan.{Item, voice_declared, reset, key_in_header, key_change, meter_change, lyric_line, music_line}
+use Rattle.reader.specs.State.{Note, Measure, Volta, no_volta, volta_begins, volta_ends, volta_alone, Running, Sung, PartState}
 use Rattle.reader.specs.Voltas.{closed}
 use Rattle.reader.specs.Lyrics.{Syllable}
 use Rattle.reader.specs.Part.{Part}
@@ -59,8 +59,8 @@ TokenFits quoted = Unit {0}
 TokenFits (broken up n) = n < 256
 TokenFits (tuplet t) = (t.actual < 256) × (t.normal < 256)
 TokenFits slur = Unit {0}
-TokenFits graceOpen = Unit {0}
-TokenFits graceClose = Unit {0}
+TokenFits grace_open = Unit {0}
+TokenFits grace_close = Unit {0}
 TokenFits decoration = Unit {0}
 TokenFits (barline b o) = Unit {0}
 TokenFits (volta ps) = PassesFit 0 ps
@@ -92,10 +92,10 @@ pub record MeasureFits (m : Measure) : Type 0 where
 
 -- before the voltas of a part are closed only starts are marked
 unfoldable pub VoltaOpen : Volta → Type 0
-VoltaOpen noVolta = Unit {0}
-VoltaOpen voltaBegins = Unit {0}
-VoltaOpen voltaEnds = ⊥
-VoltaOpen voltaAlone = ⊥
+VoltaOpen no_volta = Unit {0}
+VoltaOpen volta_begins = Unit {0}
+VoltaOpen volta_ends = ⊥
+VoltaOpen volta_alone = ⊥
 
 -- a measure while its part is read
 pub record OpenFits (m : Measure) : Type 0 where
@@ -134,7 +134,7 @@ pub record StateFits (s : PartState) : Type 0 where
 unfoldable pub ItemFits : Item → Type 0
 ItemFits (voice_declared b) = Unit {0}
 ItemFits reset = Unit {0}
-ItemFits keyInHeader = Unit {0}
+ItemFits key_in_header = Unit {0}
 ItemFits (key_change k) = Unit {0}
 ItemFits (meter_change m) = MeterFits m
 ItemFits (lyric_line b t) = Bytes t

@@ -5,8 +5,8 @@ use Rattle.std.proofs.Math.Option.{Option, none, some}
 use Rattle.laws.specs.Lists.{sum}
 use Rattle.standard.specs.Pitches.{Written, Accidental}
 use Rattle.reader.specs.Pitches.{Scope}
-use Rattle.reader.specs.Token.{Token, space, overlay, quoted, broken, tuplet, slur, graceOpen, graceClose, decoration, barline, volta, unit, meter, key, field, chord, rest, note, nothing, skipped, refused}
-use Rattle.reader.specs.Scan.{Item, voice_declared, reset, keyInHeader, key_change, meter_change, lyric_line, music_line}
+use Rattle.reader.specs.Token.{Token, space, overlay, quoted, broken, tuplet, slur, grace_open, grace_close, decoration, barline, volta, unit, meter, key, field, chord, rest, note, nothing, skipped, refused}
+use Rattle.reader.specs.Scan.{Item, voice_declared, reset, key_in_header, key_change, meter_change, lyric_line, music_line}
 use Rattle.reader.specs.State.{Note, Measure, PartState, is_empty}
 use Rattle.reader.specs.Lyrics.{Syllable}
 use Rattle.reader.specs.Records.{measure_width, note_width, pitch_width, lyric_width}
@@ -157,8 +157,8 @@ module _ (p : Weights) where
   token_weight (broken up n) = 0
   token_weight (tuplet t) = 0
   token_weight slur = 0
-  token_weight graceOpen = 0
-  token_weight graceClose = 0
+  token_weight grace_open = 0
+  token_weight grace_close = 0
   token_weight decoration = 0
   token_weight (barline b o) = p.byte
   token_weight (volta ps) = 0
@@ -177,7 +177,7 @@ module _ (p : Weights) where
 unfoldable pub music_bytes : Item → ℕ
 music_bytes (voice_declared b) = 0
 music_bytes reset = 0
-music_bytes keyInHeader = 0
+music_bytes key_in_header = 0
 music_bytes (key_change k) = 0
 music_bytes (meter_change m) = 0
 music_bytes (lyric_line b t) = 0
@@ -187,7 +187,7 @@ music_bytes (music_line u m l) = length l
 unfoldable pub lyric_bytes : Item → ℕ
 lyric_bytes (voice_declared b) = 0
 lyric_bytes reset = 0
-lyric_bytes keyInHeader = 0
+lyric_bytes key_in_header = 0
 lyric_bytes (key_change k) = 0
 lyric_bytes (meter_change m) = 0
 lyric_bytes (lyric_line b t) = length t

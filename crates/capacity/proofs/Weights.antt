@@ -26,7 +26,7 @@ use Rattle.reader.specs.Barlines.{barline_as, barline_of}
 use Rattle.reader.specs.PassLists.{is_pass_byte, list_of, volta_as, volta_of}
 use Rattle.reader.specs.Inline.{is_inline, inline_at}
 use Rattle.reader.specs.Sounds.{behind, chord_taken, chord_at, rest_as, note_as, note_after, note_of}
-use Rattle.reader.specs.Tokens.{bracket_of, Class, white, ampersand, quote, more, less, paren, braceOpen, braceClose, bang, plus, bars, bracket, pitched, none-of-these, resting, classes, class_in, class_of, token_as, token_of}
+use Rattle.reader.specs.Tokens.{bracket_of, Class, white, ampersand, quote, more, less, paren, brace_open, brace_close, bang, plus, bars, bracket, pitched, none-of-these, resting, classes, class_in, class_of, token_as, token_of}
 use Rattle.reader.proofs.LengthLaws.{with_length_lem}
 use Rattle.reader.proofs.TokenLaws.{as_takes}
 use Rattle.reader.proofs.TokenBounds.{in_chord, octave_in_chord, quarter_in_chord}
@@ -42,8 +42,8 @@ Begins quote c = Unit {0}
 Begins more c = Unit {0}
 Begins less c = Unit {0}
 Begins paren c = Unit {0}
-Begins braceOpen c = Unit {0}
-Begins braceClose c = Unit {0}
+Begins brace_open c = Unit {0}
+Begins brace_close c = Unit {0}
 Begins bang c = Unit {0}
 Begins plus c = Unit {0}
 Begins bars c = is_bar c ≡ true
@@ -285,8 +285,8 @@ module _ (ed : Edition) (p : Weights) (enough : Covered p) where
   as_covered more c s y = free (token_as ed more (c ∷ s)) (c ∷ s) (broken_free true (suc (count_while (is ">") s)) (c ∷ s))
   as_covered less c s y = free (token_as ed less (c ∷ s)) (c ∷ s) (broken_free false (suc (count_while (is "<") s)) (c ∷ s))
   as_covered paren c s y = free (token_as ed paren (c ∷ s)) (c ∷ s) (tuplet_free ed s)
-  as_covered braceOpen c s y = omega arith
-  as_covered braceClose c s y = omega arith
+  as_covered brace_open c s y = omega arith
+  as_covered brace_close c s y = omega arith
   as_covered bang c s y = free (token_as ed bang (c ∷ s)) (c ∷ s) (closed_free (is "!") decoration s (taken skipped 1) refl refl)
   as_covered plus c s y = free (token_as ed plus (c ∷ s)) (c ∷ s) (closed_free (is "+") decoration s (taken skipped 1) refl refl)
   as_covered bars c s y = barline_covered c s y (as_takes ed bars c s)

@@ -2,7 +2,7 @@
 use Rattle.std.specs.Prelude.{ℕ, ◌+◌, ◌≤◌, List, [], ◌∷◌, length}
 use Rattle.std.proofs.Math.Option.{Option, none, some}
 use Rattle.standard.specs.Pitches.{Accidental, Written}
-use Rattle.reader.specs.Token.{Token, space, overlay, quoted, broken, tuplet, slur, graceOpen, graceClose, decoration, barline, volta, unit, meter, key, field, chord, rest, note, nothing, skipped, refused}
+use Rattle.reader.specs.Token.{Token, space, overlay, quoted, broken, tuplet, slur, grace_open, grace_close, decoration, barline, volta, unit, meter, key, field, chord, rest, note, nothing, skipped, refused}
 use Rattle.capacity.specs.Sizes.{bars, letters, tones, signs}
 
 -- one for an accidental that is written
@@ -33,8 +33,8 @@ makes quoted = none_made_lem
 makes (broken up n) = none_made_lem
 makes (tuplet t) = none_made_lem
 makes slur = none_made_lem
-makes graceOpen = none_made_lem
-makes graceClose = none_made_lem
+makes grace_open = none_made_lem
+makes grace_close = none_made_lem
 makes decoration = none_made_lem
 makes (barline b o) = record { heads = 1; notes = 0; pitches = 0; scopes = 0 }
 makes (volta ps) = none_made_lem

@@ -1,4 +1,4 @@
--- Laws of products, and of numbers in a store of bytes, for every width: le16 and u16At are `little 2` and `little_at 2`, le32 and u32_at are `little 4` and `little_at 4`.
+-- Laws of products, and of numbers in a store of bytes, for every width: le16 and u16_at are `little 2` and `little_at 2`, le32 and u32_at are `little 4` and `little_at 4`.
 use Prim.Native.Nat.{ℕ, zero, suc, ◌+◌, ◌*◌, ◌/◌, ◌%◌, ◌^◌, ◌≤◌, ◌<◌}
 use mathlib.Core.Path.{◌≡◌, refl, sym, ap, ◌∙◌}
 use mathlib.Core.List.{List, [], ◌∷◌}

@@ -7,7 +7,7 @@ use Rattle.laws.specs.Lists.{filter}
 use Rattle.laws.specs.Bytes.{between, rows}
 use Rattle.laws.proofs.Lists.{map_append, filter_append}
 use Rattle.laws.proofs.Rows.{rows_more, rows_front}
-use Rattle.reader.specs.Scan.{Item, voice_declared, reset, keyInHeader, key_change, meter_change, lyric_line, music_line}
+use Rattle.reader.specs.Scan.{Item, voice_declared, reset, key_in_header, key_change, meter_change, lyric_line, music_line}
 use Rattle.scan_table.specs.declared.Row as items
 use Rattle.scan_table.specs.Rows.{items_from, item_row_width, lyric_line_kind, dec_item, item_at, item_as, item_in, RowIs}
 use Rattle.lyrics.specs.Items.{is_line, line_in, line_of, lines_in}
@@ -16,7 +16,7 @@ use Rattle.lyrics.specs.Items.{is_line, line_in, line_of, lines_in}
 words_of_item : Item → List ℕ
 words_of_item (voice_declared h) = []
 words_of_item reset = []
-words_of_item keyInHeader = []
+words_of_item key_in_header = []
 words_of_item (key_change k) = []
 words_of_item (meter_change t) = []
 words_of_item (lyric_line p t) = t

@@ -10,13 +10,13 @@ use Rattle.laws.specs.Bytes.{splice, le32, little}
 use Rattle.laws.specs.Lists.{alter_at}
 use Rattle.laws.proofs.Splices.{splice_nil}
 use Rattle.standard.specs.Bars as standard
-use Rattle.standard.specs.Bars.{normal, repeatStart, repeatEnd, repeatBoth, double, final}
+use Rattle.standard.specs.Bars.{normal, repeat_start, repeat_end, repeat_both, double, final}
 use Rattle.reader.specs.Barlines.{left_of}
 use Rattle.reader.specs.Codes.{barline_code}
 use Rattle.reader.specs.Records.{pass_bits, measure_width}
 use Rattle.reader.specs.Token as token
 use Rattle.reader.specs.State as State
-use Rattle.reader.specs.State.{voltaBegins, no_scopes, with_time}
+use Rattle.reader.specs.State.{volta_begins, no_scopes, with_time}
 use Rattle.part_layout.specs.Log.{Head, LogState, with_right, with_meter, with_volta, new_head, on_last_head, on_open, open_is_empty, is_empty_head, left_set, ended_heads, ended_last, on_barline, on_token, set_line}
 use Rattle.part_layout.specs.Lines.{Standing}
 use Rattle.token_symbols.specs.declared.Barline.{Barline}
@@ -115,7 +115,7 @@ pub volta_simulates : {t : Tables} {s : List ℕ} {r : Registers} → Room t r.c
     → Simulates t s r s' r 0 0 0 0 (λ l. on_token l (token.volta ps))
 unfolding on_token
 volta_simulates {t} {s} {r} room a s' first passes e ps i j =
-    open_simulates room a s' volta_at ((1 ∷ first ∷ []) ++ le32 passes) e (omega (arith, bytes_4 passes)) (with_volta voltaBegins ps)
+    open_simulates room a s' volta_at ((1 ∷ first ∷ []) ++ le32 passes) e (omega (arith, bytes_4 passes)) (with_volta volta_begins ps)
     (λ m. (λ x. splice (head_row m) volta_at ((1 ∷ i x ∷ []) ++ le32 (j x))) ∙ head_volta m ps)
 
 -- A METER
@@ -235,17 +235,17 @@ pub record Left (s : List ℕ) (at : ℕ) (b : standard.Barline) : Type 0 where
 left_is : (s : List ℕ) (at : ℕ) (b : standard.Barline) → Left s at b
 unfolding left_set
 left_is s at normal = record { bytes = []; short = omega arith; written = sym (splice_nil s at); sets = λ m. splice_nil (head_row m) left_at }
-left_is s at repeatStart = record { bytes = 1 ∷ []; short = omega arith; written = refl; sets = λ m. head_left m repeatStart }
-left_is s at repeatEnd = record { bytes = []; short = omega arith; written = sym (splice_nil s at); sets = λ m. splice_nil (head_row m) left_at }
-left_is s at repeatBoth = record { bytes = 3 ∷ []; short = omega arith; written = refl; sets = λ m. head_left m repeatBoth }
+left_is s at repeat_start = record { bytes = 1 ∷ []; short = omega arith; written = refl; sets = λ m. head_left m repeat_start }
+left_is s at repeat_end = record { bytes = []; short = omega arith; written = sym (splice_nil s at); sets = λ m. splice_nil (head_row m) left_at }
+left_is s at repeat_both = record { bytes = 3 ∷ []; short = omega arith; written = refl; sets = λ m. head_left m repeat_both }
 left_is s at double = record { bytes = 4 ∷ []; short = omega arith; written = refl; sets = λ m. head_left m double }
 left_is s at final = record { bytes = []; short = omega arith; written = sym (splice_nil s at); sets = λ m. splice_nil (head_row m) left_at }
 
 code_is : (b : standard.Barline) → code_of (barline_for b) ≡ barline_code b
 code_is normal = refl
-code_is repeatStart = refl
-code_is repeatEnd = refl
-code_is repeatBoth = refl
+code_is repeat_start = refl
+code_is repeat_end = refl
+code_is repeat_both = refl
 code_is double = refl
 code_is final = refl
 

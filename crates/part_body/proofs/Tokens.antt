@@ -13,7 +13,7 @@ use Rattle.reader.specs.Lengths.{Length, value_of}
 use Rattle.reader.specs.Codes.{kind_code, beam_code, bit}
 use Rattle.reader.specs.Pitches.{chord_of}
 use Rattle.reader.specs.Part.{rest_note}
-use Rattle.reader.specs.Token.{Token, space, overlay, quoted, broken, tuplet, slur, graceOpen, graceClose, decoration, barline, volta, unit, meter, key, field, chord, rest, note, nothing, skipped, refused}
+use Rattle.reader.specs.Token.{Token, space, overlay, quoted, broken, tuplet, slur, grace_open, grace_close, decoration, barline, volta, unit, meter, key, field, chord, rest, note, nothing, skipped, refused}
 use Rattle.part_layout.specs.Log.{LogState, on_token, on_sound}
 use Rattle.bounds.specs.Ranges.{TokenFits}
 use Rattle.capacity.specs.Covers.{signs_in, makes}
@@ -52,17 +52,17 @@ rest_row_is : (k : Notes.NoteKind) (u : ℕ) (l : Length) → rest_row (kind_cod
 unfolding rest_length rest_note flags_byte beam_code bit
 rest_row_is Notes.sounded u l = refl
 rest_row_is Notes.rest u l = refl
-rest_row_is Notes.invisibleRest u l = refl
-rest_row_is Notes.barRest u l = refl
-rest_row_is Notes.invisibleBarRest u l = refl
+rest_row_is Notes.invisible_rest u l = refl
+rest_row_is Notes.bar_rest u l = refl
+rest_row_is Notes.invisible_bar_rest u l = refl
 
 no_pitch : (k : Notes.NoteKind) (w : Value) → (rest_note k w).pitches ≡ []
 unfolding rest_note
 no_pitch Notes.sounded w = refl
 no_pitch Notes.rest w = refl
-no_pitch Notes.invisibleRest w = refl
-no_pitch Notes.barRest w = refl
-no_pitch Notes.invisibleBarRest w = refl
+no_pitch Notes.invisible_rest w = refl
+no_pitch Notes.bar_rest w = refl
+no_pitch Notes.invisible_bar_rest w = refl
 
 -- A CHORD stands there
 chord_is : (line : List ℕ) (at : ℕ) (ws : List Written) → chord_of 0 none (drop (at + 1) line) ≡ some ws → chord_in line (at + 1) ≡ ws
@@ -80,8 +80,8 @@ module _ (line : List ℕ) (at : ℕ) {t : Tables} {s : List ℕ} {r : Registers
   token_ready (broken up n) c f room h = (room, h)
   token_ready (tuplet x) c f room h = (room, h)
   token_ready slur c f room h = (room, h)
-  token_ready graceOpen c f room h = (room, h)
-  token_ready graceClose c f room h = (room, h)
+  token_ready grace_open c f room h = (room, h)
+  token_ready grace_close c f room h = (room, h)
   token_ready decoration c f room h = (room, h)
   token_ready (barline b o) c f room h = (room, h)
   token_ready (volta ps) c f room h = (room, h)
@@ -123,8 +123,8 @@ module _ (line : List ℕ) (at : ℕ) {t : Tables} {s : List ℕ} {r : Registers
   token_simulates (broken up n) c a = a
   token_simulates (tuplet x) c a = a
   token_simulates slur c a = a
-  token_simulates graceOpen c a = a
-  token_simulates graceClose c a = a
+  token_simulates grace_open c a = a
+  token_simulates grace_close c a = a
   token_simulates decoration c a = a
   token_simulates (barline b o) c a = a b refl refl
   token_simulates (volta ps) c a = a ps refl refl

@@ -51,8 +51,8 @@ SimulatesToken line t s r s' x as-token.Quoted = Simulates t s r s' x 0 0 0 0 (�
 SimulatesToken line t s r s' x (as-token.Broken up count) = Simulates t s r s' x 0 0 0 0 (λ l. on_token l (token.broken up count))
 SimulatesToken line t s r s' x (as-token.Tuplet actual normal count) = Simulates t s r s' x 0 0 0 0 (λ l. on_token l (token.tuplet (record { actual = actual; normal = normal; count = count })))
 SimulatesToken line t s r s' x as-token.Slur = Simulates t s r s' x 0 0 0 0 (λ l. on_token l token.slur)
-SimulatesToken line t s r s' x as-token.GraceOpen = Simulates t s r s' x 0 0 0 0 (λ l. on_token l token.graceOpen)
-SimulatesToken line t s r s' x as-token.GraceClose = Simulates t s r s' x 0 0 0 0 (λ l. on_token l token.graceClose)
+SimulatesToken line t s r s' x as-token.GraceOpen = Simulates t s r s' x 0 0 0 0 (λ l. on_token l token.grace_open)
+SimulatesToken line t s r s' x as-token.GraceClose = Simulates t s r s' x 0 0 0 0 (λ l. on_token l token.grace_close)
 SimulatesToken line t s r s' x as-token.Decoration = Simulates t s r s' x 0 0 0 0 (λ l. l)
 SimulatesToken line t s r s' x (as-token.Barline right left opens) =
     ((b : standard.Barline) → right ≡ barline_for b → left ≡ barline_for (left_of b) → Simulates t s r s' x 1 0 0 0 (on_barline b opens))

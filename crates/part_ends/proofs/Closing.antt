@@ -14,9 +14,9 @@ use Rattle.laws.proofs.Bools.{by_test, both_true, or_right, cond_true, cond_fals
 use Rattle.laws.proofs.Lists.{All-right, get_or_sum}
 use Rattle.laws.proofs.Numbers.{length_little, little_bytes, little_little_at, little_at_own}
 use Rattle.laws.proofs.Parts.{part_all}
-use Rattle.standard.specs.Bars.{Barline, normal, repeatStart, repeatEnd, repeatBoth, double, final}
+use Rattle.standard.specs.Bars.{Barline, normal, repeat_start, repeat_end, repeat_both, double, final}
 use Rattle.standard.specs.Keys.{Key}
-use Rattle.reader.specs.State.{Note, Volta, noVolta, voltaBegins, voltaEnds, voltaAlone}
+use Rattle.reader.specs.State.{Note, Volta, no_volta, volta_begins, volta_ends, volta_alone}
 use Rattle.reader.specs.Voltas.{ends_ending, is_start}
 use Rattle.reader.specs.Codes.{barline_code, volta_code, mode_code}
 use Rattle.reader.specs.Records.{key_mark_bytes, pass_bits, signed8, measure_width}
@@ -81,38 +81,38 @@ pub passes_again : (m : Head) (p : ℕ) → p ≡ u32_at (head_row m) passes_at 
 passes_again m p e = ap le32 (e ∙ little_at_own 4 (head_row m) passes_at ∙ ap (λ (l : List ℕ). u32_at l 0) (passes_by m m.key refl)) ∙ again (pass_bits m.passes)
 
 -- BYTES WRITTEN
-alone_by : (m : Head) (o : Option Key) → m.key ≡ o → splice (head_row m) volta_at (3 ∷ []) ≡ head_row (with_volta voltaAlone m.passes m)
+alone_by : (m : Head) (o : Option Key) → m.key ≡ o → splice (head_row m) volta_at (3 ∷ []) ≡ head_row (with_volta volta_alone m.passes m)
 unfolding head_row splice little key_mark_bytes volta_code
 alone_by m none e = rw (e, key_mark_bytes)
 alone_by m (some k) e = rw (e, key_mark_bytes)
 
-pub head_alone : (m : Head) → splice (head_row m) volta_at (3 ∷ []) ≡ head_row (with_volta voltaAlone m.passes m)
+pub head_alone : (m : Head) → splice (head_row m) volta_at (3 ∷ []) ≡ head_row (with_volta volta_alone m.passes m)
 head_alone m = alone_by m m.key refl
 
-ends_by : (m : Head) (ps : List ℕ) (o : Option Key) → m.key ≡ o → splice (head_row m) volta_at ((2 ∷ get_or ps 0 0 ∷ []) ++ le32 (pass_bits ps)) ≡ head_row (with_volta voltaEnds ps m)
+ends_by : (m : Head) (ps : List ℕ) (o : Option Key) → m.key ≡ o → splice (head_row m) volta_at ((2 ∷ get_or ps 0 0 ∷ []) ++ le32 (pass_bits ps)) ≡ head_row (with_volta volta_ends ps m)
 unfolding head_row splice little key_mark_bytes volta_code
 ends_by m ps none e = rw (e, key_mark_bytes)
 ends_by m ps (some k) e = rw (e, key_mark_bytes)
 
-pub head_ends : (m : Head) (ps : List ℕ) → splice (head_row m) volta_at ((2 ∷ get_or ps 0 0 ∷ []) ++ le32 (pass_bits ps)) ≡ head_row (with_volta voltaEnds ps m)
+pub head_ends : (m : Head) (ps : List ℕ) → splice (head_row m) volta_at ((2 ∷ get_or ps 0 0 ∷ []) ++ le32 (pass_bits ps)) ≡ head_row (with_volta volta_ends ps m)
 head_ends m ps = ends_by m ps m.key refl
 
 -- NUMBERS AND CASES
 pub ends_code : (b : Barline) (c : ℕ) → c ≡ barline_code b → (eqb c 2 || eqb c 3 || eqb c 5) ≡ ends_ending b
 unfolding ends_ending
 ends_code normal c e = rw e
-ends_code repeatStart c e = rw e
-ends_code repeatEnd c e = rw e
-ends_code repeatBoth c e = rw e
+ends_code repeat_start c e = rw e
+ends_code repeat_end c e = rw e
+ends_code repeat_both c e = rw e
 ends_code double c e = rw e
 ends_code final c e = rw e
 
 starts_by : (v : Volta) (c : ℕ) → c ≡ volta_code v → eqb c 1 ≡ is_start v
 unfolding volta_code is_start
-starts_by noVolta c e = rw e
-starts_by voltaBegins c e = rw e
-starts_by voltaEnds c e = rw e
-starts_by voltaAlone c e = rw e
+starts_by no_volta c e = rw e
+starts_by volta_begins c e = rw e
+starts_by volta_ends c e = rw e
+starts_by volta_alone c e = rw e
 
 pub starts_code : (m : Head) (c : ℕ) → c ≡ get_or (head_row m) volta_at 0 → eqb c 1 ≡ starts m
 unfolding starts
@@ -181,7 +181,7 @@ module _ {s : List ℕ} {at n i : ℕ} {a b : List Head} {m : Head} (h : Stands 
   open_ends none r r' t p q e w z = absurd (both_true r.begun p q)
   open_ends (some ps) r r' t p q e w z =
       let bytes : (2 ∷ r.first ∷ []) ++ le32 r.passes ≡ (2 ∷ get_or ps 0 0 ∷ []) ++ le32 (pass_bits ps) = rw (q.1, q.2) in
-      rw (e, closed_head, span_after) (set_of t volta_at _ (with_volta voltaEnds ps m) (w ∙ ap (splice s (at + measure_width * i + volta_at)) bytes) (omega (arith, length_little 4 (pass_bits ps))) (head_ends m ps), z)
+      rw (e, closed_head, span_after) (set_of t volta_at _ (with_volta volta_ends ps m) (w ∙ ap (splice s (at + measure_width * i + volta_at)) bytes) (omega (arith, length_little 4 (pass_bits ps))) (head_ends m ps), z)
 
   -- NONE IS OPEN
   -- and none starts
@@ -194,7 +194,7 @@ module _ {s : List ℕ} {at n i : ℕ} {a b : List Head} {m : Head} (h : Stands 
   pub none_alone : (o : Option (List ℕ)) (r : Span) (t : List ℕ) → r.begun ≡ false → SpanIs r o → starts m ≡ true → ends_at m b ≡ true
       → t ≡ splice s (at + measure_width * i + volta_at) (3 ∷ []) → Steps t at a m b o r
   unfolding closed_head span_after
-  none_alone none r t p q e f w = rw (e, closed_head, span_after) (rw (f, closed_head, span_after) (set_of t volta_at (3 ∷ []) (with_volta voltaAlone m.passes m) w (omega arith) (head_alone m), p))
+  none_alone none r t p q e f w = rw (e, closed_head, span_after) (rw (f, closed_head, span_after) (set_of t volta_at (3 ∷ []) (with_volta volta_alone m.passes m) w (omega arith) (head_alone m), p))
   none_alone (some ps) r t p q e f w = absurd (both_true r.begun q.0 p)
 
   -- one starts

@@ -2,7 +2,7 @@
 use Rattle.std.specs.Prelude.{ℕ, ◌+◌, ◌<◌, ◌^◌, ◌≡◌, true, false, List, ◌∷◌, ◌++◌, length, get_or}
 use Rattle.std.proofs.Math.Option.{Option, none, some}
 use Rattle.laws.specs.Bytes.{le32}
-use Rattle.reader.specs.State.{voltaEnds, voltaAlone}
+use Rattle.reader.specs.State.{volta_ends, volta_alone}
 use Rattle.reader.specs.Records.{pass_bits, measure_width}
 use Rattle.part_layout.specs.Log.{Head, with_volta}
 use Rattle.part_layout.specs.Ends.{starts, ends_at}
@@ -28,8 +28,8 @@ SpanIs r (some ps) = (r.begun ≡ true) × (r.first ≡ get_or ps 0 0) × (le32 
 
 -- measure m, before ms, once it is closed
 unfoldable pub closed_head : Option (List ℕ) → Head → List Head → Head
-closed_head none m ms = elim (starts m) [ true ↦ elim (ends_at m ms) [ true ↦ with_volta voltaAlone m.passes m | false ↦ m ] | false ↦ m ]
-closed_head (some ps) m ms = elim (ends_at m ms) [ true ↦ with_volta voltaEnds ps m | false ↦ m ]
+closed_head none m ms = elim (starts m) [ true ↦ elim (ends_at m ms) [ true ↦ with_volta volta_alone m.passes m | false ↦ m ] | false ↦ m ]
+closed_head (some ps) m ms = elim (ends_at m ms) [ true ↦ with_volta volta_ends ps m | false ↦ m ]
 
 -- the ending that is open behind it
 unfoldable pub span_after : Option (List ℕ) → Head → List Head → Option (List ℕ)

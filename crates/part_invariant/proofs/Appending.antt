@@ -119,9 +119,9 @@ counted_is : (o n : ℕ) (k : NoteKind) (v : Verses) → n ≡ v.sounded → con
 unfolding kind_code is_sounded
 counted_is o n Notes.sounded v e = by_test (eqb o 0) (λ f. rw f (add-one n ∙ ap suc e)) (λ f. rw f e)
 counted_is o n Notes.rest v e = by_test (eqb o 0) (λ f. rw f e) (λ f. rw f e)
-counted_is o n Notes.invisibleRest v e = by_test (eqb o 0) (λ f. rw f e) (λ f. rw f e)
-counted_is o n Notes.barRest v e = by_test (eqb o 0) (λ f. rw f e) (λ f. rw f e)
-counted_is o n Notes.invisibleBarRest v e = by_test (eqb o 0) (λ f. rw f e) (λ f. rw f e)
+counted_is o n Notes.invisible_rest v e = by_test (eqb o 0) (λ f. rw f e) (λ f. rw f e)
+counted_is o n Notes.bar_rest v e = by_test (eqb o 0) (λ f. rw f e) (λ f. rw f e)
+counted_is o n Notes.invisible_bar_rest v e = by_test (eqb o 0) (λ f. rw f e) (λ f. rw f e)
 
 counted_fields : (o : ℕ) (g : Note) (v : Verses) → ((counted_in o g v).sounded ≡ cond (eqb o 0 && is_sounded g.kind) (suc v.sounded) v.sounded) × ((counted_in o g v).start ≡ v.start) × ((counted_in o g v).verse ≡ v.verse)
 unfolding counted_in

@@ -13,10 +13,10 @@ use Rattle.standard.specs.Keys.{Key, plain_key}
 use Rattle.editions.specs.declared.Edition.{Edition}
 use Rattle.reader.specs.Codes.{mode_code}
 use Rattle.reader.specs.Records.{signed8, measure_width}
-use Rattle.reader.specs.Scan.{Item, voice_declared, reset, keyInHeader, key_change, meter_change, lyric_line, music_line}
+use Rattle.reader.specs.Scan.{Item, voice_declared, reset, key_in_header, key_change, meter_change, lyric_line, music_line}
 use Rattle.reader.specs.Part.{first_key}
 use Rattle.reader.specs.State.{Note, Sung, new_line}
-use Rattle.reader.specs.Token.{Token, space, overlay, quoted, broken, tuplet, slur, graceOpen, graceClose, decoration, barline, volta, unit, meter, key, field, chord, rest, note, nothing, skipped, refused}
+use Rattle.reader.specs.Token.{Token, space, overlay, quoted, broken, tuplet, slur, grace_open, grace_close, decoration, barline, volta, unit, meter, key, field, chord, rest, note, nothing, skipped, refused}
 use Rattle.reader.specs.Tokens.{tokens}
 use Rattle.reader.proofs.PartLaws.{counted_lines}
 use Rattle.part_layout.specs.Log.{Head, LogState, set_key, set_heads, with_key_mark, with_meter, new_log, on_last_head, on_open, hears, last_place, note_at, on_broken, on_nothing, append, on_sound, on_barline, on_token, line_begins, on_line}
@@ -94,7 +94,7 @@ module _ (ed : Edition) {t : Tables} {s : List ℕ} {r : Registers} (header : Ke
   unfolding on_item
   declared_simulates b = simulates_item_alone refl (λ l h. keyed_represented (first_key ed header b) l h)
 
-  pub key_in_header_simulates : SimulatesItem t s r s (keyed_as r header) [] (λ l. on_item ed header l keyInHeader)
+  pub key_in_header_simulates : SimulatesItem t s r s (keyed_as r header) [] (λ l. on_item ed header l key_in_header)
   unfolding on_item
   key_in_header_simulates = simulates_item_alone refl (λ l h. keyed_represented header l h)
 
@@ -243,8 +243,8 @@ token_lines l quoted = refl
 token_lines l (broken up n) = broken_lines up n (last_place l) l
 token_lines l (tuplet t) = refl
 token_lines l slur = refl
-token_lines l graceOpen = refl
-token_lines l graceClose = refl
+token_lines l grace_open = refl
+token_lines l grace_close = refl
 token_lines l decoration = refl
 token_lines l (barline b o) = refl
 token_lines l (volta ps) = refl
@@ -272,7 +272,7 @@ key_lines header k (m ∷ ms) l = refl
 unfoldable pub added_by : LogState → Item → List Sung
 added_by l (voice_declared b) = []
 added_by l reset = []
-added_by l keyInHeader = []
+added_by l key_in_header = []
 added_by l (key_change k) = []
 added_by l (meter_change t) = []
 added_by l (lyric_line p t) = record { start = l.verses.start; verse = l.verses.verse; text = t } ∷ []
@@ -282,7 +282,7 @@ pub item_lines : (ed : Edition) (header : Key) (l : LogState) (x : Item) → (on
 unfolding on_item added_by on_lyric on_line on_open line_begins
 item_lines ed header l (voice_declared b) = refl
 item_lines ed header l reset = refl
-item_lines ed header l keyInHeader = refl
+item_lines ed header l key_in_header = refl
 item_lines ed header l (key_change k) = key_lines header k l.heads l
 item_lines ed header l (meter_change t) = refl
 item_lines ed header l (lyric_line p t) = refl

@@ -20,7 +20,7 @@ use Rattle.standard.specs.Keys.{Key}
 use Rattle.standard.specs.Lyrics.{next_verse}
 use Rattle.editions.specs.declared.Edition.{Edition}
 use Rattle.reader.specs.State.{Sung}
-use Rattle.reader.specs.Scan.{Item, voice_declared, reset, keyInHeader, key_change, meter_change, lyric_line, music_line}
+use Rattle.reader.specs.Scan.{Item, voice_declared, reset, key_in_header, key_change, meter_change, lyric_line, music_line}
 use Rattle.reader.specs.Steps.{items_of}
 use Rattle.blocks.proofs.Runs.{mine_append}
 use Rattle.part_layout.specs.Log.{LogState, new_log, on_line}
@@ -167,9 +167,9 @@ module _ (ed : Edition) (text : List ℕ) (t : Tables) (header : Key) (i : ℕ) 
   unfolding item_as added_by music_in
   taken_reset e k = taken_plain reset (ap (λ (j : ℕ). item_as j text row) e) (λ f. omega (arith, e, f)) (λ l. refl) refl k
 
-  pub taken_key_in_header : {r' : Registers} → row.kind ≡ key_in_header_kind → SimulatesItem t s r s r' [] (λ l. on_item ed header l keyInHeader) → Taken ed text t header row.part i s r s r'
+  pub taken_key_in_header : {r' : Registers} → row.kind ≡ key_in_header_kind → SimulatesItem t s r s r' [] (λ l. on_item ed header l key_in_header) → Taken ed text t header row.part i s r s r'
   unfolding item_as added_by music_in
-  taken_key_in_header e k = taken_plain keyInHeader (ap (λ (j : ℕ). item_as j text row) e) (λ f. omega (arith, e, f)) (λ l. refl) refl k
+  taken_key_in_header e k = taken_plain key_in_header (ap (λ (j : ℕ). item_as j text row) e) (λ f. omega (arith, e, f)) (λ l. refl) refl k
 
   pub taken_key_change : {s' : List ℕ} {r' : Registers} → row.kind ≡ key_change_kind → SimulatesItem t s r s' r' [] (λ l. on_item ed header l (key_change (record { fifths = row.a; minor = eqb row.b 1 }))) → Taken ed text t header row.part i s r s' r'
   unfolding item_as added_by music_in

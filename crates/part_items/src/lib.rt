@@ -101,7 +101,7 @@ fn on_voice_declared(edition: Edition, r: Registers, in_header: bool, header: Ke
 
 // The part hears the header's key.
 fn on_header_key(r: Registers, header: Key) -> Registers
-    ensures { (ed : Edition) (t : Tables) (s : List ℕ) → SimulatesItem t s r s result [] (λ l. on_item ed (key_as header) l scan.keyInHeader) }
+    ensures { (ed : Edition) (t : Tables) (s : List ℕ) → SimulatesItem t s r s result [] (λ l. on_item ed (key_as header) l scan.key_in_header) }
 {
     set_key(r, header)
 }

@@ -12,7 +12,7 @@ use Rattle.standard.specs.Bars.{Barline, normal}
 use Rattle.standard.specs.Notes.{Pending}
 use Rattle.standard.specs.Fields.{Meter}
 use Rattle.reader.specs.Pitches.{Scope}
-use Rattle.reader.specs.State.{Note, Volta, noVolta, Measure, Line, Verses, PartState, is_empty}
+use Rattle.reader.specs.State.{Note, Volta, no_volta, Measure, Line, Verses, PartState, is_empty}
 use Rattle.part_layout.specs.Log.{Head, LogState, no_counts}
 use Rattle.part_layout.specs.Lines.{four}
 use Rattle.part_layout.proofs.Back.{back}
@@ -58,7 +58,7 @@ bar_volta v ps b = record { notes = b.notes; left = b.left; right = b.right; met
 
 -- a new measure
 abbrev pub new_bar : Meter → Barline → Bar
-new_bar t l = record { notes = []; left = l; right = normal; meter = t; key = none; volta = noVolta; passes = [] }
+new_bar t l = record { notes = []; left = l; right = normal; meter = t; key = none; volta = no_volta; passes = [] }
 
 abbrev pub set_bars : List Bar → BarState → BarState
 set_bars bs s = record { key = s.key; scopes = s.scopes; bars = bs; pending = s.pending; verses = s.verses; line = s.line }

@@ -11,7 +11,7 @@ use Rattle.laws.proofs.Lists.{map_append, map_map, concat_snoc}
 use Rattle.standard.specs.Keys.{Key}
 use Rattle.editions.specs.declared.Edition.{Edition}
 use Rattle.reader.specs.State
-use Rattle.reader.specs.State.{Note, Measure, PartState, is_empty, voltaEnds, voltaAlone}
+use Rattle.reader.specs.State.{Note, Measure, PartState, is_empty, volta_ends, volta_alone}
 use Rattle.reader.specs.Voltas
 use Rattle.reader.specs.Voltas.{ends_ending, is_start, closed}
 use Rattle.reader.specs.Part
@@ -169,7 +169,7 @@ unfolding Voltas.starts in_order
 starts_measure b = refl
 
 -- one step over heads: one measure alone
-heads_alone : (m : Head) (ms : List Head) → Ends.starts m ≡ true → Ends.ends_at m ms ≡ true → Log.with_volta voltaAlone m.passes m ∷ Ends.close none ms ≡ Ends.close none (m ∷ ms)
+heads_alone : (m : Head) (ms : List Head) → Ends.starts m ≡ true → Ends.ends_at m ms ≡ true → Log.with_volta volta_alone m.passes m ∷ Ends.close none ms ≡ Ends.close none (m ∷ ms)
 unfolding Ends.close
 heads_alone m ms e f = rw (e, f, Ends.close)
 
@@ -184,7 +184,7 @@ unfolding Ends.close
 heads_none m ms e = rw (e, Ends.close)
 
 -- the end of a span
-heads_ends : (ps : List ℕ) (m : Head) (ms : List Head) → Ends.ends_at m ms ≡ true → Log.with_volta voltaEnds ps m ∷ Ends.close none ms ≡ Ends.close (some ps) (m ∷ ms)
+heads_ends : (ps : List ℕ) (m : Head) (ms : List Head) → Ends.ends_at m ms ≡ true → Log.with_volta volta_ends ps m ∷ Ends.close none ms ≡ Ends.close (some ps) (m ∷ ms)
 unfolding Ends.close
 heads_ends ps m ms f = rw (f, Ends.close)
 
@@ -194,7 +194,7 @@ unfolding Ends.close
 heads_goes_on ps m ms f = rw (f, Ends.close)
 
 -- one step over plain measures: one measure alone
-measures_alone : (m : Measure) (ms : List Measure) → Voltas.starts m ≡ true → Voltas.ends_at m ms ≡ true → State.with_volta voltaAlone m.passes m ∷ Voltas.close none ms ≡ Voltas.close none (m ∷ ms)
+measures_alone : (m : Measure) (ms : List Measure) → Voltas.starts m ≡ true → Voltas.ends_at m ms ≡ true → State.with_volta volta_alone m.passes m ∷ Voltas.close none ms ≡ Voltas.close none (m ∷ ms)
 unfolding Voltas.close
 measures_alone m ms e f = rw (e, f, Voltas.close)
 
@@ -209,7 +209,7 @@ unfolding Voltas.close
 measures_none m ms e = rw (e, Voltas.close)
 
 -- the end of a span
-measures_ends : (ps : List ℕ) (m : Measure) (ms : List Measure) → Voltas.ends_at m ms ≡ true → State.with_volta voltaEnds ps m ∷ Voltas.close none ms ≡ Voltas.close (some ps) (m ∷ ms)
+measures_ends : (ps : List ℕ) (m : Measure) (ms : List Measure) → Voltas.ends_at m ms ≡ true → State.with_volta volta_ends ps m ∷ Voltas.close none ms ≡ Voltas.close (some ps) (m ∷ ms)
 unfolding Voltas.close
 measures_ends ps m ms f = rw (f, Voltas.close)
 
@@ -235,7 +235,7 @@ close_bars none (b ∷ bs) =
     let m = map final_of bs in
     by_test (is_start b.volta)
     (λ e. by_test (ends b bs)
-    (λ f. stepped (bar_volta voltaAlone b.passes b) _ _ _ _ _ k (heads_alone (head_of b) h (starts_head b ∙ e) (ends_head b bs ∙ f)) (measures_alone (final_of b) m (starts_measure b ∙ e) (ends_measure b bs ∙ f)))
+    (λ f. stepped (bar_volta volta_alone b.passes b) _ _ _ _ _ k (heads_alone (head_of b) h (starts_head b ∙ e) (ends_head b bs ∙ f)) (measures_alone (final_of b) m (starts_measure b ∙ e) (ends_measure b bs ∙ f)))
     (λ f. stepped b _ _ _ _ _ q (heads_begins (head_of b) h (starts_head b ∙ e) (ends_head b bs ∙ f)) (measures_begins (final_of b) m (starts_measure b ∙ e) (ends_measure b bs ∙ f))))
     (λ e. stepped b _ _ _ _ _ k (heads_none (head_of b) h (starts_head b ∙ e)) (measures_none (final_of b) m (starts_measure b ∙ e)))
 close_bars (some ps) (b ∷ bs) =
@@ -244,7 +244,7 @@ close_bars (some ps) (b ∷ bs) =
     let h = map head_of bs in
     let m = map final_of bs in
     by_test (ends b bs)
-    (λ f. stepped (bar_volta voltaEnds ps b) _ _ _ _ _ k (heads_ends ps (head_of b) h (ends_head b bs ∙ f)) (measures_ends ps (final_of b) m (ends_measure b bs ∙ f)))
+    (λ f. stepped (bar_volta volta_ends ps b) _ _ _ _ _ k (heads_ends ps (head_of b) h (ends_head b bs ∙ f)) (measures_ends ps (final_of b) m (ends_measure b bs ∙ f)))
     (λ f. stepped b _ _ _ _ _ q (heads_goes_on ps (head_of b) h (ends_head b bs ∙ f)) (measures_goes_on ps (final_of b) m (ends_measure b bs ∙ f)))
 
 -- THE FIRST KEY MARK, by the mark that is there

@@ -10,7 +10,7 @@ use lib.ListN.{length}
 use Rattle.laws.specs.Lists.{on_first, is_nil}
 use Rattle.laws.proofs.Bools.{by_test, eqb_sym}
 use Rattle.laws.proofs.Lists.{is_nil_length}
-use Rattle.standard.specs.Bars.{Barline, normal, repeatStart, repeatEnd, repeatBoth, double, final}
+use Rattle.standard.specs.Bars.{Barline, normal, repeat_start, repeat_end, repeat_both, double, final}
 use Rattle.standard.specs.Fields.{Meter}
 use Rattle.reader.specs.Barlines.{left_of}
 use Rattle.reader.specs.State
@@ -108,9 +108,9 @@ open_snoc (x ∷ y ∷ hs) h = open_snoc (y ∷ hs) h
 -- the left barline set
 left_bar : Barline → Bar → Bar
 left_bar normal b = b
-left_bar repeatStart b = bar_left repeatStart b
-left_bar repeatEnd b = b
-left_bar repeatBoth b = bar_left repeatBoth b
+left_bar repeat_start b = bar_left repeat_start b
+left_bar repeat_end b = b
+left_bar repeat_both b = bar_left repeat_both b
 left_bar double b = bar_left double b
 left_bar final b = b
 
@@ -118,9 +118,9 @@ left_bar final b = b
 left_head : (l : Barline) (b : Bar) → head_of (left_bar l b) ≡ Log.left_set l (head_of b)
 unfolding left_bar Log.left_set
 left_head normal b = refl
-left_head repeatStart b = refl
-left_head repeatEnd b = refl
-left_head repeatBoth b = refl
+left_head repeat_start b = refl
+left_head repeat_end b = refl
+left_head repeat_both b = refl
 left_head double b = refl
 left_head final b = refl
 
@@ -128,9 +128,9 @@ left_head final b = refl
 left_measure : (l : Barline) (b : Bar) → measure_of (left_bar l b) ≡ Part.left_set l (measure_of b)
 unfolding left_bar Part.left_set
 left_measure normal b = refl
-left_measure repeatStart b = refl
-left_measure repeatEnd b = refl
-left_measure repeatBoth b = refl
+left_measure repeat_start b = refl
+left_measure repeat_end b = refl
+left_measure repeat_both b = refl
 left_measure double b = refl
 left_measure final b = refl
 
@@ -138,9 +138,9 @@ left_measure final b = refl
 left_notes : (l : Barline) (b : Bar) → (left_bar l b).notes ≡ b.notes
 unfolding left_bar
 left_notes normal b = refl
-left_notes repeatStart b = refl
-left_notes repeatEnd b = refl
-left_notes repeatBoth b = refl
+left_notes repeat_start b = refl
+left_notes repeat_end b = refl
+left_notes repeat_both b = refl
 left_notes double b = refl
 left_notes final b = refl
 

@@ -14,11 +14,11 @@ use Rattle.standard.specs.Lyrics.{next_verse}
 use Rattle.editions.specs.declared.Edition.{Edition}
 use Rattle.reader.specs.Lengths.{Length, value_of}
 use Rattle.reader.specs.Pitches.{sounds_of, scope_after_all}
-use Rattle.reader.specs.Token.{Token, space, overlay, quoted, broken, tuplet, slur, graceOpen, graceClose, decoration, barline, volta, unit, meter, key, field, chord, rest, note, nothing, skipped, refused}
+use Rattle.reader.specs.Token.{Token, space, overlay, quoted, broken, tuplet, slur, grace_open, grace_close, decoration, barline, volta, unit, meter, key, field, chord, rest, note, nothing, skipped, refused}
 use Rattle.reader.specs.Tokens.{tokens}
-use Rattle.reader.specs.Scan.{Item, voice_declared, reset, keyInHeader, key_change, meter_change, lyric_line, music_line}
+use Rattle.reader.specs.Scan.{Item, voice_declared, reset, key_in_header, key_change, meter_change, lyric_line, music_line}
 use Rattle.reader.specs.State
-use Rattle.reader.specs.State.{voltaBegins, PartState, with_run, with_overlay, with_tuplet, with_unit, with_time, no_scopes, new_part, new_line}
+use Rattle.reader.specs.State.{volta_begins, PartState, with_run, with_overlay, with_tuplet, with_unit, with_time, no_scopes, new_part, new_line}
 use Rattle.reader.specs.Part
 use Rattle.reader.specs.Part.{first_key, rest_note, sound_note}
 use Rattle.part_layout.specs.Log
@@ -58,11 +58,11 @@ sim_token s (broken up n) r = sim_broken up n s r
 sim_token s (tuplet t) r =
     record { state = set_line (with_tuplet _ s.line) s; holds = r; laid_is = refl; plain_is = refl }
 sim_token s slur r = record { state = set_pending (slur_opens s.pending) s; holds = r; laid_is = refl; plain_is = refl }
-sim_token s graceOpen r = record { state = set_pending (grace_opens s.pending) s; holds = r; laid_is = refl; plain_is = refl }
-sim_token s graceClose r = record { state = set_pending (grace_closes s.pending) s; holds = r; laid_is = refl; plain_is = refl }
+sim_token s grace_open r = record { state = set_pending (grace_opens s.pending) s; holds = r; laid_is = refl; plain_is = refl }
+sim_token s grace_close r = record { state = set_pending (grace_closes s.pending) s; holds = r; laid_is = refl; plain_is = refl }
 sim_token s decoration r = record { state = s; holds = r; laid_is = refl; plain_is = refl }
 sim_token s (barline b o) r = sim_barline b o s r
-sim_token s (volta ps) r = sim_open_line (bar_volta voltaBegins ps) (Log.with_volta voltaBegins ps) (State.with_volta voltaBegins ps) (λ b. refl) (λ b. refl) (λ b. refl) s r
+sim_token s (volta ps) r = sim_open_line (bar_volta volta_begins ps) (Log.with_volta volta_begins ps) (State.with_volta volta_begins ps) (λ b. refl) (λ b. refl) (λ b. refl) s r
 sim_token s (unit u) r = record { state = set_line (with_unit u s.line) s; holds = r; laid_is = refl; plain_is = refl }
 sim_token s (meter t) r =
     sim_open_line (bar_meter t) (Log.with_meter t) (State.with_meter t) (λ b. refl) (λ b. refl) (λ b. refl) (set_line (with_time t s.line) s) r
@@ -114,7 +114,7 @@ pub sim_item : (ed : Edition) (header : Key) (s : BarState) (i : Item) → Inv s
 unfolding Ends.on_item Part.on_item Ends.on_lyric Part.on_lyric
 sim_item ed header s (voice_declared in_header) g = record { state = set_key (first_key ed header in_header) s; holds = g; laid_is = refl; plain_is = refl }
 sim_item ed header s reset g = record { state = set_pending nothing_pending s; holds = g; laid_is = refl; plain_is = refl }
-sim_item ed header s keyInHeader g = record { state = set_key header s; holds = g; laid_is = refl; plain_is = refl }
+sim_item ed header s key_in_header g = record { state = set_key header s; holds = g; laid_is = refl; plain_is = refl }
 sim_item ed header s (key_change k) g = key_open header k s s.bars g
 sim_item ed header s (meter_change t) g = sim_open (bar_meter t) (Log.with_meter t) (State.with_meter t) (λ b. refl) (λ b. refl) (λ b. refl) s g
 sim_item ed header s (lyric_line placed t) g =

@@ -15,9 +15,9 @@ use Rattle.standard.specs.Pitches.{Written}
 use Rattle.standard.specs.Notes.{is_sounded, Behind}
 use Rattle.editions.specs.declared.Edition.{Edition}
 use Rattle.reader.specs.Lengths.{Length}
-use Rattle.reader.specs.Token.{Token, space, overlay, quoted, broken, tuplet, slur, graceOpen, graceClose, decoration, barline, volta, unit, meter, key, field, chord, rest, note, nothing, skipped, refused}
+use Rattle.reader.specs.Token.{Token, space, overlay, quoted, broken, tuplet, slur, grace_open, grace_close, decoration, barline, volta, unit, meter, key, field, chord, rest, note, nothing, skipped, refused}
 use Rattle.reader.specs.Tokens.{tokens}
-use Rattle.reader.specs.Scan.{Item, voice_declared, reset, keyInHeader, key_change, meter_change, lyric_line, music_line}
+use Rattle.reader.specs.Scan.{Item, voice_declared, reset, key_in_header, key_change, meter_change, lyric_line, music_line}
 use Rattle.reader.specs.State.{Note, Half, Verses}
 use Rattle.reader.specs.Part.{halved_note, broken_note, after_half, can_beam, beamed_again, grouped, counted_in}
 use Rattle.reader.specs.Records.{is_sung}
@@ -139,8 +139,8 @@ token_counts s quoted c = c
 token_counts s (broken up n) c = broken_counts up n (last_place s) s c
 token_counts s (tuplet t) c = c
 token_counts s slur c = c
-token_counts s graceOpen c = c
-token_counts s graceClose c = c
+token_counts s grace_open c = c
+token_counts s grace_close c = c
 token_counts s decoration c = c
 token_counts s (barline b o) c = c
 token_counts s (volta ps) c = c
@@ -168,7 +168,7 @@ item_counts : (ed : Edition) (header : Key) (s : LogState) (i : Item) → Counts
 unfolding on_item on_lyric on_open
 item_counts ed header s (voice_declared b) c = c
 item_counts ed header s reset c = c
-item_counts ed header s keyInHeader c = c
+item_counts ed header s key_in_header c = c
 item_counts ed header s (key_change k) c = key_counts header k s.heads s c
 item_counts ed header s (meter_change t) c = c
 item_counts ed header s (lyric_line placed t) c = c

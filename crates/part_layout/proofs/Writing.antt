@@ -101,7 +101,7 @@ append_open n s (b ∷ bs) r =
     let f = beamed_before l.run g in
     let x = after_half l.half (beamed_new l.run g) in
     let place = r.good.place in
-    let voiceIs : get_or (measure_of b).voices o [] ≡ voice o b.notes = get_or_four (λ w. voice w b.notes) o [] place in
+    let voice_is : get_or (measure_of b).voices o [] ≡ voice o b.notes = get_or_four (λ w. voice w b.notes) o [] place in
     record {
       state =
           record {
@@ -136,7 +136,7 @@ append_open n s (b ∷ bs) r =
       plain_is =
           let e =
           more_voices o f x b bs place (on_first (after_half l.half) (beamed l.run g (get_or (measure_of b).voices o [])))
-          (ap (λ (v : List Note). on_first (after_half l.half) (beamed l.run g v)) voiceIs ∙ beamed_apart (after_half l.half) l.run g (voice o b.notes))
+          (ap (λ (v : List Note). on_first (after_half l.half) (beamed l.run g v)) voice_is ∙ beamed_apart (after_half l.half) l.run g (voice o b.notes))
           in
           λ i. record {
             key = s.key;

@@ -6,8 +6,8 @@ use Rattle.standard.specs.Keys.{Key}
 use Rattle.standard.specs.Notes.{nothing_pending}
 use Rattle.standard.specs.Lyrics.{next_verse}
 use Rattle.editions.specs.declared.Edition.{Edition}
-use Rattle.reader.specs.Scan.{Item, voice_declared, reset, keyInHeader, key_change, meter_change, lyric_line, music_line}
-use Rattle.reader.specs.State.{Note, voltaEnds, voltaAlone, Sung, Verses}
+use Rattle.reader.specs.Scan.{Item, voice_declared, reset, key_in_header, key_change, meter_change, lyric_line, music_line}
+use Rattle.reader.specs.State.{Note, volta_ends, volta_alone, Sung, Verses}
 use Rattle.reader.specs.Voltas.{ends_ending, is_start}
 use Rattle.reader.specs.Lyrics.{Syllable, sung_in}
 use Rattle.reader.specs.Part.{first_key}
@@ -28,7 +28,7 @@ on_key header k (m ∷ ms) s = on_open (with_key_mark k) (hears k s)
 unfoldable pub on_item : Edition → Key → LogState → Item → LogState
 on_item ed header s (voice_declared in_header) = set_key (first_key ed header in_header) s
 on_item ed header s reset = set_pending nothing_pending s
-on_item ed header s keyInHeader = set_key header s
+on_item ed header s key_in_header = set_key header s
 on_item ed header s (key_change k) = on_key header k s.heads s
 on_item ed header s (meter_change t) = on_open (with_meter t) s
 on_item ed header s (lyric_line placed t) = on_lyric placed t s
@@ -57,10 +57,10 @@ unfoldable pub close : Option (List ℕ) → List Head → List Head
 close span [] = []
 close none (m ∷ ms) =
     elim (starts m) [
-      | true ↦ elim (ends_at m ms) [ true ↦ with_volta voltaAlone m.passes m ∷ close none ms | false ↦ m ∷ close (some m.passes) ms ]
+      | true ↦ elim (ends_at m ms) [ true ↦ with_volta volta_alone m.passes m ∷ close none ms | false ↦ m ∷ close (some m.passes) ms ]
       | false ↦ m ∷ close none ms
     ]
-close (some ps) (m ∷ ms) = elim (ends_at m ms) [ true ↦ with_volta voltaEnds ps m ∷ close none ms | false ↦ m ∷ close (some ps) ms ]
+close (some ps) (m ∷ ms) = elim (ends_at m ms) [ true ↦ with_volta volta_ends ps m ∷ close none ms | false ↦ m ∷ close (some ps) ms ]
 
 -- "The first measure always has a key mark"
 unfoldable pub marked_by : Key → Head → Option Key → Head

@@ -6,18 +6,18 @@ use Rattle.std.proofs.Math.Option.{Option, none, some}
 use Rattle.laws.specs.Lists.{foldl, all, alter_at, sum}
 use Rattle.standard.specs.Pitches.{Written}
 use Rattle.standard.specs.Keys.{Key, plain_key}
-use Rattle.standard.specs.Bars.{Barline, normal, repeatStart, repeatEnd, repeatBoth, double, final}
+use Rattle.standard.specs.Bars.{Barline, normal, repeat_start, repeat_end, repeat_both, double, final}
 use Rattle.standard.specs.Notes
 use Rattle.standard.specs.Notes.{Behind, Pending, nothing_pending, pending_after, slur_opens, grace_opens, grace_closes, next_voice}
 use Rattle.standard.specs.Fields.{Meter}
 use Rattle.editions.specs.declared.Edition.{Edition}
 use Rattle.reader.specs.Lengths.{Length, value_of}
 use Rattle.reader.specs.Pitches.{Scope, sounds_of, scope_after_all}
-use Rattle.reader.specs.Token.{Token, space, overlay, quoted, broken, tuplet, slur, graceOpen, graceClose, decoration, barline, volta, unit, meter, key, field, chord, rest, note, nothing, skipped, refused}
+use Rattle.reader.specs.Token.{Token, space, overlay, quoted, broken, tuplet, slur, grace_open, grace_close, decoration, barline, volta, unit, meter, key, field, chord, rest, note, nothing, skipped, refused}
 use Rattle.reader.specs.Barlines.{left_of}
 use Rattle.reader.specs.Tokens.{tokens}
-use Rattle.reader.specs.Scan.{Item, voice_declared, reset, keyInHeader, key_change, meter_change, lyric_line, music_line}
-use Rattle.reader.specs.State.{Note, Volta, noVolta, voltaBegins, Half, Line, Verses, with_beam, with_run, with_overlay, with_half, with_tuplet, with_unit, with_time, no_scopes, new_line}
+use Rattle.reader.specs.Scan.{Item, voice_declared, reset, key_in_header, key_change, meter_change, lyric_line, music_line}
+use Rattle.reader.specs.State.{Note, Volta, no_volta, volta_begins, Half, Line, Verses, with_beam, with_run, with_overlay, with_half, with_tuplet, with_unit, with_time, no_scopes, new_line}
 use Rattle.reader.specs.Part.{broken_note, after_half, can_beam, run_after, beamed_again, in_meter, grouped, one_fewer, counted_in, rest_note, sound_note, first_key}
 
 -- a measure without its notes: how many each of its four voices has
@@ -94,7 +94,7 @@ abbrev pub no_counts : List ℕ
 no_counts = 0 ∷ 0 ∷ 0 ∷ 0 ∷ []
 
 unfoldable pub new_head : Meter → Barline → Head
-new_head t left = record { counts = no_counts; left = left; right = normal; meter = t; key = none; volta = noVolta; passes = [] }
+new_head t left = record { counts = no_counts; left = left; right = normal; meter = t; key = none; volta = no_volta; passes = [] }
 
 unfoldable pub new_log : LogState
 new_log =
@@ -189,9 +189,9 @@ on_sound ws l b s =
 -- BARLINES
 unfoldable pub left_set : Barline → Head → Head
 left_set normal m = m
-left_set repeatStart m = with_left repeatStart m
-left_set repeatEnd m = m
-left_set repeatBoth m = with_left repeatBoth m
+left_set repeat_start m = with_left repeat_start m
+left_set repeat_end m = m
+left_set repeat_both m = with_left repeat_both m
 left_set double m = with_left double m
 left_set final m = m
 
@@ -223,11 +223,11 @@ on_token s quoted = s
 on_token s (broken up n) = on_broken up n (last_place s) s
 on_token s (tuplet t) = set_line (with_tuplet (some (record { tuplet = in_meter s.line.meter t; remaining = t.count })) s.line) s
 on_token s slur = set_pending (slur_opens s.pending) s
-on_token s graceOpen = set_pending (grace_opens s.pending) s
-on_token s graceClose = set_pending (grace_closes s.pending) s
+on_token s grace_open = set_pending (grace_opens s.pending) s
+on_token s grace_close = set_pending (grace_closes s.pending) s
 on_token s decoration = s
 on_token s (barline b o) = on_barline b o s
-on_token s (volta ps) = on_open (with_volta voltaBegins ps) s
+on_token s (volta ps) = on_open (with_volta volta_begins ps) s
 on_token s (unit u) = set_line (with_unit u s.line) s
 on_token s (meter t) = on_open (with_meter t) (set_line (with_time t s.line) s)
 on_token s (key k) = on_open (with_key_mark k) (hears k s)

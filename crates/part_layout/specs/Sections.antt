@@ -10,7 +10,7 @@ use Rattle.reader.specs.Records.{key_mark_bytes, pass_bits, note_bytes, pitch_by
 use Rattle.part_layout.specs.Log.{Head, notes_in}
 use Rattle.part_layout.specs.Ends.{Laid}
 
--- MEASURE: measureWidth bytes, where its counts are four
+-- MEASURE: measure_width bytes, where its counts are four
 unfoldable pub head_bytes : Head → List ℕ
 head_bytes m =
     concat (map le32 m.counts)

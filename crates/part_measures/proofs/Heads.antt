@@ -16,7 +16,7 @@ use Rattle.laws.proofs.Numbers.{little_at_part, little_at_little, little_at_own}
 use Rattle.standard.specs.Keys.{Key}
 use Rattle.standard.specs.Bars.{Barline}
 use Rattle.standard.specs.Fields.{Meter}
-use Rattle.reader.specs.State.{voltaBegins}
+use Rattle.reader.specs.State.{volta_begins}
 use Rattle.reader.specs.Codes.{barline_code, volta_code, mode_code}
 use Rattle.reader.specs.Records.{key_mark_bytes, pass_bits, signed8, measure_width}
 use Rattle.part_layout.specs.Log.{Head, new_head, with_counts, with_left, with_right, with_meter, with_key_mark, with_volta, is_empty_head}
@@ -75,12 +75,12 @@ mark_by m k (some j) e = rw (e, key_mark_bytes)
 pub head_mark : (m : Head) (k : Key) → splice (head_row m) key_mark_at (mode_code k.minor ∷ signed8 k.fifths ∷ []) ≡ head_row (with_key_mark k m)
 head_mark m k = mark_by m k m.key refl
 
-volta_by : (m : Head) (ps : List ℕ) (o : Option Key) → m.key ≡ o → splice (head_row m) volta_at ((1 ∷ get_or ps 0 0 ∷ []) ++ le32 (pass_bits ps)) ≡ head_row (with_volta voltaBegins ps m)
+volta_by : (m : Head) (ps : List ℕ) (o : Option Key) → m.key ≡ o → splice (head_row m) volta_at ((1 ∷ get_or ps 0 0 ∷ []) ++ le32 (pass_bits ps)) ≡ head_row (with_volta volta_begins ps m)
 unfolding head_row splice little key_mark_bytes volta_code
 volta_by m ps none e = rw (e, key_mark_bytes)
 volta_by m ps (some j) e = rw (e, key_mark_bytes)
 
-pub head_volta : (m : Head) (ps : List ℕ) → splice (head_row m) volta_at ((1 ∷ get_or ps 0 0 ∷ []) ++ le32 (pass_bits ps)) ≡ head_row (with_volta voltaBegins ps m)
+pub head_volta : (m : Head) (ps : List ℕ) → splice (head_row m) volta_at ((1 ∷ get_or ps 0 0 ∷ []) ++ le32 (pass_bits ps)) ≡ head_row (with_volta volta_begins ps m)
 head_volta m ps = volta_by m ps m.key refl
 
 -- COUNTS

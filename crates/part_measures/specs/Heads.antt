@@ -1,4 +1,4 @@
--- THE HEAD OF A MEASURE as a row, as wide as the measure record: part_layout's headBytes.
+-- THE HEAD OF A MEASURE as a row, as wide as the measure record: part_layout's head_bytes.
 use Rattle.std.specs.Prelude.{ℕ, zero, suc, ◌+◌, Bool, true, ◌&&◌, List, [], ◌∷◌, ◌++◌, eqb, get_or}
 use Rattle.laws.specs.Bytes.{le32, u32_at}
 use Rattle.reader.specs.Codes.{barline_code, volta_code}
@@ -27,7 +27,7 @@ first_pass_at = 23
 abbrev pub passes_at : ℕ
 passes_at = 24
 
--- a measure without its notes: measureWidth bytes whatever the counts; with four, headBytes (`head_row_lem`)
+-- a measure without its notes: measure_width bytes whatever the counts; with four, head_bytes (`head_row_lem`)
 unfoldable pub head_row : Head → List ℕ
 head_row m =
     (le32 (get_or m.counts 0 0) ++ le32 (get_or m.counts 1 0) ++ le32 (get_or m.counts 2 0) ++ le32 (get_or m.counts 3 0))

@@ -27,9 +27,9 @@ pub beams_is : (k : NoteKind) (v : ℕ) → beams (kind_code k) v ≡ beamable k
 unfolding beams kind_code beamable is_sounded
 beams_is Notes.sounded v = refl
 beams_is Notes.rest v = refl
-beams_is Notes.invisibleRest v = refl
-beams_is Notes.barRest v = refl
-beams_is Notes.invisibleBarRest v = refl
+beams_is Notes.invisible_rest v = refl
+beams_is Notes.bar_rest v = refl
+beams_is Notes.invisible_bar_rest v = refl
 
 pub note_flags_is : (p : Notes.Pending) (b : Behind) → flags_in (pending_for p) b.tie b.slur ≡ flags_byte (flags_of p b)
 unfolding flags_in bit_of flags_byte bit flags_of

@@ -97,7 +97,7 @@ note_row x = row_bytes (row_for x.1) x.0
 abbrev pub pitch_for : Pitch → Sounded
 pitch_for p = record { step = p.step; octave = p.octave; alter = p.alter; cents = p.cents }
 
--- its bytes: pitchBytes (`pitch_row_lem`)
+-- its bytes: pitch_bytes (`pitch_row_lem`)
 unfoldable pub pitch_row : Sounded → List ℕ
 pitch_row p = p.step ∷ signed8 p.octave ∷ signed8 p.alter ∷ signed16 p.cents
 

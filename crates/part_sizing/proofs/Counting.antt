@@ -14,7 +14,7 @@ use Rattle.laws.proofs.Bools.{by_test}
 use Rattle.laws.proofs.Lists.{drop_next, filter_le}
 use Rattle.laws.proofs.Parts.{part_all, length_between, between_first, between_none, between_cut}
 use Rattle.standard.specs.Pitches.{is_letter}
-use Rattle.reader.specs.Scan.{Item, voice_declared, reset, keyInHeader, key_change, meter_change, lyric_line, music_line, Items}
+use Rattle.reader.specs.Scan.{Item, voice_declared, reset, key_in_header, key_change, meter_change, lyric_line, music_line, Items}
 use Rattle.reader.specs.Steps.{items_of}
 use Rattle.bounds.specs.Weights.{music_bytes, lyric_bytes, item_bytes}
 use Rattle.capacity.specs.Sizes.{is_bar, is_rest, is_sign, bars, letters, rests, signs}
@@ -220,7 +220,7 @@ music_bytes_lem : (x : Item) → length (music_in x) ≡ music_bytes x
 unfolding music_in music_bytes
 music_bytes_lem (voice_declared b) = refl
 music_bytes_lem reset = refl
-music_bytes_lem keyInHeader = refl
+music_bytes_lem key_in_header = refl
 music_bytes_lem (key_change k) = refl
 music_bytes_lem (meter_change m) = refl
 music_bytes_lem (lyric_line b t) = refl

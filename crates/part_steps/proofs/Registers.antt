@@ -111,10 +111,10 @@ module _ (r : Registers) (t : Tables) (s : List ℕ) where
   unfolding on_token slur_opens
   slur_simulates = pended_simulates _ slur_opens (λ n e i. record { tie = (e i).tie; slur = true; grace = (e i).grace })
 
-  pub grace_open_simulates : Simulates t s r s (pended r (record { tie = r.pending.tie; slur = r.pending.slur; grace = true })) 0 0 0 0 (λ l. on_token l token.graceOpen)
+  pub grace_open_simulates : Simulates t s r s (pended r (record { tie = r.pending.tie; slur = r.pending.slur; grace = true })) 0 0 0 0 (λ l. on_token l token.grace_open)
   unfolding on_token grace_opens
   grace_open_simulates = pended_simulates _ grace_opens (λ n e i. record { tie = (e i).tie; slur = (e i).slur; grace = true })
 
-  pub grace_close_simulates : Simulates t s r s (pended r (record { tie = r.pending.tie; slur = r.pending.slur; grace = false })) 0 0 0 0 (λ l. on_token l token.graceClose)
+  pub grace_close_simulates : Simulates t s r s (pended r (record { tie = r.pending.tie; slur = r.pending.slur; grace = false })) 0 0 0 0 (λ l. on_token l token.grace_close)
   unfolding on_token grace_closes
   grace_close_simulates = pended_simulates _ grace_closes (λ n e i. record { tie = (e i).tie; slur = (e i).slur; grace = false })

@@ -87,7 +87,7 @@ pub fn on_slur(r: Registers) -> Registers
 }
 
 pub fn on_grace_open(r: Registers) -> Registers
-    ensures { (t : Tables) (s : List ℕ) → Simulates t s r s result 0 0 0 0 (λ l. on_token l token.graceOpen) }
+    ensures { (t : Tables) (s : List ℕ) → Simulates t s r s result 0 0 0 0 (λ l. on_token l token.grace_open) }
 {
     let mut x = r;
     x.pending.grace = true;
@@ -95,7 +95,7 @@ pub fn on_grace_open(r: Registers) -> Registers
 }
 
 pub fn on_grace_close(r: Registers) -> Registers
-    ensures { (t : Tables) (s : List ℕ) → Simulates t s r s result 0 0 0 0 (λ l. on_token l token.graceClose) }
+    ensures { (t : Tables) (s : List ℕ) → Simulates t s r s result 0 0 0 0 (λ l. on_token l token.grace_close) }
 {
     let mut x = r;
     x.pending.grace = false;

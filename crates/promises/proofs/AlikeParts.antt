@@ -22,10 +22,10 @@ use Rattle.standard.specs.Notes as notes
 use Rattle.standard.specs.Notes.{NoteKind, is_sounded, Behind, flags_of, pending_after, slur_opens, grace_closes}
 use Rattle.editions.specs.declared.Edition.TheVariants.{First, Second}
 use Rattle.reader.specs.Lengths.{Length, value_of}
-use Rattle.reader.specs.Token.{Token, space, overlay, quoted, broken, tuplet, slur, graceOpen, graceClose, decoration, barline, volta, unit, meter, key, field, chord, rest, note, nothing, skipped, refused}
+use Rattle.reader.specs.Token.{Token, space, overlay, quoted, broken, tuplet, slur, grace_open, grace_close, decoration, barline, volta, unit, meter, key, field, chord, rest, note, nothing, skipped, refused}
 use Rattle.reader.specs.Tokens.{tokens}
 use Rattle.reader.specs.Barlines.{left_of}
-use Rattle.reader.specs.Scan.{Item, voice_declared, reset, keyInHeader, key_change, meter_change, lyric_line, music_line, Env}
+use Rattle.reader.specs.Scan.{Item, voice_declared, reset, key_in_header, key_change, meter_change, lyric_line, music_line, Env}
 use Rattle.reader.specs.State.{Note, Measure, Sung, Verses, PartState, with_right, with_voices, with_meter, set_key, on_open, is_empty, voice_in, voice_now, set_voice, new_measure, new_part}
 use Rattle.reader.specs.Voltas.{close, closed}
 use Rattle.reader.specs.Lyrics.{Syllable, sung_by, sung_by_bars, sung_in}
@@ -203,9 +203,9 @@ rest_ungraced : (k : NoteKind) (w : Value) → (rest_note k w).flags.grace ≡ f
 unfolding rest_note
 rest_ungraced notes.sounded w = refl
 rest_ungraced notes.rest w = refl
-rest_ungraced notes.invisibleRest w = refl
-rest_ungraced notes.barRest w = refl
-rest_ungraced notes.invisibleBarRest w = refl
+rest_ungraced notes.invisible_rest w = refl
+rest_ungraced notes.bar_rest w = refl
+rest_ungraced notes.invisible_bar_rest w = refl
 
 sound_even : (ws : List Written) (l : Length) (b : Behind) (s : PartState) → Within s → Within (on_sound ws l b s)
 unfolding on_sound sound_note flags_of pending_after
@@ -253,8 +253,8 @@ token_even s quoted g h = h
 token_even s (broken up n) g h = broken_even up n (voice_now s) s refl h
 token_even s (tuplet t) g h = h
 token_even s slur g h = h
-token_even s graceOpen g h = absurd (false≢true (sym g))
-token_even s graceClose g h = (h.0, record { counted = h.1.counted; fine = h.1.fine; closed = refl })
+token_even s grace_open g h = absurd (false≢true (sym g))
+token_even s grace_close g h = (h.0, record { counted = h.1.counted; fine = h.1.fine; closed = refl })
 token_even s decoration g h = h
 token_even s (barline b o) g h = barline_even b o s h
 token_even s (volta ps) g h = open_within _ (λ m. refl) s h
@@ -300,8 +300,8 @@ token_lines s quoted = refl
 token_lines s (broken up n) = broken_lines up n (voice_now s) s
 token_lines s (tuplet t) = refl
 token_lines s slur = refl
-token_lines s graceOpen = refl
-token_lines s graceClose = refl
+token_lines s grace_open = refl
+token_lines s grace_close = refl
 token_lines s decoration = refl
 token_lines s (barline b o) = refl
 token_lines s (volta ps) = refl
@@ -348,7 +348,7 @@ item_plain : (h : Key) (s : PartState) (i : Item) → is_plain i ≡ true → Pl
 unfolding on_item on_open on_lyric on_line line_begins
 item_plain h s (voice_declared b) p q = q
 item_plain h s reset p q = (record { counted = q.0.counted; fine = q.0.fine; closed = refl }, q.1)
-item_plain h s keyInHeader p q = q
+item_plain h s key_in_header p q = q
 item_plain h s (key_change k) p q = (key_even h k s.measures s q.0, subst (All (λ (l : Sung). no_bar l.text ≡ true)) (sym (key_lines h k s.measures s)) q.1)
 item_plain h s (meter_change t) p q = (open_even (with_meter t) (λ m. refl) s q.0, q.1)
 item_plain h s (lyric_line b t) p q = (record { counted = q.0.counted; fine = q.0.fine; closed = q.0.closed }, (p, q.1))
@@ -366,7 +366,7 @@ item_none : (h : Key) (s : PartState) (i : Item) → is_lyric_line i ≡ false �
 unfolding on_item on_line line_begins on_open
 item_none h s (voice_declared b) p q = q
 item_none h s reset p q = q
-item_none h s keyInHeader p q = q
+item_none h s key_in_header p q = q
 item_none h s (key_change k) p q = key_lines h k s.measures s ∙ q
 item_none h s (meter_change t) p q = q
 item_none h s (lyric_line b t) p q = absurd (false≢true (sym p))
@@ -471,7 +471,7 @@ words_alike h s (inr (e, b)) =
 abbrev pub ItemAlike : Item → Type 0
 ItemAlike (voice_declared b) = Unit {0}
 ItemAlike reset = Unit {0}
-ItemAlike keyInHeader = Unit {0}
+ItemAlike key_in_header = Unit {0}
 ItemAlike (key_change k) = Unit {0}
 ItemAlike (meter_change m) = Unit {0}
 ItemAlike (lyric_line b t) = Unit {0}
@@ -499,7 +499,7 @@ items_apart h [] apart s t a k q = (apart, a)
 items_apart h (voice_declared c ∷ is) apart s t (x, (e, f)) k q =
     items_apart h is c _ _ (h, (ap (set_key h) e, λ z. sym (ap (λ (b : Bool). cond b plain_key h) z))) k q.1
 items_apart h (reset ∷ is) apart s t (x, (e, f)) k q = items_apart h is apart _ _ (x, (ap (λ (z : PartState). on_item Second h z reset) e, f)) k q.1
-items_apart h (keyInHeader ∷ is) apart s t (x, (e, f)) k q = items_apart h is false _ _ (h, (ap (set_key h) e, λ _. refl)) k q.1
+items_apart h (key_in_header ∷ is) apart s t (x, (e, f)) k q = items_apart h is false _ _ (h, (ap (set_key h) e, λ _. refl)) k q.1
 items_apart h (key_change y ∷ is) apart s t (x, (e, f)) k q = items_apart h is false _ _ (same_apart _ _ (ap (λ (z : PartState). on_key h y z.measures z) e ∙ key_apart h y x s.measures s)) k q.1
 items_apart h (meter_change m ∷ is) apart s t (x, (e, f)) k q = items_apart h is apart _ _ (x, (ap (λ (z : PartState). on_item Second h z (meter_change m)) e, f)) k q.1
 items_apart h (lyric_line b w ∷ is) apart s t (x, (e, f)) k q = items_apart h is apart _ _ (x, (ap (λ (z : PartState). on_item Second h z (lyric_line b w)) e, f)) k q.1
@@ -514,7 +514,7 @@ unfolding on_item first_key
 item_same s (voice_declared true) q = refl
 item_same s (voice_declared false) q = refl
 item_same s reset q = refl
-item_same s keyInHeader q = refl
+item_same s key_in_header q = refl
 item_same s (key_change k) q = refl
 item_same s (meter_change m) q = refl
 item_same s (lyric_line b t) q = refl

@@ -23,7 +23,7 @@ use Rattle.reader.specs.Token.{Token, Taken, taken}
 use Rattle.reader.specs.Tuplets.{positive, normal_for, part_or, tuplet_token, counted, with_count, with_normal, with_actual, tuplet_of, or_slur}
 use Rattle.reader.specs.Inline.{token_unless, key_token, field_token, is_inline, inline_at}
 use Rattle.reader.specs.Sounds.{chord_taken, chord_at, rest_as, note_as, note_after, note_of}
-use Rattle.reader.specs.Tokens.{bracket_of, Class, white, ampersand, quote, more, less, paren, braceOpen, braceClose, bang, plus, bars, bracket, pitched, none-of-these, resting, class_of, token_as, token_of, tokens}
+use Rattle.reader.specs.Tokens.{bracket_of, Class, white, ampersand, quote, more, less, paren, brace_open, brace_close, bang, plus, bars, bracket, pitched, none-of-these, resting, class_of, token_as, token_of, tokens}
 use Rattle.reader.specs.Lines.{kind_unless, key_kind}
 use Rattle.reader.proofs.LengthLaws.{with_same_length}
 use Rattle.promises.specs.KeyRange.{InSeven}
@@ -144,8 +144,8 @@ class_alike_lem quote s h = refl
 class_alike_lem more s h = refl
 class_alike_lem less s h = refl
 class_alike_lem paren s h = ap or_slur (tuplet_alike_lem (drop 1 s) h)
-class_alike_lem braceOpen s h = refl
-class_alike_lem braceClose s h = refl
+class_alike_lem brace_open s h = refl
+class_alike_lem brace_close s h = refl
 class_alike_lem bang s h = refl
 class_alike_lem plus s h = refl
 class_alike_lem bars s h = refl

@@ -17,7 +17,7 @@ use Rattle.reader.specs.Text.{text_lines}
 use Rattle.reader.specs.Lines as lines
 use Rattle.reader.specs.Lines.{is_v, Kind, kind_of}
 use Rattle.reader.specs.Steps.{TextLine, items_of}
-use Rattle.reader.specs.Scan.{Item, voice_declared, reset, keyInHeader, key_change, meter_change, lyric_line, music_line, Env, ScanState, scan}
+use Rattle.reader.specs.Scan.{Item, voice_declared, reset, key_in_header, key_change, meter_change, lyric_line, music_line, Env, ScanState, scan}
 use Rattle.reader.specs.Answer.{Outcome, built, parts, finish, parse_abc}
 use Rattle.reader.specs.Tally.{Counts, counts_of, tally}
 use Rattle.blocks.specs.Blocks.{after_k, header, opening, blocks}
@@ -39,7 +39,7 @@ abbrev bare : List Item → List Item
 bare [] = []
 bare (voice_declared b ∷ is) = voice_declared b ∷ bare is
 bare (reset ∷ is) = bare is
-bare (keyInHeader ∷ is) = keyInHeader ∷ bare is
+bare (key_in_header ∷ is) = key_in_header ∷ bare is
 bare (key_change k ∷ is) = key_change k ∷ bare is
 bare (meter_change m ∷ is) = meter_change m ∷ bare is
 bare (lyric_line b t ∷ is) = lyric_line b t ∷ bare is
@@ -49,7 +49,7 @@ bare_append : (is js : List Item) → bare (is ++ js) ≡ bare is ++ bare js
 bare_append [] js = refl
 bare_append (voice_declared b ∷ is) js = ap (λ (z : List Item). voice_declared b ∷ z) (bare_append is js)
 bare_append (reset ∷ is) js = bare_append is js
-bare_append (keyInHeader ∷ is) js = ap (λ (z : List Item). keyInHeader ∷ z) (bare_append is js)
+bare_append (key_in_header ∷ is) js = ap (λ (z : List Item). key_in_header ∷ z) (bare_append is js)
 bare_append (key_change k ∷ is) js = ap (λ (z : List Item). key_change k ∷ z) (bare_append is js)
 bare_append (meter_change m ∷ is) js = ap (λ (z : List Item). meter_change m ∷ z) (bare_append is js)
 bare_append (lyric_line b t ∷ is) js = ap (λ (z : List Item). lyric_line b t ∷ z) (bare_append is js)
@@ -68,7 +68,7 @@ module _ (ed : Edition) {X : Type 0} (f : Counts → X) (free : Unflagged ed f) 
   bare_counts xs [] = refl
   bare_counts xs (voice_declared b ∷ ys) = next (voice_declared b) xs ys (bare ys) (bare_counts (xs ++ (voice_declared b ∷ [])) ys)
   bare_counts xs (reset ∷ ys) = built_reset ed f free e xs ys ∙ bare_counts xs ys
-  bare_counts xs (keyInHeader ∷ ys) = next keyInHeader xs ys (bare ys) (bare_counts (xs ++ (keyInHeader ∷ [])) ys)
+  bare_counts xs (key_in_header ∷ ys) = next key_in_header xs ys (bare ys) (bare_counts (xs ++ (key_in_header ∷ [])) ys)
   bare_counts xs (key_change k ∷ ys) = next (key_change k) xs ys (bare ys) (bare_counts (xs ++ (key_change k ∷ [])) ys)
   bare_counts xs (meter_change m ∷ ys) = next (meter_change m) xs ys (bare ys) (bare_counts (xs ++ (meter_change m ∷ [])) ys)
   bare_counts xs (lyric_line b t ∷ ys) = next (lyric_line b t) xs ys (bare ys) (bare_counts (xs ++ (lyric_line b t ∷ [])) ys)

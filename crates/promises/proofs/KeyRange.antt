@@ -11,7 +11,7 @@ use Rattle.laws.proofs.Bools.{by_test, cond_both}
 use Rattle.laws.proofs.Lists.{All-append, All-on_first, All-reverse}
 use Rattle.standard.specs.Keys.{Key, plain_key}
 use Rattle.standard.specs.Fields.{Meter}
-use Rattle.standard.specs.Bars.{Barline, normal, repeatStart, repeatEnd, repeatBoth, double, final}
+use Rattle.standard.specs.Bars.{Barline, normal, repeat_start, repeat_end, repeat_both, double, final}
 use Rattle.standard.specs.Pitches.{Written}
 use Rattle.standard.specs.Notes.{Behind}
 use Rattle.editions.specs.declared.Edition.{Edition}
@@ -19,13 +19,13 @@ use Rattle.reader.specs.Text.{text_lines, clean, has_high}
 use Rattle.reader.specs.Lengths.{Length}
 use Rattle.reader.specs.Keys.{key_of}
 use Rattle.reader.specs.Fields.{key_refusal, identifier}
-use Rattle.reader.specs.Token.{Token, space, overlay, quoted, broken, tuplet, slur, graceOpen, graceClose, decoration, barline, volta, unit, meter, key, field, chord, rest, note, nothing, skipped, refused}
+use Rattle.reader.specs.Token.{Token, space, overlay, quoted, broken, tuplet, slur, grace_open, grace_close, decoration, barline, volta, unit, meter, key, field, chord, rest, note, nothing, skipped, refused}
 use Rattle.reader.specs.Tokens.{token_of, tokens, Effect}
 use Rattle.reader.specs.Barlines.{left_of}
 use Rattle.reader.specs.Lines as lines
 use Rattle.reader.specs.Lines.{Kind, is_v, is_k, is_l, is_m, is_x, is_lyric, is_field, voice_kind, kind_unless, key_kind, field_kind, line_kind, kind_of}
 use Rattle.reader.specs.Steps.{TextLine, refuse, on, first, run, items_of}
-use Rattle.reader.specs.Scan.{Item, voice_declared, reset, keyInHeader, key_change, meter_change, lyric_line, music_line, Items, Out, Env, ScanState, begin, most_lines, most_voices, voices_before, first_refusal, play_on, voice_on, unit_on, act, step, scan}
+use Rattle.reader.specs.Scan.{Item, voice_declared, reset, key_in_header, key_change, meter_change, lyric_line, music_line, Items, Out, Env, ScanState, begin, most_lines, most_voices, voices_before, first_refusal, play_on, voice_on, unit_on, act, step, scan}
 use Rattle.reader.specs.State.{Note, Measure, PartState, with_right, with_key_mark, on_open, is_empty, voice_now, set_voice, new_measure, new_part}
 use Rattle.reader.specs.Voltas.{starts, ends_at, close, closed}
 use Rattle.reader.specs.Part.{Part, on_broken, on_nothing, append, on_sound, left_set, ended, on_barline, hears, on_token, opened, line_begins, on_line, on_lyric, on_key, on_item, dropped, in_order, marked_by, marked, finished_measures, finished, build, empty_part}
@@ -43,8 +43,8 @@ KeyIn quoted = Unit {0}
 KeyIn (broken up n) = Unit {0}
 KeyIn (tuplet t) = Unit {0}
 KeyIn slur = Unit {0}
-KeyIn graceOpen = Unit {0}
-KeyIn graceClose = Unit {0}
+KeyIn grace_open = Unit {0}
+KeyIn grace_close = Unit {0}
 KeyIn decoration = Unit {0}
 KeyIn (barline b o) = Unit {0}
 KeyIn (volta ps) = Unit {0}
@@ -67,8 +67,8 @@ key_in_lem quoted h = tt
 key_in_lem (broken up n) h = tt
 key_in_lem (tuplet t) h = tt
 key_in_lem slur h = tt
-key_in_lem graceOpen h = tt
-key_in_lem graceClose h = tt
+key_in_lem grace_open h = tt
+key_in_lem grace_close h = tt
 key_in_lem decoration h = tt
 key_in_lem (barline b o) h = tt
 key_in_lem (volta ps) h = tt
@@ -122,9 +122,9 @@ sound_marks ws l b s h = append_marks _ _ h
 left_mark : (b : Barline) (m : Measure) → MarkInSeven m.key → MarkInSeven (left_set b m).key
 unfolding left_set
 left_mark normal m h = h
-left_mark repeatStart m h = h
-left_mark repeatEnd m h = h
-left_mark repeatBoth m h = h
+left_mark repeat_start m h = h
+left_mark repeat_end m h = h
+left_mark repeat_both m h = h
 left_mark double m h = h
 left_mark final m h = h
 
@@ -143,8 +143,8 @@ token_marks s quoted k h = h
 token_marks s (broken up n) k h = broken_marks up n (voice_now s) s h
 token_marks s (tuplet t) k h = h
 token_marks s slur k h = h
-token_marks s graceOpen k h = h
-token_marks s graceClose k h = h
+token_marks s grace_open k h = h
+token_marks s grace_close k h = h
 token_marks s decoration k h = h
 token_marks s (barline b o) k h = ended_marks b o s.line.meter s.measures h
 token_marks s (volta ps) k h = open_marks _ (λ m q. q) s h
@@ -167,7 +167,7 @@ line_marks (t ∷ ts) s k h = line_marks ts (on_token s t) k.1 (token_marks s t 
 abbrev ItemIn : Item → Type 0
 ItemIn (voice_declared b) = Unit {0}
 ItemIn reset = Unit {0}
-ItemIn keyInHeader = Unit {0}
+ItemIn key_in_header = Unit {0}
 ItemIn (key_change k) = InSeven k
 ItemIn (meter_change m) = Unit {0}
 ItemIn (lyric_line b t) = Unit {0}
@@ -187,7 +187,7 @@ item_marks : (ed : Edition) (h : Key) (s : PartState) (i : Item) → ItemIn i �
 unfolding on_item on_line line_begins on_lyric
 item_marks ed h s (voice_declared b) q m = m
 item_marks ed h s reset q m = m
-item_marks ed h s keyInHeader q m = m
+item_marks ed h s key_in_header q m = m
 item_marks ed h s (key_change k) q m = key_marks_lem h k s.measures s q m
 item_marks ed h s (meter_change t) q m = open_marks _ (λ x k. k) s m
 item_marks ed h s (lyric_line b t) q m = m

@@ -6,7 +6,7 @@ use mathlib.Core.List.{List, [], ◌∷◌, map}
 use lib.Dec.{eqb}
 use Rattle.laws.proofs.Bools.{by_test}
 use Rattle.standard.specs.Keys.{Key}
-use Rattle.standard.specs.Bars.{Barline, normal, repeatStart, repeatEnd, repeatBoth, double, final}
+use Rattle.standard.specs.Bars.{Barline, normal, repeat_start, repeat_end, repeat_both, double, final}
 use Rattle.reader.specs.State.{Note, Measure, Half, Running}
 use Rattle.reader.specs.Voltas.{starts, ends_at, close}
 use Rattle.reader.specs.Part.{halved_note, broken_note, after_half, can_beam, beamed_again, grouped, left_set, marked_by, marked}
@@ -46,9 +46,9 @@ voices_of ms = map (λ (m : Measure). m.voices) ms
 pub left_voices : (b : Barline) (m : Measure) → (left_set b m).voices ≡ m.voices
 unfolding left_set
 left_voices normal m = refl
-left_voices repeatStart m = refl
-left_voices repeatEnd m = refl
-left_voices repeatBoth m = refl
+left_voices repeat_start m = refl
+left_voices repeat_end m = refl
+left_voices repeat_both m = refl
 left_voices double m = refl
 left_voices final m = refl
 

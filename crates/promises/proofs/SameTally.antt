@@ -17,21 +17,21 @@ use Rattle.standard.specs.Keys.{Key}
 use Rattle.standard.specs.Fields.{Meter}
 use Rattle.standard.specs.Lengths.{Value}
 use Rattle.standard.specs.Pitches.{Written}
-use Rattle.standard.specs.Bars.{Barline, normal, repeatStart, repeatEnd, repeatBoth, double, final}
+use Rattle.standard.specs.Bars.{Barline, normal, repeat_start, repeat_end, repeat_both, double, final}
 use Rattle.standard.specs.Notes as notes
 use Rattle.standard.specs.Notes.{NoteKind, is_sounded, Behind, Pending, nothing_pending}
 use Rattle.editions.specs.declared.Edition.{Edition}
 use Rattle.editions.specs.declared.Edition.TheVariants.{First}
 use Rattle.reader.specs.Lengths.{Length, value_of}
 use Rattle.reader.specs.Pitches.{sounds_of, scope_after_all}
-use Rattle.reader.specs.Token.{Token, space, overlay, quoted, broken, tuplet, slur, graceOpen, graceClose, decoration, barline, volta, unit, meter, key, field, chord, rest, note, nothing, skipped, refused}
+use Rattle.reader.specs.Token.{Token, space, overlay, quoted, broken, tuplet, slur, grace_open, grace_close, decoration, barline, volta, unit, meter, key, field, chord, rest, note, nothing, skipped, refused}
 use Rattle.reader.specs.Tokens.{tokens}
 use Rattle.reader.specs.Text.{text_lines}
 use Rattle.reader.specs.Lines as lines
 use Rattle.reader.specs.Lines.{is_v, Kind, kind_of}
 use Rattle.reader.specs.Tokens.{Effect}
 use Rattle.reader.specs.Steps.{TextLine, refuse, on, run, items_of}
-use Rattle.reader.specs.Scan.{Item, voice_declared, reset, keyInHeader, key_change, meter_change, lyric_line, music_line, Env, ScanState, begin, most_lines, most_voices, with_unnamed, voices_before, with_voices, at, first_refusal, play_on, voice_on, unit_on, act, step, scan, Items, Out}
+use Rattle.reader.specs.Scan.{Item, voice_declared, reset, key_in_header, key_change, meter_change, lyric_line, music_line, Env, ScanState, begin, most_lines, most_voices, with_unnamed, voices_before, with_voices, at, first_refusal, play_on, voice_on, unit_on, act, step, scan, Items, Out}
 use Rattle.reader.specs.Answer.{Verdict, reading, Outcome, early, is_music, built, parts, finish, scanned, unless, parse_abc}
 use Rattle.blocks.specs.Demand.{Accepted, identifier}
 use Rattle.blocks.proofs.LineKinds.{Names, voice_begins}
@@ -39,7 +39,7 @@ use Rattle.blocks.proofs.Instance.{reader}
 use Rattle.blocks.proofs.Keeps.{laws}
 use Rattle.blocks.proofs.Runs.{mine_append, Run, stop, then, run_of, run_cut, run_join, run_one}
 use Rattle.blocks.proofs.End.{Not, early_not, late_no, ended_reading}
-use Rattle.reader.specs.State.{Note, Measure, voltaAlone, voltaEnds, Half, Running, Line, Verses, PartState, with_beam, with_right, with_meter, with_key_mark, with_volta, set_scopes, set_measures, set_verses, set_line, with_run, with_overlay, with_half, with_tuplet, with_time, no_scopes, new_measure, new_line, new_part, on_open, is_empty, voice_in, voice_now, set_voice}
+use Rattle.reader.specs.State.{Note, Measure, volta_alone, volta_ends, Half, Running, Line, Verses, PartState, with_beam, with_right, with_meter, with_key_mark, with_volta, set_scopes, set_measures, set_verses, set_line, with_run, with_overlay, with_half, with_tuplet, with_time, no_scopes, new_measure, new_line, new_part, on_open, is_empty, voice_in, voice_now, set_voice}
 use Rattle.reader.specs.Part as part
 use Rattle.reader.specs.Part.{Part, no_flags, halved_note, broken_note, on_broken, after_half, can_beam, beamed, run_after, beamed_again, on_nothing, grouped, one_fewer, counted_in, append, rest_note, sound_note, on_sound, left_set, on_barline, hears, on_token, opened, line_begins, on_line, on_lyric, on_key, first_key, on_item, dropped, in_order, marked_by, marked, finished_measures, finished, build, empty_part}
 use Rattle.reader.specs.Lyrics.{Syllable, sung_in}
@@ -185,8 +185,8 @@ bare_token u quoted = u
 bare_token u (broken up n) = on_token u (broken up n)
 bare_token u (tuplet t) = on_token u (tuplet t)
 bare_token u slur = u
-bare_token u graceOpen = u
-bare_token u graceClose = u
+bare_token u grace_open = u
+bare_token u grace_close = u
 bare_token u decoration = u
 bare_token u (barline b o) = on_token u (barline b o)
 bare_token u (volta ps) = on_token u (volta ps)
@@ -225,9 +225,9 @@ empty_plain ((n ∷ ns) ∷ vs) = refl
 left_plain : (b : Barline) (m : Measure) → plain_m (left_set b m) ≡ left_set b (plain_m m)
 unfolding left_set
 left_plain normal m = refl
-left_plain repeatStart m = refl
-left_plain repeatEnd m = refl
-left_plain repeatBoth m = refl
+left_plain repeat_start m = refl
+left_plain repeat_end m = refl
+left_plain repeat_both m = refl
 left_plain double m = refl
 left_plain final m = refl
 
@@ -246,9 +246,9 @@ rest_plain : (k : NoteKind) (w : Value) → plain (rest_note k w) ≡ rest_note 
 unfolding rest_note
 rest_plain notes.sounded w = refl
 rest_plain notes.rest w = refl
-rest_plain notes.invisibleRest w = refl
-rest_plain notes.barRest w = refl
-rest_plain notes.invisibleBarRest w = refl
+rest_plain notes.invisible_rest w = refl
+rest_plain notes.bar_rest w = refl
+rest_plain notes.invisible_bar_rest w = refl
 
 sound_bare : (ws : List Written) (l : Length) (b : Behind) (s : PartState) → bare (on_sound ws l b s) ≡ bare_sound ws l (bare s)
 unfolding on_sound bare_sound sound_note
@@ -262,8 +262,8 @@ token_bare s quoted = refl
 token_bare s (broken up n) = broken_bare up n (voice_now s) s ∙ ap (λ (v : List Note). on_broken up n v (bare s)) (sym (voice_now_lem s))
 token_bare s (tuplet t) = refl
 token_bare s slur = refl
-token_bare s graceOpen = refl
-token_bare s graceClose = refl
+token_bare s grace_open = refl
+token_bare s grace_close = refl
 token_bare s decoration = refl
 token_bare s (barline b o) = ap (λ (z : List Measure). set_scopes no_scopes (set_line (with_overlay 0 s.line) (set_measures z (bare s)))) (ended_plain b o s.line.meter s.measures)
 token_bare s (volta ps) = on_open_lem _ (λ m. refl) s
@@ -286,7 +286,7 @@ tokens_bare (t ∷ ts) s = tokens_bare ts (on_token s t) ∙ ap (λ (z : PartSta
 bare_item : Edition → Key → PartState → Item → PartState
 bare_item ed h u (voice_declared b) = on_item ed h u (voice_declared b)
 bare_item ed h u reset = u
-bare_item ed h u keyInHeader = on_item ed h u keyInHeader
+bare_item ed h u key_in_header = on_item ed h u key_in_header
 bare_item ed h u (key_change k) = on_item ed h u (key_change k)
 bare_item ed h u (meter_change t) = on_item ed h u (meter_change t)
 bare_item ed h u (lyric_line b t) = on_item ed h u (lyric_line b t)
@@ -312,7 +312,7 @@ item_bare : (ed : Edition) (h : Key) (s : PartState) (i : Item) → bare (on_ite
 unfolding on_item bare_item on_line on_lyric
 item_bare ed h s (voice_declared b) = refl
 item_bare ed h s reset = refl
-item_bare ed h s keyInHeader = refl
+item_bare ed h s key_in_header = refl
 item_bare ed h s (key_change k) = key_bare h k s.measures s
 item_bare ed h s (meter_change t) = on_open_lem (with_meter t) (λ m. refl) s
 item_bare ed h s (lyric_line b t) = refl
@@ -363,12 +363,12 @@ close_plain [] (some ps) = refl
 close_plain (m ∷ ms) none =
     by_test (starts m)
     (λ a. by_test (ends_at m ms)
-    (λ e. rw (a, close) (rw (e, close) (rw (ends_plain m ms ∙ e, close) (ap (λ (z : List Measure). plain_m (with_volta voltaAlone m.passes m) ∷ z) (close_plain ms none)))))
+    (λ e. rw (a, close) (rw (e, close) (rw (ends_plain m ms ∙ e, close) (ap (λ (z : List Measure). plain_m (with_volta volta_alone m.passes m) ∷ z) (close_plain ms none)))))
     (λ e. rw (a, close) (rw (e, close) (rw (ends_plain m ms ∙ e, close) (ap (λ (z : List Measure). plain_m m ∷ z) (close_plain ms (some m.passes)))))))
     (λ a. rw (a, close) (ap (λ (z : List Measure). plain_m m ∷ z) (close_plain ms none)))
 close_plain (m ∷ ms) (some ps) =
     by_test (ends_at m ms)
-    (λ e. rw (e, close) (rw (ends_plain m ms ∙ e, close) (ap (λ (z : List Measure). plain_m (with_volta voltaEnds ps m) ∷ z) (close_plain ms none))))
+    (λ e. rw (e, close) (rw (ends_plain m ms ∙ e, close) (ap (λ (z : List Measure). plain_m (with_volta volta_ends ps m) ∷ z) (close_plain ms none))))
     (λ e. rw (e, close) (rw (ends_plain m ms ∙ e, close) (ap (λ (z : List Measure). plain_m m ∷ z) (close_plain ms (some ps)))))
 
 mark_plain : (h : Key) (m : Measure) (o : Option Key) → plain_m (marked_by h m o) ≡ marked_by h (plain_m m) o

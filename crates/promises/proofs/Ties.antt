@@ -21,11 +21,11 @@ use Rattle.standard.specs.Notes as notes
 use Rattle.standard.specs.Notes.{NoteKind, is_sounded, Behind, flags_of, pending_after, slur_opens, grace_opens, grace_closes}
 use Rattle.editions.specs.declared.Edition.{Edition}
 use Rattle.reader.specs.Lengths.{Length, value_of}
-use Rattle.reader.specs.Token.{Token, space, overlay, quoted, broken, tuplet, slur, graceOpen, graceClose, decoration, barline, volta, unit, meter, key, field, chord, rest, note, nothing, skipped, refused}
+use Rattle.reader.specs.Token.{Token, space, overlay, quoted, broken, tuplet, slur, grace_open, grace_close, decoration, barline, volta, unit, meter, key, field, chord, rest, note, nothing, skipped, refused}
 use Rattle.reader.specs.Tokens.{tokens}
 use Rattle.reader.specs.Barlines.{left_of}
-use Rattle.reader.specs.Scan.{Item, voice_declared, reset, keyInHeader, key_change, meter_change, lyric_line, music_line}
-use Rattle.reader.specs.State.{Note, voltaBegins, Measure, PartState, with_beam, with_voices, with_right, with_meter, with_key_mark, with_volta, on_open, is_empty, voice_in, voice_now, set_voice, new_measure, new_part}
+use Rattle.reader.specs.Scan.{Item, voice_declared, reset, key_in_header, key_change, meter_change, lyric_line, music_line}
+use Rattle.reader.specs.State.{Note, volta_begins, Measure, PartState, with_beam, with_voices, with_right, with_meter, with_key_mark, with_volta, on_open, is_empty, voice_in, voice_now, set_voice, new_measure, new_part}
 use Rattle.reader.specs.Voltas.{close, closed}
 use Rattle.reader.specs.Part.{Part, broken_note, on_broken, after_half, can_beam, beamed, beamed_again, on_nothing, grouped, append, rest_note, sound_note, on_sound, left_set, ended, on_barline, hears, on_token, opened, line_begins, on_line, on_lyric, on_key, on_item, dropped, in_order, marked, finished_measures, finished, build}
 use Rattle.reader.specs.Records.{tagged, by_voice, all_notes, notes_of}
@@ -104,9 +104,9 @@ rest_held : (k : NoteKind) (w : Value) → one (rest_note k w) ≡ 0
 unfolding rest_note is_held
 rest_held notes.sounded w = by_test (is_sounded notes.sounded) (λ e. rw e) (λ e. rw e)
 rest_held notes.rest w = by_test (is_sounded notes.rest) (λ e. rw e) (λ e. rw e)
-rest_held notes.invisibleRest w = by_test (is_sounded notes.invisibleRest) (λ e. rw e) (λ e. rw e)
-rest_held notes.barRest w = by_test (is_sounded notes.barRest) (λ e. rw e) (λ e. rw e)
-rest_held notes.invisibleBarRest w = by_test (is_sounded notes.invisibleBarRest) (λ e. rw e) (λ e. rw e)
+rest_held notes.invisible_rest w = by_test (is_sounded notes.invisible_rest) (λ e. rw e) (λ e. rw e)
+rest_held notes.bar_rest w = by_test (is_sounded notes.bar_rest) (λ e. rw e) (λ e. rw e)
+rest_held notes.invisible_bar_rest w = by_test (is_sounded notes.invisible_bar_rest) (λ e. rw e) (λ e. rw e)
 
 broken_held : (up : Bool) (n : ℕ) (v : List Note) (s : PartState) → voice_now s ≡ v → Room s → held (on_broken up n v s).measures ≡ held s.measures
 unfolding on_broken set_voice on_open
@@ -141,11 +141,11 @@ token_held s quoted r = omega arith
 token_held s (broken up n) r = omega (arith, broken_held up n (voice_now s) s refl (room s r))
 token_held s (tuplet t) r = omega arith
 token_held s slur r = omega arith
-token_held s graceOpen r = omega arith
-token_held s graceClose r = omega arith
+token_held s grace_open r = omega arith
+token_held s grace_close r = omega arith
 token_held s decoration r = omega arith
 token_held s (barline b o) r = omega (arith, ended_held b o s.line.meter s.measures)
-token_held s (volta ps) r = omega (arith, open_held (with_volta voltaBegins ps) (λ m. refl) s.measures)
+token_held s (volta ps) r = omega (arith, open_held (with_volta volta_begins ps) (λ m. refl) s.measures)
 token_held s (unit u) r = omega arith
 token_held s (meter t) r = omega (arith, open_held (with_meter t) (λ m. refl) s.measures)
 token_held s (key k) r = omega (arith, open_held (with_key_mark k) (λ m. refl) s.measures)
@@ -180,8 +180,8 @@ token_pending s quoted = refl
 token_pending s (broken up n) = broken_pending up n (voice_now s) s
 token_pending s (tuplet t) = refl
 token_pending s slur = refl
-token_pending s graceOpen = refl
-token_pending s graceClose = refl
+token_pending s grace_open = refl
+token_pending s grace_close = refl
 token_pending s decoration = refl
 token_pending s (barline b o) = refl
 token_pending s (volta ps) = refl
@@ -234,7 +234,7 @@ item_held : (ed : Edition) (h : Key) (s : PartState) (i : Item) → lines.Kept s
 unfolding on_item on_lyric on_open
 item_held ed h s (voice_declared b) k = omega arith
 item_held ed h s reset k = omega arith
-item_held ed h s keyInHeader k = omega arith
+item_held ed h s key_in_header k = omega arith
 item_held ed h s (key_change q) k = omega (arith, key_held h q s.measures s)
 item_held ed h s (meter_change t) k = omega (arith, open_held (with_meter t) (λ m. refl) s.measures)
 item_held ed h s (lyric_line b t) k = omega arith
@@ -244,7 +244,7 @@ item_pending : (ed : Edition) (h : Key) (s : PartState) (i : Item) → (on_item 
 unfolding on_item on_lyric on_open
 item_pending ed h s (voice_declared b) = refl
 item_pending ed h s reset = refl
-item_pending ed h s keyInHeader = refl
+item_pending ed h s key_in_header = refl
 item_pending ed h s (key_change q) = key_pending h q s.measures s
 item_pending ed h s (meter_change t) = refl
 item_pending ed h s (lyric_line b t) = refl
@@ -326,7 +326,7 @@ mute_tie : (ed : Edition) (t : Bool) (i : Item) → is_music i ≡ false → tok
 unfolding is_music
 mute_tie ed t (voice_declared b) h = refl
 mute_tie ed t reset h = refl
-mute_tie ed t keyInHeader h = refl
+mute_tie ed t key_in_header h = refl
 mute_tie ed t (key_change k) h = refl
 mute_tie ed t (meter_change m) h = refl
 mute_tie ed t (lyric_line b x) h = refl

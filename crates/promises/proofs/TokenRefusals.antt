@@ -22,13 +22,13 @@ use Rattle.editions.specs.declared.Edition.{Edition}
 use Rattle.reader.specs.Fields.{unit_inline, key_refusal}
 use Rattle.reader.specs.Lengths.{Length, many_slashes}
 use Rattle.reader.specs.Pitches.{Before, octave_of, accidental_of, is_quarter, quarter_tone, added, natural, cons_pitch, chord_of}
-use Rattle.reader.specs.Token.{Token, space, overlay, quoted, broken, tuplet, slur, graceOpen, graceClose, decoration, barline, volta, unit, meter, key, field, chord, rest, nothing, skipped, refused, Taken, taken}
+use Rattle.reader.specs.Token.{Token, space, overlay, quoted, broken, tuplet, slur, grace_open, grace_close, decoration, barline, volta, unit, meter, key, field, chord, rest, nothing, skipped, refused, Taken, taken}
 use Rattle.reader.specs.Tuplets.{positive, normal_for, counted, with_count, with_normal, with_actual, tuplet_of, or_slur, part_or}
 use Rattle.reader.specs.Barlines.{barline_as, barline_of}
 use Rattle.reader.specs.PassLists.{numbers_in, is_pass, rise, tested, is_pass_byte, volta_as, volta_of}
 use Rattle.reader.specs.Inline.{unit_token, key_token, field_token, is_inline, inline_at, token_unless}
 use Rattle.reader.specs.Sounds.{with_length, chord_taken, chord_at, rest_as, note_as, note_after, note_of}
-use Rattle.reader.specs.Tokens.{closed_by, broken_of, bracket_of, Class, white, ampersand, quote, more, less, paren, braceOpen, braceClose, bang, plus, bars, bracket, pitched, none-of-these, resting, class_of, token_as, token_of, tokens, Effect, counts, refuses, sets_unit, sets_meter, no_effect, effect_of, effects}
+use Rattle.reader.specs.Tokens.{closed_by, broken_of, bracket_of, Class, white, ampersand, quote, more, less, paren, brace_open, brace_close, bang, plus, bars, bracket, pitched, none-of-these, resting, class_of, token_as, token_of, tokens, Effect, counts, refuses, sets_unit, sets_meter, no_effect, effect_of, effects}
 use Rattle.reader.specs.Lines.{is_k, key}
 use Rattle.reader.specs.Scan.{most_notes, note_count, first_refusal}
 use Rattle.reader.proofs.LengthLaws.{with_many, with_length_lem}
@@ -47,8 +47,8 @@ Told ed s quoted = Unit {0}
 Told ed s (broken up n) = Unit {0}
 Told ed s (tuplet t) = Unit {0}
 Told ed s slur = Unit {0}
-Told ed s graceOpen = Unit {0}
-Told ed s graceClose = Unit {0}
+Told ed s grace_open = Unit {0}
+Told ed s grace_close = Unit {0}
 Told ed s decoration = Unit {0}
 Told ed s (barline b o) = Unit {0}
 Told ed s (volta ps) = Unit {0}
@@ -79,8 +79,8 @@ said ed s quoted h = tt
 said ed s (broken up n) h = tt
 said ed s (tuplet t) h = tt
 said ed s slur h = tt
-said ed s graceOpen h = tt
-said ed s graceClose h = tt
+said ed s grace_open h = tt
+said ed s grace_close h = tt
 said ed s decoration h = tt
 said ed s (barline b o) h = tt
 said ed s (volta ps) h = tt
@@ -231,8 +231,8 @@ as_told ed quote s e = closed_told ed s (is "\"") quoted (drop 1 s) (taken quote
 as_told ed more s e = broken_told ed s true (suc (count_while (is ">") (drop 1 s))) s (many_more e)
 as_told ed less s e = broken_told ed s false (suc (count_while (is "<") (drop 1 s))) s (many_less e)
 as_told ed paren s e = tuplet_told ed s (drop 1 s)
-as_told ed braceOpen s e = tt
-as_told ed braceClose s e = tt
+as_told ed brace_open s e = tt
+as_told ed brace_close s e = tt
 as_told ed bang s e = closed_told ed s (is "!") decoration (drop 1 s) (taken skipped 1) tt tt
 as_told ed plus s e = closed_told ed s (is "+") decoration (drop 1 s) (taken skipped 1) tt tt
 as_told ed bars s e = bar_told ed s s (symbol_at bar_symbols s)

@@ -12,13 +12,13 @@ use Rattle.reader.specs.Pieces.{words, white_at}
 use Rattle.reader.specs.Keys.{key_of}
 use Rattle.reader.specs.Lengths.{two_slashes}
 use Rattle.reader.specs.Pitches.{octave_of, accidental_of}
-use Rattle.reader.specs.Token.{Token, space, overlay, quoted, broken, tuplet, slur, graceOpen, graceClose, decoration, barline, volta, unit, meter, key, field, chord, rest, note, nothing, skipped, refused}
+use Rattle.reader.specs.Token.{Token, space, overlay, quoted, broken, tuplet, slur, grace_open, grace_close, decoration, barline, volta, unit, meter, key, field, chord, rest, note, nothing, skipped, refused}
 use Rattle.reader.specs.Tuplets.{positive}
 use Rattle.reader.specs.Inline.{is_inline}
-use Rattle.reader.specs.Tokens.{Class, white, ampersand, quote, more, less, paren, braceOpen, braceClose, bang, plus, bars, bracket, pitched, none-of-these, resting, class_of, token_of, tokens}
+use Rattle.reader.specs.Tokens.{Class, white, ampersand, quote, more, less, paren, brace_open, brace_close, bang, plus, bars, bracket, pitched, none-of-these, resting, class_of, token_of, tokens}
 use Rattle.reader.specs.Lines.{is_k, is_lyric, is_field}
 use Rattle.reader.specs.Steps.{refuse, on, items_of}
-use Rattle.reader.specs.Scan.{Item, voice_declared, reset, keyInHeader, key_change, meter_change, lyric_line, music_line, Out, scan}
+use Rattle.reader.specs.Scan.{Item, voice_declared, reset, key_in_header, key_change, meter_change, lyric_line, music_line, Out, scan}
 use Rattle.promises.specs.Refusals.{bracketed, after_bracket}
 
 -- MODES: the value of a K field is the same key in both editions. So it is within seven sharps or flats, as every key of the first
@@ -65,8 +65,8 @@ class_alike quote s = true
 class_alike more s = true
 class_alike less s = true
 class_alike paren s = tuplet_alike (drop 1 s)
-class_alike braceOpen s = true
-class_alike braceClose s = true
+class_alike brace_open s = true
+class_alike brace_close s = true
 class_alike bang s = true
 class_alike plus s = true
 class_alike bars s = true
@@ -102,8 +102,8 @@ is_grace quoted = false
 is_grace (broken up n) = false
 is_grace (tuplet t) = false
 is_grace slur = false
-is_grace graceOpen = true
-is_grace graceClose = false
+is_grace grace_open = true
+is_grace grace_close = false
 is_grace decoration = false
 is_grace (barline b o) = false
 is_grace (volta ps) = false
@@ -125,7 +125,7 @@ no_grace l = not (any is_grace (tokens First 0 l))
 abbrev pub is_lyric_line : Item → Bool
 is_lyric_line (voice_declared b) = false
 is_lyric_line reset = false
-is_lyric_line keyInHeader = false
+is_lyric_line key_in_header = false
 is_lyric_line (key_change k) = false
 is_lyric_line (meter_change m) = false
 is_lyric_line (lyric_line b t) = true
@@ -135,7 +135,7 @@ is_lyric_line (music_line u m l) = false
 abbrev pub is_plain : Item → Bool
 is_plain (voice_declared b) = true
 is_plain reset = true
-is_plain keyInHeader = true
+is_plain key_in_header = true
 is_plain (key_change k) = true
 is_plain (meter_change m) = true
 is_plain (lyric_line b t) = no_bar t
@@ -150,7 +150,7 @@ unfoldable pub hears_key : Bool → List Item → Bool
 hears_key apart [] = true
 hears_key apart (voice_declared in_header ∷ is) = hears_key in_header is
 hears_key apart (reset ∷ is) = hears_key apart is
-hears_key apart (keyInHeader ∷ is) = hears_key false is
+hears_key apart (key_in_header ∷ is) = hears_key false is
 hears_key apart (key_change k ∷ is) = hears_key false is
 hears_key apart (meter_change m ∷ is) = hears_key apart is
 hears_key apart (lyric_line b t ∷ is) = hears_key apart is

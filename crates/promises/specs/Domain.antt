@@ -5,10 +5,10 @@ use Rattle.laws.specs.Lists.{all}
 use Rattle.editions.specs.declared.Edition.TheVariants.{First}
 use Rattle.reader.specs.Text.{text_lines}
 use Rattle.reader.specs.Lengths.{Length}
-use Rattle.reader.specs.Token.{Token, space, overlay, quoted, broken, tuplet, slur, graceOpen, graceClose, decoration, barline, volta, unit, meter, key, field, chord, rest, note, nothing, skipped, refused}
+use Rattle.reader.specs.Token.{Token, space, overlay, quoted, broken, tuplet, slur, grace_open, grace_close, decoration, barline, volta, unit, meter, key, field, chord, rest, note, nothing, skipped, refused}
 use Rattle.reader.specs.Tokens.{tokens}
 use Rattle.reader.specs.Steps.{refuse, on}
-use Rattle.reader.specs.Scan.{Item, voice_declared, reset, keyInHeader, key_change, meter_change, lyric_line, music_line, Out, scan}
+use Rattle.reader.specs.Scan.{Item, voice_declared, reset, key_in_header, key_change, meter_change, lyric_line, music_line, Out, scan}
 use Rattle.reader.specs.Answer.{Verdict, refusal, reading, parse_abc}
 
 -- a length, with the unit in force
@@ -23,8 +23,8 @@ unit_behind u quoted = u
 unit_behind u (broken up n) = u
 unit_behind u (tuplet t) = u
 unit_behind u slur = u
-unit_behind u graceOpen = u
-unit_behind u graceClose = u
+unit_behind u grace_open = u
+unit_behind u grace_close = u
 unit_behind u decoration = u
 unit_behind u (barline b o) = u
 unit_behind u (volta ps) = u
@@ -47,8 +47,8 @@ token_fits u quoted = true
 token_fits u (broken up n) = true
 token_fits u (tuplet t) = true
 token_fits u slur = true
-token_fits u graceOpen = true
-token_fits u graceClose = true
+token_fits u grace_open = true
+token_fits u grace_close = true
 token_fits u decoration = true
 token_fits u (barline b o) = true
 token_fits u (volta ps) = true
@@ -71,7 +71,7 @@ line_fits u (t ∷ ts) = token_fits u t && line_fits (unit_behind u t) ts
 abbrev pub item_fits : Item → Bool
 item_fits (voice_declared b) = true
 item_fits reset = true
-item_fits keyInHeader = true
+item_fits key_in_header = true
 item_fits (key_change k) = true
 item_fits (meter_change m) = true
 item_fits (lyric_line b t) = true

@@ -6,9 +6,9 @@ use Rattle.laws.specs.Lists.{foldl, any}
 use Rattle.standard.specs.Notes.{Behind}
 use Rattle.editions.specs.declared.Edition.{Edition}
 use Rattle.reader.specs.Text.{text_lines}
-use Rattle.reader.specs.Token.{Token, space, overlay, quoted, broken, tuplet, slur, graceOpen, graceClose, decoration, barline, volta, unit, meter, key, field, chord, rest, note, nothing, skipped, refused}
+use Rattle.reader.specs.Token.{Token, space, overlay, quoted, broken, tuplet, slur, grace_open, grace_close, decoration, barline, volta, unit, meter, key, field, chord, rest, note, nothing, skipped, refused}
 use Rattle.reader.specs.Tokens.{tokens}
-use Rattle.reader.specs.Scan.{Item, voice_declared, reset, keyInHeader, key_change, meter_change, lyric_line, music_line, scan}
+use Rattle.reader.specs.Scan.{Item, voice_declared, reset, key_in_header, key_change, meter_change, lyric_line, music_line, scan}
 use Rattle.promises.specs.Alike.{each_part}
 
 -- TOKENS. What stands right behind a note or chord; any other token is neither
@@ -19,8 +19,8 @@ behind_sound quoted = none
 behind_sound (broken up n) = none
 behind_sound (tuplet t) = none
 behind_sound slur = none
-behind_sound graceOpen = none
-behind_sound graceClose = none
+behind_sound grace_open = none
+behind_sound grace_close = none
 behind_sound decoration = none
 behind_sound (barline b o) = none
 behind_sound (volta ps) = none
@@ -55,7 +55,7 @@ ties_taken t (x ∷ xs) = takes_tie t x + ties_taken (tie_behind t x) xs
 abbrev pub is_reset : Item → Bool
 is_reset (voice_declared b) = false
 is_reset reset = true
-is_reset keyInHeader = false
+is_reset key_in_header = false
 is_reset (key_change k) = false
 is_reset (meter_change m) = false
 is_reset (lyric_line b t) = false
@@ -65,7 +65,7 @@ is_reset (music_line u m l) = false
 abbrev pub tokens_of : Edition → Item → List Token
 tokens_of ed (voice_declared b) = []
 tokens_of ed reset = []
-tokens_of ed keyInHeader = []
+tokens_of ed key_in_header = []
 tokens_of ed (key_change k) = []
 tokens_of ed (meter_change m) = []
 tokens_of ed (lyric_line b t) = []

@@ -5,7 +5,7 @@ use mathlib.Core.Bool.{Bool, true, false, cond}
 use native.Mathlib.Omega.{arith}
 use lib.Dec.{eqb}
 use Rattle.laws.proofs.Bools.{cond_le}
-use Rattle.standard.specs.Notes.{NoteKind, sounded, rest, invisibleRest, barRest, invisibleBarRest, is_sounded}
+use Rattle.standard.specs.Notes.{NoteKind, sounded, rest, invisible_rest, bar_rest, invisible_bar_rest, is_sounded}
 use Rattle.reader.specs.State.{Note}
 use Rattle.reader.specs.Codes.{kind_code, bit}
 use Rattle.reader.specs.Records.{is_unbeamed, flag_byte}
@@ -15,9 +15,9 @@ pub kind_sounded : (k : NoteKind) → eqb (kind_code k) 0 ≡ is_sounded k
 unfolding kind_code is_sounded
 kind_sounded sounded = refl
 kind_sounded rest = refl
-kind_sounded invisibleRest = refl
-kind_sounded barRest = refl
-kind_sounded invisibleBarRest = refl
+kind_sounded invisible_rest = refl
+kind_sounded bar_rest = refl
+kind_sounded invisible_bar_rest = refl
 
 -- a flag is at most its bit
 pub bit_le : (b : Bool) (n : ℕ) → bit b n ≤ n

@@ -14,11 +14,11 @@ use Rattle.standard.specs.Fields.{Meter}
 use Rattle.standard.specs.Bars.{Barline}
 use Rattle.standard.specs.Notes.{next_voice}
 use Rattle.editions.specs.declared.Edition.{Edition}
-use Rattle.reader.specs.Token.{Token, space, overlay, quoted, broken, tuplet, slur, graceOpen, graceClose, decoration, barline, volta, unit, meter, key, field, chord, rest, note, nothing, skipped, refused}
+use Rattle.reader.specs.Token.{Token, space, overlay, quoted, broken, tuplet, slur, grace_open, grace_close, decoration, barline, volta, unit, meter, key, field, chord, rest, note, nothing, skipped, refused}
 use Rattle.reader.specs.Tokens.{tokens}
 use Rattle.reader.specs.Barlines.{left_of}
-use Rattle.reader.specs.Scan.{Item, voice_declared, reset, keyInHeader, key_change, meter_change, lyric_line, music_line}
-use Rattle.reader.specs.State.{PartState, Note, Measure, voltaBegins, with_meter, with_key_mark, with_volta, set_line, with_time, on_open, voice_in, voice_now, set_voice, with_voices, is_empty, new_line, new_measure, new_part, with_right}
+use Rattle.reader.specs.Scan.{Item, voice_declared, reset, key_in_header, key_change, meter_change, lyric_line, music_line}
+use Rattle.reader.specs.State.{PartState, Note, Measure, volta_begins, with_meter, with_key_mark, with_volta, set_line, with_time, on_open, voice_in, voice_now, set_voice, with_voices, is_empty, new_line, new_measure, new_part, with_right}
 use Rattle.reader.specs.Part.{on_broken, broken_note, grouped, beamed_again, beamed, can_beam, after_half, on_nothing, append, on_sound, ended, on_barline, hears, on_token, opened, line_begins, on_line, on_lyric, on_key, on_item}
 use Rattle.reader.proofs.Sizes.{Fours, token_four, opened_four, open_four, voice_four, item_four}
 
@@ -123,11 +123,11 @@ ready_token s quoted r = r
 ready_token s (broken up n) r = ready_broken up n (voice_now s) s r
 ready_token s (tuplet t) r = record { is_open = r.is_open; place = r.place; scopes_4 = r.scopes_4; voices_4 = r.voices_4; seen = r.seen }
 ready_token s slur r = record { is_open = r.is_open; place = r.place; scopes_4 = r.scopes_4; voices_4 = r.voices_4; seen = r.seen }
-ready_token s graceOpen r = record { is_open = r.is_open; place = r.place; scopes_4 = r.scopes_4; voices_4 = r.voices_4; seen = r.seen }
-ready_token s graceClose r = record { is_open = r.is_open; place = r.place; scopes_4 = r.scopes_4; voices_4 = r.voices_4; seen = r.seen }
+ready_token s grace_open r = record { is_open = r.is_open; place = r.place; scopes_4 = r.scopes_4; voices_4 = r.voices_4; seen = r.seen }
+ready_token s grace_close r = record { is_open = r.is_open; place = r.place; scopes_4 = r.scopes_4; voices_4 = r.voices_4; seen = r.seen }
 ready_token s decoration r = r
 ready_token s (barline b o) r = record { is_open = ended_length b o s.line.meter s.measures r.is_open; place = omega arith; scopes_4 = refl; voices_4 = token_four s (barline b o) r.voices_4; seen = λ h. none_runs h }
-ready_token s (volta ps) r = changed (with_volta voltaBegins ps) (λ m. refl) s r
+ready_token s (volta ps) r = changed (with_volta volta_begins ps) (λ m. refl) s r
 ready_token s (unit u) r = record { is_open = r.is_open; place = r.place; scopes_4 = r.scopes_4; voices_4 = r.voices_4; seen = r.seen }
 ready_token s (meter t) r = changed (with_meter t) (λ m. refl) (set_line (with_time t s.line) s) (record { is_open = r.is_open; place = r.place; scopes_4 = r.scopes_4; voices_4 = r.voices_4; seen = r.seen })
 ready_token s (key k) r = changed (with_key_mark k) (λ m. refl) (hears k s) (record { is_open = r.is_open; place = r.place; scopes_4 = refl; voices_4 = r.voices_4; seen = r.seen })
@@ -170,7 +170,7 @@ pub kept_item : (ed : Edition) (header : Key) (s : PartState) (i : Item) → Kep
 unfolding on_item on_lyric on_open on_line
 kept_item ed header s (voice_declared b) k = record { scopes_kept = k.scopes_kept; voices_kept = k.voices_kept }
 kept_item ed header s reset k = record { scopes_kept = k.scopes_kept; voices_kept = k.voices_kept }
-kept_item ed header s keyInHeader k = record { scopes_kept = k.scopes_kept; voices_kept = k.voices_kept }
+kept_item ed header s key_in_header k = record { scopes_kept = k.scopes_kept; voices_kept = k.voices_kept }
 kept_item ed header s (key_change q) k = record { scopes_kept = kept_key header q s.measures s k.scopes_kept; voices_kept = item_four ed header s (key_change q) k.voices_kept }
 kept_item ed header s (meter_change t) k = record { scopes_kept = k.scopes_kept; voices_kept = item_four ed header s (meter_change t) k.voices_kept }
 kept_item ed header s (lyric_line b t) k = record { scopes_kept = k.scopes_kept; voices_kept = k.voices_kept }

@@ -11,17 +11,17 @@ use Rattle.laws.proofs.Bools.{by_test}
 use Rattle.laws.proofs.Lists.{length_alter_at}
 use Rattle.standard.specs.Bytes.{is_digit}
 use Rattle.standard.specs.Pitches.{Written}
-use Rattle.standard.specs.Bars.{Barline, normal, repeatStart, repeatEnd, repeatBoth, double, final, closes_ending}
+use Rattle.standard.specs.Bars.{Barline, normal, repeat_start, repeat_end, repeat_both, double, final, closes_ending}
 use Rattle.standard.specs.Notes.{NoteKind, Flags, Pending, Behind, flags_of, pending_after, slur_opens, grace_opens, grace_closes, next_voice}
 use Rattle.standard.specs.Lyrics.{next_verse}
 use Rattle.editions.specs.declared.Edition.{Edition}
 use Rattle.reader.specs.Lengths.{Length, value_of}
 use Rattle.reader.specs.Pitches.{sounds_of, scope_after_all}
-use Rattle.reader.specs.Token.{Token, space, overlay, slur, graceOpen, graceClose, note, chord, rest, taken}
+use Rattle.reader.specs.Token.{Token, space, overlay, slur, grace_open, grace_close, note, chord, rest, taken}
 use Rattle.reader.specs.Sounds.{behind}
 use Rattle.reader.specs.Tokens.{token_of, token_as, class_of}
 use Rattle.reader.specs.Tuplets.{positive, tuplet_of, with_actual, or_slur, not_zero}
-use Rattle.reader.specs.State.{Note, Half, Measure, PartState, Volta, voltaAlone, voltaEnds, with_volta, set_scopes, set_pending, voice_now, set_voice, on_open}
+use Rattle.reader.specs.State.{Note, Half, Measure, PartState, Volta, volta_alone, volta_ends, with_volta, set_scopes, set_pending, voice_now, set_voice, on_open}
 use Rattle.reader.specs.Voltas.{ends_ending, starts, ends_at, close}
 use Rattle.reader.specs.Part.{can_beam, beamed, halved_note, broken_note, after_half, grouped, append, sound_note, on_sound, on_token, on_lyric, rest_note}
 use Rattle.reader.specs.All.{all as everything}
@@ -46,7 +46,7 @@ pub slur_meets : (ed : Edition) (s : List ℕ) → count_while is_digit s ≡ 0 
 unfolding everything
 slur_meets ed s h = rw h
 
-pub grace_meets : (ed : Edition) (s : List ℕ) → (token_of ed (123 ∷ s) ≡ taken graceOpen 1) × (token_of ed (125 ∷ s) ≡ taken graceClose 1)
+pub grace_meets : (ed : Edition) (s : List ℕ) → (token_of ed (123 ∷ s) ≡ taken grace_open 1) × (token_of ed (125 ∷ s) ≡ taken grace_close 1)
 unfolding everything
 grace_meets ed s = (refl, refl)
 
@@ -55,7 +55,7 @@ unfolding everything
 overlay_meets ed s = refl
 
 -- what these do to what waits for the next note
-pub waits_meet : (s : PartState) → ((on_token s slur).pending ≡ slur_opens s.pending) × (((on_token s graceOpen).pending ≡ grace_opens s.pending) × ((on_token s graceClose).pending ≡ grace_closes s.pending))
+pub waits_meet : (s : PartState) → ((on_token s slur).pending ≡ slur_opens s.pending) × (((on_token s grace_open).pending ≡ grace_opens s.pending) × ((on_token s grace_close).pending ≡ grace_closes s.pending))
 unfolding on_token
 waits_meet s = (refl, (refl, refl))
 
@@ -119,17 +119,17 @@ verse_meets t s = refl
 pub ending_agrees : (b : Barline) → (b ≡ double → ⊥) → ends_ending b ≡ closes_ending b
 unfolding ends_ending closes_ending
 ending_agrees normal h = refl
-ending_agrees repeatStart h = refl
-ending_agrees repeatEnd h = refl
-ending_agrees repeatBoth h = refl
+ending_agrees repeat_start h = refl
+ending_agrees repeat_end h = refl
+ending_agrees repeat_both h = refl
 ending_agrees double h = absurd (h refl)
 ending_agrees final h = refl
 
 -- so an ending that starts at m and meets such a barline there is one measure; one that is open ends there
-pub alone_ends : (m : Measure) (ms : List Measure) → starts m ≡ true → ends_ending m.right ≡ true → close none (m ∷ ms) ≡ with_volta voltaAlone m.passes m ∷ close none ms
+pub alone_ends : (m : Measure) (ms : List Measure) → starts m ≡ true → ends_ending m.right ≡ true → close none (m ∷ ms) ≡ with_volta volta_alone m.passes m ∷ close none ms
 unfolding close ends_at
 alone_ends m ms h k = rw (h, close) (rw (k, close))
 
-pub open_ends : (ps : List ℕ) (m : Measure) (ms : List Measure) → ends_ending m.right ≡ true → close (some ps) (m ∷ ms) ≡ with_volta voltaEnds ps m ∷ close none ms
+pub open_ends : (ps : List ℕ) (m : Measure) (ms : List Measure) → ends_ending m.right ≡ true → close (some ps) (m ∷ ms) ≡ with_volta volta_ends ps m ∷ close none ms
 unfolding close ends_at
 open_ends ps m ms k = rw (k, close)

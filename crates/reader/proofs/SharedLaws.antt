@@ -6,7 +6,7 @@ use mathlib.Core.List.{List, [], ◌∷◌, map}
 use Rattle.laws.specs.Lists.{foldl}
 use Rattle.standard.specs.Fields.{Meter}
 use Rattle.editions.specs.declared.Edition.{Edition}
-use Rattle.reader.specs.Token.{Token, space, overlay, quoted, broken, tuplet, slur, graceOpen, graceClose, decoration, barline, volta, unit, meter, key, field, chord, rest, note, nothing, skipped, refused}
+use Rattle.reader.specs.Token.{Token, space, overlay, quoted, broken, tuplet, slur, grace_open, grace_close, decoration, barline, volta, unit, meter, key, field, chord, rest, note, nothing, skipped, refused}
 use Rattle.reader.specs.Tokens.{Effect, counts, refuses, sets_unit, sets_meter, no_effect, effect_of, effects, tokens}
 use Rattle.reader.specs.Scan.{last_unit, last_meter}
 use Rattle.reader.specs.State.{PartState, Note, new_line, on_open, set_voice, voice_now}
@@ -33,8 +33,8 @@ one_line quoted s = (refl, refl)
 one_line (broken up n) s = broken_line up n (voice_now s) s
 one_line (tuplet t) s = (refl, refl)
 one_line slur s = (refl, refl)
-one_line graceOpen s = (refl, refl)
-one_line graceClose s = (refl, refl)
+one_line grace_open s = (refl, refl)
+one_line grace_close s = (refl, refl)
 one_line decoration s = (refl, refl)
 one_line (barline b o) s = (refl, refl)
 one_line (volta ps) s = (refl, refl)

@@ -12,14 +12,14 @@ use Rattle.laws.proofs.Bools.{by_test}
 use Rattle.laws.proofs.Numbers.{length_little}
 use Rattle.laws.proofs.Lists.{foldl_holds, length_alter_at, All-on_first, All-every, All-reverse, concat_length}
 use Rattle.standard.specs.Keys.{Key}
-use Rattle.standard.specs.Bars.{Barline, normal, repeatStart, repeatEnd, repeatBoth, double, final}
+use Rattle.standard.specs.Bars.{Barline, normal, repeat_start, repeat_end, repeat_both, double, final}
 use Rattle.standard.specs.Pitches.{Pitch}
 use Rattle.standard.specs.Fields.{Meter}
 use Rattle.editions.specs.declared.Edition.{Edition}
-use Rattle.reader.specs.Token.{Token, space, overlay, quoted, broken, tuplet, slur, graceOpen, graceClose, decoration, barline, volta, unit, meter, key, field, chord, rest, note, nothing, skipped, refused}
+use Rattle.reader.specs.Token.{Token, space, overlay, quoted, broken, tuplet, slur, grace_open, grace_close, decoration, barline, volta, unit, meter, key, field, chord, rest, note, nothing, skipped, refused}
 use Rattle.reader.specs.Tokens.{tokens}
 use Rattle.reader.specs.Barlines.{left_of}
-use Rattle.reader.specs.Scan.{Env, Item, voice_declared, reset, keyInHeader, key_change, meter_change, lyric_line, music_line}
+use Rattle.reader.specs.Scan.{Env, Item, voice_declared, reset, key_in_header, key_change, meter_change, lyric_line, music_line}
 use Rattle.reader.specs.State.{PartState, Note, Measure, on_open, set_voice, voice_now, is_empty, new_measure, new_part, with_right}
 use Rattle.reader.specs.Voltas.{starts, ends_at, close, closed}
 use Rattle.reader.specs.Lyrics.{Syllable}
@@ -68,9 +68,9 @@ append_four n s p = voice_four _ s p
 left_four : (b : Barline) (m : Measure) → Four m → Four (left_set b m)
 unfolding left_set
 left_four normal m p = p
-left_four repeatStart m p = p
-left_four repeatEnd m p = p
-left_four repeatBoth m p = p
+left_four repeat_start m p = p
+left_four repeat_end m p = p
+left_four repeat_both m p = p
 left_four double m p = p
 left_four final m p = p
 
@@ -95,8 +95,8 @@ token_four s quoted p = p
 token_four s (broken up n) p = broken_four up n (voice_now s) s p
 token_four s (tuplet t) p = p
 token_four s slur p = p
-token_four s graceOpen p = p
-token_four s graceClose p = p
+token_four s grace_open p = p
+token_four s grace_close p = p
 token_four s decoration p = p
 token_four s (barline b o) p = ended_four b o s.line.meter s.measures p
 token_four s (volta ps) p = open_four _ (λ m q. q) s p
@@ -134,7 +134,7 @@ pub item_four : (ed : Edition) (h : Key) (s : PartState) (i : Item) → Fours s.
 unfolding on_item on_lyric
 item_four ed h s (voice_declared b) p = p
 item_four ed h s reset p = p
-item_four ed h s keyInHeader p = p
+item_four ed h s key_in_header p = p
 item_four ed h s (key_change k) p = key_four h k s.measures s p
 item_four ed h s (meter_change t) p = open_four _ (λ m q. q) s p
 item_four ed h s (lyric_line b t) p = p

@@ -19,7 +19,7 @@ use Rattle.laws.proofs.Spans.{count_while_no}
 use Rattle.standard.specs.Bytes.{ascii, is, is_digit, first, decimal}
 use Rattle.standard.specs.Pitches.{is_letter, octave_mark, octave_by, alter_of, step_of}
 use Rattle.standard.specs.Keys.{key_alter}
-use Rattle.standard.specs.Bars.{normal, repeatStart, repeatEnd, repeatBoth, double, final, symbol_at}
+use Rattle.standard.specs.Bars.{normal, repeat_start, repeat_end, repeat_both, double, final, symbol_at}
 use Rattle.standard.specs.Tuplets.{usual_normal, default_normal}
 use Rattle.standard.specs.Passes.{pass, passes, passes_of}
 use Rattle.standard.specs.Lengths.{ticks, dotted, halved}
@@ -147,7 +147,7 @@ accidental_meets sign a c s h l =
     (λ m. absurd (none_some a (sym (no_sign sign e f g k m) ∙ h)))))))
 
 -- BAR SYMBOLS
-pub repeat_start_meets : (s : List ℕ) → barline_of (ascii "|:" ++ s) ≡ taken (barline repeatStart (not (is "]" (first s)))) 2
+pub repeat_start_meets : (s : List ℕ) → barline_of (ascii "|:" ++ s) ≡ taken (barline repeat_start (not (is "]" (first s)))) 2
 unfolding everything
 repeat_start_meets s = refl
 
@@ -162,12 +162,12 @@ unfolding everything
 final_meets s = refl
 
 -- `:|`
-pub repeat_end_meets : (s : List ℕ) → barline_of (ascii ":|" ++ s) ≡ taken (barline repeatEnd (not (is "]" (first s)))) 2
+pub repeat_end_meets : (s : List ℕ) → barline_of (ascii ":|" ++ s) ≡ taken (barline repeat_end (not (is "]" (first s)))) 2
 unfolding everything
 repeat_end_meets s = refl
 
 -- `::`
-pub repeat_both_meets : (s : List ℕ) → barline_of (ascii "::" ++ s) ≡ taken (barline repeatBoth (not (is "]" (first s)))) 2
+pub repeat_both_meets : (s : List ℕ) → barline_of (ascii "::" ++ s) ≡ taken (barline repeat_both (not (is "]" (first s)))) 2
 unfolding everything
 repeat_both_meets s = refl
 

@@ -118,15 +118,15 @@ at_z : (ed : Edition) (s : List ℕ) → token_of ed (122 ∷ s) ≡ rest_as ed 
 unfolding everything
 at_z ed s = refl
 
-at_x : (ed : Edition) (s : List ℕ) → token_of ed (120 ∷ s) ≡ rest_as ed notes.invisibleRest s
+at_x : (ed : Edition) (s : List ℕ) → token_of ed (120 ∷ s) ≡ rest_as ed notes.invisible_rest s
 unfolding everything
 at_x ed s = refl
 
-at_Z : (ed : Edition) (s : List ℕ) → token_of ed (90 ∷ s) ≡ rest_as ed notes.barRest s
+at_Z : (ed : Edition) (s : List ℕ) → token_of ed (90 ∷ s) ≡ rest_as ed notes.bar_rest s
 unfolding everything
 at_Z ed s = refl
 
-at_X : (ed : Edition) (s : List ℕ) → token_of ed (88 ∷ s) ≡ rest_as ed notes.invisibleBarRest s
+at_X : (ed : Edition) (s : List ℕ) → token_of ed (88 ∷ s) ≡ rest_as ed notes.invisible_bar_rest s
 unfolding everything
 at_X ed s = refl
 
@@ -134,9 +134,9 @@ pub rest_meets : (ed : Edition) (c : ℕ) (s : List ℕ) (k : NoteKind) → rest
 unfolding rest_of
 rest_meets ed c s k h =
     by_test (is "z" c) (λ e. this 122 (eqb-true c 122 e) notes.rest refl (at_z ed s))
-    (λ e. by_test (is "x" c) (λ f. this 120 (eqb-true c 120 f) notes.invisibleRest refl (at_x ed s))
-    (λ f. by_test (is "Z" c) (λ g. this 90 (eqb-true c 90 g) notes.barRest refl (at_Z ed s))
-    (λ g. by_test (is "X" c) (λ i. this 88 (eqb-true c 88 i) notes.invisibleBarRest refl (at_X ed s))
+    (λ e. by_test (is "x" c) (λ f. this 120 (eqb-true c 120 f) notes.invisible_rest refl (at_x ed s))
+    (λ f. by_test (is "Z" c) (λ g. this 90 (eqb-true c 90 g) notes.bar_rest refl (at_Z ed s))
+    (λ g. by_test (is "X" c) (λ i. this 88 (eqb-true c 88 i) notes.invisible_bar_rest refl (at_X ed s))
     (λ i. absurd (no_kind (rw (e, f, g, i, rest_of) at h))))))
   where
     kind_of_lem : Option NoteKind → NoteKind

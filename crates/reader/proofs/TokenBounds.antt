@@ -25,7 +25,7 @@ use Rattle.reader.specs.Barlines.{barline_as, barline_of}
 use Rattle.reader.specs.PassLists.{Listed, listed, faulty, is_pass_byte, list_of, volta_as, volta_of}
 use Rattle.reader.specs.Inline.{is_inline, inline_at}
 use Rattle.reader.specs.Sounds.{behind, chord_taken, chord_at, rest_as, note_as, note_after, note_of}
-use Rattle.reader.specs.Tokens.{closed_by, broken_of, bracket_of, Class, white, ampersand, quote, more, less, paren, braceOpen, braceClose, bang, plus, bars, bracket, pitched, none-of-these, resting, class_of, token_as, token_of}
+use Rattle.reader.specs.Tokens.{closed_by, broken_of, bracket_of, Class, white, ampersand, quote, more, less, paren, brace_open, brace_close, bang, plus, bars, bracket, pitched, none-of-these, resting, class_of, token_as, token_of}
 use Rattle.reader.proofs.LengthLaws.{length_in_lem, with_length_lem}
 
 -- a first byte that is not 0 is there
@@ -248,8 +248,8 @@ as_in ed quote c s = closed_in (is "\"") _ s _ (omega arith)
 as_in ed more c s = broken_in_lem true (count_while (is ">") s) c s (count_while_le (is ">") s)
 as_in ed less c s = broken_in_lem false (count_while (is "<") s) c s (count_while_le (is "<") s)
 as_in ed paren c s = tuplet_in_lem ed s
-as_in ed braceOpen c s = omega arith
-as_in ed braceClose c s = omega arith
+as_in ed brace_open c s = omega arith
+as_in ed brace_close c s = omega arith
 as_in ed bang c s = closed_in (is "!") _ s _ (omega arith)
 as_in ed plus c s = closed_in (is "+") _ s _ (omega arith)
 as_in ed bars c s = barline_in c s

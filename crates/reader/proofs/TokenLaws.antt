@@ -22,7 +22,7 @@ use Rattle.reader.specs.Barlines.{barline_as, barline_of}
 use Rattle.reader.specs.PassLists.{Listed, listed, faulty, is_pass_byte, list_of, volta_as, volta_of}
 use Rattle.reader.specs.Inline.{is_inline, inline_at}
 use Rattle.reader.specs.Sounds.{chord_taken, chord_at, rest_as, note_as, note_after, note_of}
-use Rattle.reader.specs.Tokens.{closed_by, broken_of, bracket_of, Class, white, ampersand, quote, more, less, paren, braceOpen, braceClose, bang, plus, bars, bracket, pitched, none-of-these, resting, class_of, token_as, token_of, tokens}
+use Rattle.reader.specs.Tokens.{closed_by, broken_of, bracket_of, Class, white, ampersand, quote, more, less, paren, brace_open, brace_close, bang, plus, bars, bracket, pitched, none-of-these, resting, class_of, token_as, token_of, tokens}
 use Rattle.reader.proofs.LengthLaws.{with_length_lem}
 
 -- A TOKEN TAKES A BYTE AT LEAST
@@ -176,8 +176,8 @@ as_takes ed quote c s = closed_takes (is "\"") _ s _ (omega arith)
 as_takes ed more c s = broken_takes true (count_while (is ">") s) c s
 as_takes ed less c s = broken_takes false (count_while (is "<") s) c s
 as_takes ed paren c s = tuplet_takes ed s
-as_takes ed braceOpen c s = omega arith
-as_takes ed braceClose c s = omega arith
+as_takes ed brace_open c s = omega arith
+as_takes ed brace_close c s = omega arith
 as_takes ed bang c s = closed_takes (is "!") _ s _ (omega arith)
 as_takes ed plus c s = closed_takes (is "+") _ s _ (omega arith)
 as_takes ed bars c s = barline_takes (c ∷ s)

@@ -7,7 +7,7 @@ use Rattle.standard.specs.Keys.{Key}
 use Rattle.editions.specs.declared.Edition.{Edition}
 use Rattle.reader.specs.Text.{is_utf8, is_blank, text_lines}
 use Rattle.reader.specs.Steps.{Step, refuse, on, items_of}
-use Rattle.reader.specs.Scan.{Item, voice_declared, reset, keyInHeader, key_change, meter_change, lyric_line, music_line, Env, ScanState, scan, Out}
+use Rattle.reader.specs.Scan.{Item, voice_declared, reset, key_in_header, key_change, meter_change, lyric_line, music_line, Env, ScanState, scan, Out}
 use Rattle.reader.specs.Part.{Part, build, empty_part}
 use Rattle.reader.specs.Records.{sections}
 
@@ -49,7 +49,7 @@ early text rl sl =
 unfoldable pub is_music : Item → Bool
 is_music (voice_declared b) = false
 is_music reset = false
-is_music keyInHeader = false
+is_music key_in_header = false
 is_music (key_change k) = false
 is_music (meter_change m) = false
 is_music (lyric_line b t) = false

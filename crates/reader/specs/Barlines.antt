@@ -2,15 +2,15 @@
 use Rattle.std.specs.Prelude.{ℕ, Bool, true, false, not, List, length, drop}
 use Rattle.std.proofs.Math.Option.{Option, none, some}
 use Rattle.standard.specs.Bytes.{is, first}
-use Rattle.standard.specs.Bars.{Barline, normal, repeatStart, repeatEnd, repeatBoth, double, final, Symbol, bar_symbols, symbol_at}
+use Rattle.standard.specs.Bars.{Barline, normal, repeat_start, repeat_end, repeat_both, double, final, Symbol, bar_symbols, symbol_at}
 use Rattle.reader.specs.Token.{Token, barline, skipped, Taken, taken}
 
 -- the left barline of the measure behind it: `|:`, `::` and `||` stand there too
 abbrev pub left_of : Barline → Barline
 left_of normal = normal
-left_of repeatStart = repeatStart
-left_of repeatEnd = normal
-left_of repeatBoth = repeatBoth
+left_of repeat_start = repeat_start
+left_of repeat_end = normal
+left_of repeat_both = repeat_both
 left_of double = double
 left_of final = normal
 

@@ -1,26 +1,26 @@
 -- THE NUMBERS THAT DOCUMENT 01 GIVES TO EACH CASE ("The reading").
 use Rattle.std.specs.Prelude.{ℕ, Bool, true, false, cond}
-use Rattle.standard.specs.Bars.{Barline, normal, repeatStart, repeatEnd, repeatBoth, double, final}
-use Rattle.standard.specs.Notes.{NoteKind, sounded, rest, invisibleRest, barRest, invisibleBarRest, Beam, unbeamed, begins, continues, ends}
+use Rattle.standard.specs.Bars.{Barline, normal, repeat_start, repeat_end, repeat_both, double, final}
+use Rattle.standard.specs.Notes.{NoteKind, sounded, rest, invisible_rest, bar_rest, invisible_bar_rest, Beam, unbeamed, begins, continues, ends}
 use Rattle.standard.specs.Lyrics
 use Rattle.standard.specs.Lyrics.{Syllabic}
-use Rattle.reader.specs.State.{Volta, noVolta, voltaBegins, voltaEnds, voltaAlone}
+use Rattle.reader.specs.State.{Volta, no_volta, volta_begins, volta_ends, volta_alone}
 
 -- "0 normal, 1 repeat start, 2 repeat end, 3 both, 4 double, 5 final"
 abbrev pub barline_code : Barline → ℕ
 barline_code normal = 0
-barline_code repeatStart = 1
-barline_code repeatEnd = 2
-barline_code repeatBoth = 3
+barline_code repeat_start = 1
+barline_code repeat_end = 2
+barline_code repeat_both = 3
 barline_code double = 4
 barline_code final = 5
 
 -- "volta (0 none, 1 begin, 2 end, 3 begin and end)"
 unfoldable pub volta_code : Volta → ℕ
-volta_code noVolta = 0
-volta_code voltaBegins = 1
-volta_code voltaEnds = 2
-volta_code voltaAlone = 3
+volta_code no_volta = 0
+volta_code volta_begins = 1
+volta_code volta_ends = 2
+volta_code volta_alone = 3
 
 -- "key mark (0 none, 1 major, 2 minor)"
 unfoldable pub mode_code : Bool → ℕ
@@ -30,9 +30,9 @@ mode_code minor = cond minor 2 1
 unfoldable pub kind_code : NoteKind → ℕ
 kind_code sounded = 0
 kind_code rest = 1
-kind_code invisibleRest = 2
-kind_code barRest = 3
-kind_code invisibleBarRest = 4
+kind_code invisible_rest = 2
+kind_code bar_rest = 3
+kind_code invisible_bar_rest = 4
 
 -- "beam (0 none, 1 begin, 2 continue, 3 end)"
 unfoldable pub beam_code : Beam → ℕ

@@ -6,7 +6,7 @@ use Rattle.standard.specs.Lengths.{Value, dotted, halved}
 use Rattle.standard.specs.Keys.{Key, plain_key, voice_key}
 use Rattle.standard.specs.Pitches.{Written, Pitch}
 use Rattle.standard.specs.Tuplets.{Tuplet, normal_in, boundary}
-use Rattle.standard.specs.Bars.{Barline, normal, repeatStart, repeatEnd, repeatBoth, double, final}
+use Rattle.standard.specs.Bars.{Barline, normal, repeat_start, repeat_end, repeat_both, double, final}
 use Rattle.standard.specs.Notes
 use Rattle.standard.specs.Notes.{NoteKind, is_sounded, Beam, beamable, Flags, Behind, Pending, nothing_pending, flags_of, pending_after, slur_opens, grace_opens, grace_closes, next_voice}
 use Rattle.standard.specs.Lyrics.{next_verse, takes_none}
@@ -15,11 +15,11 @@ use Rattle.editions.specs.declared.Edition.{Edition}
 use Rattle.editions.specs.declared.Edition.TheVariants.{First, Second}
 use Rattle.reader.specs.Lengths.{Length, value_of}
 use Rattle.reader.specs.Pitches.{Scope, sounds_of, scope_after_all}
-use Rattle.reader.specs.Token.{Token, space, overlay, quoted, broken, tuplet, slur, graceOpen, graceClose, decoration, barline, volta, unit, meter, key, field, chord, rest, note, nothing, skipped, refused}
+use Rattle.reader.specs.Token.{Token, space, overlay, quoted, broken, tuplet, slur, grace_open, grace_close, decoration, barline, volta, unit, meter, key, field, chord, rest, note, nothing, skipped, refused}
 use Rattle.reader.specs.Barlines.{left_of}
 use Rattle.reader.specs.Tokens.{tokens}
-use Rattle.reader.specs.Scan.{Item, voice_declared, reset, keyInHeader, key_change, meter_change, lyric_line, music_line}
-use Rattle.reader.specs.State.{Group, Note, Volta, voltaBegins, Measure, Half, Running, Line, Sung, Verses, PartState, with_beam, with_value, with_group, with_left, with_right, with_meter, with_key_mark, with_volta, set_key, set_scopes, set_measures, set_pending, set_verses, set_line, with_run, with_overlay, with_half, with_tuplet, with_unit, with_time, no_scopes, new_measure, new_line, new_part, on_open, is_empty, voice_now, set_voice}
+use Rattle.reader.specs.Scan.{Item, voice_declared, reset, key_in_header, key_change, meter_change, lyric_line, music_line}
+use Rattle.reader.specs.State.{Group, Note, Volta, volta_begins, Measure, Half, Running, Line, Sung, Verses, PartState, with_beam, with_value, with_group, with_left, with_right, with_meter, with_key_mark, with_volta, set_key, set_scopes, set_measures, set_pending, set_verses, set_line, with_run, with_overlay, with_half, with_tuplet, with_unit, with_time, no_scopes, new_measure, new_line, new_part, on_open, is_empty, voice_now, set_voice}
 use Rattle.reader.specs.Voltas.{closed}
 use Rattle.reader.specs.Lyrics.{Syllable, sung_in}
 
@@ -124,9 +124,9 @@ rest_with k v d = record { kind = k; value = v; dots = d; flags = no_flags; beam
 unfoldable pub rest_note : NoteKind → Value → Note
 rest_note Notes.sounded w = rest_with Notes.sounded w.value w.dots
 rest_note Notes.rest w = rest_with Notes.rest w.value w.dots
-rest_note Notes.invisibleRest w = rest_with Notes.invisibleRest w.value w.dots
-rest_note Notes.barRest w = rest_with Notes.barRest 10 0
-rest_note Notes.invisibleBarRest w = rest_with Notes.invisibleBarRest 10 0
+rest_note Notes.invisible_rest w = rest_with Notes.invisible_rest w.value w.dots
+rest_note Notes.bar_rest w = rest_with Notes.bar_rest 10 0
+rest_note Notes.invisible_bar_rest w = rest_with Notes.invisible_bar_rest 10 0
 
 -- a note or chord with its flags: the pending tie end, slur start and grace, and what stands behind it (ABC 2.1, 4.11, 4.12)
 unfoldable pub sound_note : Value → Pending → Behind → List Pitch → Note
@@ -144,9 +144,9 @@ on_sound ws l b s =
 -- BARLINES: "A barline on a measure without notes only sets its left barline, and that only to 1, 3 or 4; any other leaves it unchanged"
 unfoldable pub left_set : Barline → Measure → Measure
 left_set normal m = m
-left_set repeatStart m = with_left repeatStart m
-left_set repeatEnd m = m
-left_set repeatBoth m = with_left repeatBoth m
+left_set repeat_start m = with_left repeat_start m
+left_set repeat_end m = m
+left_set repeat_both m = with_left repeat_both m
 left_set double m = with_left double m
 left_set final m = m
 
@@ -172,11 +172,11 @@ on_token s quoted = s
 on_token s (broken up n) = on_broken up n (voice_now s) s
 on_token s (tuplet t) = set_line (with_tuplet (some (record { tuplet = in_meter s.line.meter t; remaining = t.count })) s.line) s
 on_token s slur = set_pending (slur_opens s.pending) s
-on_token s graceOpen = set_pending (grace_opens s.pending) s
-on_token s graceClose = set_pending (grace_closes s.pending) s
+on_token s grace_open = set_pending (grace_opens s.pending) s
+on_token s grace_close = set_pending (grace_closes s.pending) s
 on_token s decoration = s
 on_token s (barline b o) = on_barline b o s
-on_token s (volta ps) = on_open (with_volta voltaBegins ps) s
+on_token s (volta ps) = on_open (with_volta volta_begins ps) s
 on_token s (unit u) = set_line (with_unit u s.line) s
 on_token s (meter t) = on_open (with_meter t) (set_line (with_time t s.line) s)
 on_token s (key k) = on_open (with_key_mark k) (hears k s)
@@ -226,7 +226,7 @@ first_key Second header in_header = voice_key header
 unfoldable pub on_item : Edition → Key → PartState → Item → PartState
 on_item ed header s (voice_declared in_header) = set_key (first_key ed header in_header) s
 on_item ed header s reset = set_pending nothing_pending s
-on_item ed header s keyInHeader = set_key header s
+on_item ed header s key_in_header = set_key header s
 on_item ed header s (key_change k) = on_key header k s.measures s
 on_item ed header s (meter_change t) = on_open (with_meter t) s
 on_item ed header s (lyric_line placed t) = on_lyric placed t s

@@ -13,7 +13,7 @@ use Rattle.reader.specs.Steps.{TextLine, Step, refuse, on, run}
 -- being read; a later K field, M field; a lyric line (whether the part has a place for verses); a music line with the L and M in force where it begins
 pub data Item : Type 0 where
   voice_declared : Bool → Item
-  reset keyInHeader : Item
+  reset key_in_header : Item
   key_change : Key → Item
   meter_change : Meter → Item
   lyric_line : Bool → List ℕ → Item
@@ -156,7 +156,7 @@ act s (refused n) h = refuse n (suc s.lines)
 act s (lyric t) true = on (next_line s) []
 act s (lyric t) false = on (next_line s) ((s.part, lyric_line (ltb s.part s.places) t) ∷ [])
 act s (voice v mid) h = voice_on s v (voices_before s) (elem v (voices_before s)) (leb most_voices (length (voices_before s))) mid
-act s (key k) true = on (at s (with_header_key s.env k) s.part) ((s.part, keyInHeader) ∷ [])
+act s (key k) true = on (at s (with_header_key s.env k) s.part) ((s.part, key_in_header) ∷ [])
 act s (key k) false = on (next_line s) ((s.part, key_change k) ∷ [])
 act s (meter m) true = on (further s s.env s.unit m s.part) []
 act s (meter m) false = on (further s s.env s.unit m s.part) ((s.part, meter_change m) ∷ [])

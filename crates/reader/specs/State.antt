@@ -28,7 +28,7 @@ pub record Note : Type 0 where
 
 -- document 01, Measure: "volta (0 none, 1 begin, 2 end, 3 begin and end)"
 pub data Volta : Type 0 where
-  noVolta voltaBegins voltaEnds voltaAlone : Volta
+  no_volta volta_begins volta_ends volta_alone : Volta
 
 -- document 01, Measure; its four voices, each with the last note first while it is read; passes in rising order
 pub record Measure : Type 0 where
@@ -152,7 +152,7 @@ no_scopes = [] ∷ [] ∷ [] ∷ [] ∷ []
 
 -- a new measure: no notes, its left barline, the meter in force
 unfoldable pub new_measure : Meter → Barline → Measure
-new_measure t left = record { voices = [] ∷ [] ∷ [] ∷ [] ∷ []; left = left; right = normal; meter = t; key = none; volta = noVolta; passes = [] }
+new_measure t left = record { voices = [] ∷ [] ∷ [] ∷ [] ∷ []; left = left; right = normal; meter = t; key = none; volta = no_volta; passes = [] }
 
 -- a line that begins, with the L and M in force
 unfoldable pub new_line : ℕ → Meter → Line

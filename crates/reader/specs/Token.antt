@@ -14,7 +14,7 @@ pub data Token : Type 0 where
   -- n `>` (true) or `<` (false)
   broken : Bool → ℕ → Token
   tuplet : Tuplet → Token
-  slur graceOpen graceClose decoration : Token
+  slur grace_open grace_close decoration : Token
   -- a barline; whether a measure opens behind it, for no `]` follows
   barline : Barline → Bool → Token
   -- an ending with its passes

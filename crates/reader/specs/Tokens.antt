@@ -8,7 +8,7 @@ use Rattle.standard.specs.Notes
 use Rattle.standard.specs.Notes.{NoteKind}
 use Rattle.editions.specs.declared.Edition.{Edition}
 use Rattle.reader.specs.Text.{is_space}
-use Rattle.reader.specs.Token.{Token, space, overlay, quoted, broken, tuplet, slur, graceOpen, graceClose, decoration, barline, volta, unit, meter, key, field, chord, rest, note, nothing, skipped, refused, Taken, taken}
+use Rattle.reader.specs.Token.{Token, space, overlay, quoted, broken, tuplet, slur, grace_open, grace_close, decoration, barline, volta, unit, meter, key, field, chord, rest, note, nothing, skipped, refused, Taken, taken}
 use Rattle.reader.specs.Tuplets.{tuplet_of, or_slur}
 use Rattle.reader.specs.Barlines.{barline_of}
 use Rattle.reader.specs.PassLists.{volta_of}
@@ -33,7 +33,7 @@ bracket_of ed s = elim (is_digit (first s)) [ true ↦ volta_of s | false ↦ el
 
 -- THE CLASS OF A BYTE ("A table of 128 letter classes starts with every entry at "skipped"")
 pub data Class : Type 0 where
-  white ampersand quote more less paren braceOpen braceClose bang plus bars bracket pitched none-of-these : Class
+  white ampersand quote more less paren brace_open brace_close bang plus bars bracket pitched none-of-these : Class
   resting : NoteKind → Class
 
 -- each class with its bytes
@@ -49,17 +49,17 @@ classes =
     ∷ (is ">", more)
     ∷ (is "<", less)
     ∷ (is "(", paren)
-    ∷ (is "{", braceOpen)
-    ∷ (is "}", braceClose)
+    ∷ (is "{", brace_open)
+    ∷ (is "}", brace_close)
     ∷ (is "!", bang)
     ∷ (is "+", plus)
     ∷ (is "|", bars)
     ∷ (is ":", bars)
     ∷ (is "[", bracket)
     ∷ (is "z", resting Notes.rest)
-    ∷ (is "x", resting Notes.invisibleRest)
-    ∷ (is "Z", resting Notes.barRest)
-    ∷ (is "X", resting Notes.invisibleBarRest)
+    ∷ (is "x", resting Notes.invisible_rest)
+    ∷ (is "Z", resting Notes.bar_rest)
+    ∷ (is "X", resting Notes.invisible_bar_rest)
     ∷ []
 
 -- the first class whose test the byte passes
@@ -79,8 +79,8 @@ token_as ed quote s = quoted_of s
 token_as ed more s = broken_of true (suc (count_while (is ">") (drop 1 s))) s
 token_as ed less s = broken_of false (suc (count_while (is "<") (drop 1 s))) s
 token_as ed paren s = or_slur (tuplet_of ed (drop 1 s))
-token_as ed braceOpen s = taken graceOpen 1
-token_as ed braceClose s = taken graceClose 1
+token_as ed brace_open s = taken grace_open 1
+token_as ed brace_close s = taken grace_close 1
 token_as ed bang s = closed_by (is "!") decoration (drop 1 s) (taken skipped 1)
 token_as ed plus s = closed_by (is "+") decoration (drop 1 s) (taken skipped 1)
 token_as ed bars s = barline_of s
@@ -114,8 +114,8 @@ effect_of quoted = no_effect
 effect_of (broken up n) = no_effect
 effect_of (tuplet t) = no_effect
 effect_of slur = no_effect
-effect_of graceOpen = no_effect
-effect_of graceClose = no_effect
+effect_of grace_open = no_effect
+effect_of grace_close = no_effect
 effect_of decoration = no_effect
 effect_of (barline b o) = no_effect
 effect_of (volta ps) = no_effect

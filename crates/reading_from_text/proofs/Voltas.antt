@@ -7,7 +7,7 @@ use mathlib.Core.List.{List, [], ◌∷◌, map}
 use Rattle.laws.specs.Lists.{foldl, All}
 use Rattle.laws.proofs.Bools.{by_test, or_no_right}
 use Rattle.laws.proofs.Lists.{map_map}
-use Rattle.reader.specs.State.{Measure, Volta, noVolta, voltaBegins, voltaEnds, voltaAlone}
+use Rattle.reader.specs.State.{Measure, Volta, no_volta, volta_begins, volta_ends, volta_alone}
 use Rattle.reader.specs.Codes.{volta_code}
 use Rattle.reader.specs.Voltas.{ends_ending, is_start, starts, last_there, ends_at, close, closed}
 use Rattle.bounds.specs.Ranges.{VoltaOpen, VoltasClosed}
@@ -23,17 +23,17 @@ read o ms = foldl volta_step o (codes ms)
 -- a start, and what is none
 volta_start : (v : Volta) → is_start v ≡ true → volta_code v ≡ 1
 unfolding is_start volta_code
-volta_start noVolta e = absurd (false≢true e)
-volta_start voltaBegins e = refl
-volta_start voltaEnds e = absurd (false≢true e)
-volta_start voltaAlone e = absurd (false≢true e)
+volta_start no_volta e = absurd (false≢true e)
+volta_start volta_begins e = refl
+volta_start volta_ends e = absurd (false≢true e)
+volta_start volta_alone e = absurd (false≢true e)
 
 volta_plain : (v : Volta) → VoltaOpen v → is_start v ≡ false → volta_code v ≡ 0
 unfolding is_start volta_code VoltaOpen
-volta_plain noVolta o e = refl
-volta_plain voltaBegins o e = absurd (false≢true (sym e))
-volta_plain voltaEnds o e = absurd o
-volta_plain voltaAlone o e = absurd o
+volta_plain no_volta o e = refl
+volta_plain volta_begins o e = absurd (false≢true (sym e))
+volta_plain volta_ends o e = absurd o
+volta_plain volta_alone o e = absurd o
 
 start_code : (m : Measure) → starts m ≡ true → volta_code m.volta ≡ 1
 unfolding starts

@@ -1,4 +1,4 @@
-// The records of a reading: how many bytes each takes (reader's measureWidth to lyricWidth, and specs/Widths), for those who write readings and those who read them.
+// The records of a reading: how many bytes each takes (reader's measure_width to lyricWidth, and specs/Widths), for those who write readings and those who read them.
 #![tactic(auto)]
 
 // A count, of a section's records or of the parts.

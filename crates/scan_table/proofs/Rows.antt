@@ -15,7 +15,7 @@ use Rattle.laws.proofs.Numbers.{little_at_little, little_at_part, little_at_same
 use Rattle.laws.proofs.Parts.{length_part, part_cut, get_d_part, part_past, part_rest, between_none}
 use Rattle.laws.proofs.Splices.{length_splice, byte_below, byte_same, part_around}
 use Rattle.laws.proofs.Rows.{length_rows, rows_none, rows_more, rows_push, rows_get, rows_below, rows_above, rows_front}
-use Rattle.reader.specs.Scan.{Item, voice_declared, reset, keyInHeader, key_change, meter_change, lyric_line, music_line}
+use Rattle.reader.specs.Scan.{Item, voice_declared, reset, key_in_header, key_change, meter_change, lyric_line, music_line}
 use Rattle.scan_table.specs.declared.Place.{Place}
 use Rattle.scan_table.specs.declared.Row.{Row}
 use Rattle.scan_table.specs.Rows.{voice_row_width, items_from, item_row_width, row_from, table_end, voice_start_at, voice_end_at, kind_at, part_at, a_at, b_at, start_at, end_at, unit_at, voice_declared_kind, reset_kind, key_in_header_kind, key_change_kind, meter_change_kind, lyric_line_kind, dec_voice, voice_in, voices_in, dec_item, enc_item, item_at, item_as, item_in, items_in, lyric_row, with_lyric, Cut, PlaceIs, RowIs}
@@ -93,7 +93,7 @@ same_item k text q r a b u p =
     λ i.
     cond (eqb k voice_declared_kind) (voice_declared (eqb (a i) 1))
     (cond (eqb k reset_kind) reset
-    (cond (eqb k key_in_header_kind) keyInHeader
+    (cond (eqb k key_in_header_kind) key_in_header
     (cond (eqb k key_change_kind) (key_change (record { fifths = a i; minor = eqb (b i) 1 }))
     (cond (eqb k meter_change_kind) (meter_change (a i, b i))
     (cond (eqb k lyric_line_kind) (lyric_line (eqb (a i) 1) (p i))

@@ -1,7 +1,7 @@
 -- The voices and the line table as functions of scratch's bytes and the text's.
 use Rattle.std.specs.Prelude.{ℕ, ◌+◌, ◌*◌, ◌≤◌, ◌≡◌, cond, List, [], ◌∷◌, ◌++◌, map, eqb, length, get_or}
 use Rattle.laws.specs.Bytes.{part, between, splice, le32, u32_at, rows}
-use Rattle.reader.specs.Scan.{Item, voice_declared, reset, keyInHeader, key_change, meter_change, lyric_line, music_line, Items}
+use Rattle.reader.specs.Scan.{Item, voice_declared, reset, key_in_header, key_change, meter_change, lyric_line, music_line, Items}
 use Rattle.bounds.specs.Weights as bounds
 use Rattle.scan_table.specs.declared.Place.{Place}
 use Rattle.scan_table.specs.declared.Row.{Row}
@@ -103,7 +103,7 @@ unfoldable pub item_as : ℕ → List ℕ → Row → Item
 item_as k text r =
     cond (eqb k voice_declared_kind) (voice_declared (eqb r.a 1))
     (cond (eqb k reset_kind) reset
-    (cond (eqb k key_in_header_kind) keyInHeader
+    (cond (eqb k key_in_header_kind) key_in_header
     (cond (eqb k key_change_kind) (key_change (record { fifths = r.a; minor = eqb r.b 1 }))
     (cond (eqb k meter_change_kind) (meter_change (r.a, r.b))
     (cond (eqb k lyric_line_kind) (lyric_line (eqb r.a 1) (between text r.at r.end))

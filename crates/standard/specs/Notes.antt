@@ -3,14 +3,14 @@ use Rattle.std.specs.Prelude.{ℕ, zero, suc, min, Bool, true, false, cond, ◌&
 
 -- 4.5: a note or chord; `z` a rest, `x` an invisible one; `Z` and `X` the same for a whole bar
 pub data NoteKind : Type 0 where
-  sounded rest invisibleRest barRest invisibleBarRest : NoteKind
+  sounded rest invisible_rest bar_rest invisible_bar_rest : NoteKind
 
 unfoldable pub is_sounded : NoteKind → Bool
 is_sounded sounded = true
 is_sounded rest = false
-is_sounded invisibleRest = false
-is_sounded barRest = false
-is_sounded invisibleBarRest = false
+is_sounded invisible_rest = false
+is_sounded bar_rest = false
+is_sounded invisible_bar_rest = false
 
 -- 4.7: notes that stand together are joined by a beam
 pub data Beam : Type 0 where

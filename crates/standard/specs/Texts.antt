@@ -4,7 +4,7 @@ use Rattle.std.specs.Prelude.{ℕ, ◌^◌, ◌<◌, ◌≤◌, ◌≡◌, Bool,
 use Rattle.std.proofs.Math.Option.{Option, none, some}
 use Rattle.laws.specs.Lists.{All, all, starts_with}
 use Rattle.standard.specs.Bytes.{ascii, is, is_digit, is_capital, first, decimal}
-use Rattle.standard.specs.Notes.{NoteKind, rest, invisibleRest, barRest, invisibleBarRest}
+use Rattle.standard.specs.Notes.{NoteKind, rest, invisible_rest, bar_rest, invisible_bar_rest}
 use Rattle.standard.specs.Tuplets.{usual_normal}
 use Rattle.standard.specs.Passes.{pass, passes, passes_of}
 use Rattle.standard.specs.Lyrics.{Word, skip, hold, syllable, single, syllable_text, syllables}
@@ -57,8 +57,8 @@ unfoldable pub rest_of : ℕ → Option NoteKind
 rest_of c = elim (is "z" c) [
   | true ↦ some rest
   | false ↦ elim (is "x" c) [
-    | true ↦ some invisibleRest
-    | false ↦ elim (is "Z" c) [ true ↦ some barRest | false ↦ elim (is "X" c) [ true ↦ some invisibleBarRest | false ↦ none ] ]
+    | true ↦ some invisible_rest
+    | false ↦ elim (is "Z" c) [ true ↦ some bar_rest | false ↦ elim (is "X" c) [ true ↦ some invisible_bar_rest | false ↦ none ] ]
   ]
 ]
 

@@ -16,7 +16,7 @@ use Rattle.laws.proofs.Lists.{foldl_snoc}
 use Rattle.laws.proofs.Spans.{run_yes, run_no}
 use Rattle.laws.proofs.Parts.{between_first, between_last, between_none, length_between, take_part, end_in_le, run_between}
 use Rattle.reader.proofs.TextLaws.{other_stays, trim_keep}
-use Rattle.reader.specs.Text.{within, is_space, White, white, inC2, inE1, inE19A, inE2, inE280, inE281, inE3, inE380, other, white_step, is_all_white, is_blank, trim, cut, clean}
+use Rattle.reader.specs.Text.{within, is_space, White, white, in_c2, in_e1, in_e19a, in_e2, in_e280, in_e281, in_e3, in_e380, other, white_step, is_all_white, is_blank, trim, cut, clean}
 use Rattle.text_white.specs.States.{is_other}
 use Rattle.text_white.proofs.Whites.{plain_is_other, other_of}
 use Rattle.text_lines.specs.Lines.{not_byte, trim_from, TrimEnd, CleanEnd}
@@ -50,18 +50,18 @@ choose false x y f g = g
 alone : (q : White) (c : ℕ) → (q ≡ white) ⊎ ((white_step q c ≡ other) ⊎ (white_step white c ≡ other))
 unfolding white_step
 alone white c = inl refl
-alone inC2 c =
+alone in_c2 c =
     inr
     (choose (eqb c 0x85 || eqb c 0xa0) white other
     (λ h. ⊎_elim (one c 0x85 (omega arith) (omega arith)) (one c 0xa0 (omega arith) (omega arith)) (or_either (eqb c 0x85) (eqb c 0xa0) h))
     (inl refl))
-alone inE1 c = inr (choose (eqb c 0x9a) inE19A other (one c 0x9a (omega arith) (omega arith)) (inl refl))
-alone inE19A c = inr (choose (eqb c 0x80) white other (one c 0x80 (omega arith) (omega arith)) (inl refl))
-alone inE2 c =
+alone in_e1 c = inr (choose (eqb c 0x9a) in_e19a other (one c 0x9a (omega arith) (omega arith)) (inl refl))
+alone in_e19a c = inr (choose (eqb c 0x80) white other (one c 0x80 (omega arith) (omega arith)) (inl refl))
+alone in_e2 c =
     inr
-    (choose (eqb c 0x80) inE280 (cond (eqb c 0x81) inE281 other) (one c 0x80 (omega arith) (omega arith))
-    (choose (eqb c 0x81) inE281 other (one c 0x81 (omega arith) (omega arith)) (inl refl)))
-alone inE280 c =
+    (choose (eqb c 0x80) in_e280 (cond (eqb c 0x81) in_e281 other) (one c 0x80 (omega arith) (omega arith))
+    (choose (eqb c 0x81) in_e281 other (one c 0x81 (omega arith) (omega arith)) (inl refl)))
+alone in_e280 c =
     let r : Bool = within 0x80 0x8a c in
     inr
     (choose (r || eqb c 0xa8 || eqb c 0xa9 || eqb c 0xaf) white other
@@ -82,9 +82,9 @@ alone inE280 c =
     (one c 0xaf (omega arith) (omega arith))
     (or_either (r || eqb c 0xa8 || eqb c 0xa9) (eqb c 0xaf) h))
     (inl refl))
-alone inE281 c = inr (choose (eqb c 0x9f) white other (one c 0x9f (omega arith) (omega arith)) (inl refl))
-alone inE3 c = inr (choose (eqb c 0x80) inE380 other (one c 0x80 (omega arith) (omega arith)) (inl refl))
-alone inE380 c = inr (choose (eqb c 0x80) white other (one c 0x80 (omega arith) (omega arith)) (inl refl))
+alone in_e281 c = inr (choose (eqb c 0x9f) white other (one c 0x9f (omega arith) (omega arith)) (inl refl))
+alone in_e3 c = inr (choose (eqb c 0x80) in_e380 other (one c 0x80 (omega arith) (omega arith)) (inl refl))
+alone in_e380 c = inr (choose (eqb c 0x80) white other (one c 0x80 (omega arith) (omega arith)) (inl refl))
 alone other c = inr (inl refl)
 
 -- ASCII that is no space is no byte of white space
@@ -94,14 +94,14 @@ far c n h k = ne_eqb c n (λ e. omega arith)
 plain : (q : White) (c : ℕ) → c ≤ 127 → is_space c ≡ false → white_step q c ≡ other
 unfolding white_step
 plain white c h e = plain_is_other c h e
-plain inC2 c h e = rw (far c 0x85 h (omega arith), far c 0xa0 h (omega arith))
-plain inE1 c h e = rw (far c 0x9a h (omega arith))
-plain inE19A c h e = rw (far c 0x80 h (omega arith))
-plain inE2 c h e = rw (far c 0x80 h (omega arith), far c 0x81 h (omega arith))
-plain inE280 c h e = rw (lt-leb 0x80 c (omega arith), far c 0xa8 h (omega arith), far c 0xa9 h (omega arith), far c 0xaf h (omega arith))
-plain inE281 c h e = rw (far c 0x9f h (omega arith))
-plain inE3 c h e = rw (far c 0x80 h (omega arith))
-plain inE380 c h e = rw (far c 0x80 h (omega arith))
+plain in_c2 c h e = rw (far c 0x85 h (omega arith), far c 0xa0 h (omega arith))
+plain in_e1 c h e = rw (far c 0x9a h (omega arith))
+plain in_e19a c h e = rw (far c 0x80 h (omega arith))
+plain in_e2 c h e = rw (far c 0x80 h (omega arith), far c 0x81 h (omega arith))
+plain in_e280 c h e = rw (lt-leb 0x80 c (omega arith), far c 0xa8 h (omega arith), far c 0xa9 h (omega arith), far c 0xaf h (omega arith))
+plain in_e281 c h e = rw (far c 0x9f h (omega arith))
+plain in_e3 c h e = rw (far c 0x80 h (omega arith))
+plain in_e380 c h e = rw (far c 0x80 h (omega arith))
 plain other c h e = refl
 
 dead : (l : List ℕ) → is_all_white (foldl white_step other l) ≡ false
@@ -229,14 +229,14 @@ module _ (text : List ℕ) (from to : ℕ) (q : White) (end i : ℕ) (r : Trimmi
 space_keeps : (q : White) (c : ℕ) → is_space c ≡ true → c ≤ 127 → is_all_white (white_step q c) ≡ is_all_white q
 unfolding white_step
 space_keeps white c e h = rw e
-space_keeps inC2 c e h = rw (far c 0x85 h (omega arith), far c 0xa0 h (omega arith))
-space_keeps inE1 c e h = rw (far c 0x9a h (omega arith))
-space_keeps inE19A c e h = rw (far c 0x80 h (omega arith))
-space_keeps inE2 c e h = rw (far c 0x80 h (omega arith), far c 0x81 h (omega arith))
-space_keeps inE280 c e h = rw (lt-leb 0x80 c (omega arith), far c 0xa8 h (omega arith), far c 0xa9 h (omega arith), far c 0xaf h (omega arith))
-space_keeps inE281 c e h = rw (far c 0x9f h (omega arith))
-space_keeps inE3 c e h = rw (far c 0x80 h (omega arith))
-space_keeps inE380 c e h = rw (far c 0x80 h (omega arith))
+space_keeps in_c2 c e h = rw (far c 0x85 h (omega arith), far c 0xa0 h (omega arith))
+space_keeps in_e1 c e h = rw (far c 0x9a h (omega arith))
+space_keeps in_e19a c e h = rw (far c 0x80 h (omega arith))
+space_keeps in_e2 c e h = rw (far c 0x80 h (omega arith), far c 0x81 h (omega arith))
+space_keeps in_e280 c e h = rw (lt-leb 0x80 c (omega arith), far c 0xa8 h (omega arith), far c 0xa9 h (omega arith), far c 0xaf h (omega arith))
+space_keeps in_e281 c e h = rw (far c 0x9f h (omega arith))
+space_keeps in_e3 c e h = rw (far c 0x80 h (omega arith))
+space_keeps in_e380 c e h = rw (far c 0x80 h (omega arith))
 space_keeps other c e h = refl
 
 blank_last : (c : ℕ) (l : List ℕ) → is_blank (l ++ (c ∷ [])) ≡ is_all_white (white_step (foldl white_step white l) c)

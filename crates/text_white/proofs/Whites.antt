@@ -12,7 +12,7 @@ use lib.Seq.{drop-cons}
 use Rattle.laws.specs.Lists.{foldl}
 use Rattle.laws.proofs.Lists.{foldl_at}
 use Rattle.reader.proofs.TextLaws.{other_stays}
-use Rattle.reader.specs.Text.{is_space, White, white, inC2, inE1, inE19A, inE2, inE280, inE281, inE3, inE380, other, white_step, is_all_white, is_blank}
+use Rattle.reader.specs.Text.{is_space, White, white, in_c2, in_e1, in_e19a, in_e2, in_e280, in_e281, in_e3, in_e380, other, white_step, is_all_white, is_blank}
 use Rattle.reader.specs.Pieces.{white_at}
 use Rattle.text_white.specs.States.{is_other}
 
@@ -20,14 +20,14 @@ use Rattle.text_white.specs.States.{is_other}
 zero_is_other : (q : White) → white_step q 0 ≡ other
 unfolding white_step
 zero_is_other white = refl
-zero_is_other inC2 = refl
-zero_is_other inE1 = refl
-zero_is_other inE19A = refl
-zero_is_other inE2 = refl
-zero_is_other inE280 = refl
-zero_is_other inE281 = refl
-zero_is_other inE3 = refl
-zero_is_other inE380 = refl
+zero_is_other in_c2 = refl
+zero_is_other in_e1 = refl
+zero_is_other in_e19a = refl
+zero_is_other in_e2 = refl
+zero_is_other in_e280 = refl
+zero_is_other in_e281 = refl
+zero_is_other in_e3 = refl
+zero_is_other in_e380 = refl
 zero_is_other other = refl
 
 -- nor is ASCII that is no space
@@ -40,14 +40,14 @@ plain_is_other c h e =
 -- the test for something else
 pub other_of : (q : White) → is_other q ≡ true → q ≡ other
 other_of white h = absurd (false≢true h)
-other_of inC2 h = absurd (false≢true h)
-other_of inE1 h = absurd (false≢true h)
-other_of inE19A h = absurd (false≢true h)
-other_of inE2 h = absurd (false≢true h)
-other_of inE280 h = absurd (false≢true h)
-other_of inE281 h = absurd (false≢true h)
-other_of inE3 h = absurd (false≢true h)
-other_of inE380 h = absurd (false≢true h)
+other_of in_c2 h = absurd (false≢true h)
+other_of in_e1 h = absurd (false≢true h)
+other_of in_e19a h = absurd (false≢true h)
+other_of in_e2 h = absurd (false≢true h)
+other_of in_e280 h = absurd (false≢true h)
+other_of in_e281 h = absurd (false≢true h)
+other_of in_e3 h = absurd (false≢true h)
+other_of in_e380 h = absurd (false≢true h)
 other_of other h = refl
 
 -- a text in which the reading comes to something else is not blank

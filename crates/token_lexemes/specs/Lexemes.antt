@@ -3,7 +3,7 @@ use Rattle.std.specs.Prelude.{ℕ, suc, ◌+◌, Bool, true, false, ◌&&◌, �
 use Rattle.reader.specs.Text.{within}
 use Rattle.editions.specs.declared.Edition.{Edition}
 use Rattle.reader.specs.Lengths.{length_of, many_slashes}
-use Rattle.reader.specs.Token.{Token, space, overlay, quoted, broken, tuplet, slur, graceOpen, graceClose, decoration, barline, volta, unit, meter, key, field, chord, rest, note, nothing, skipped, refused, Taken}
+use Rattle.reader.specs.Token.{Token, space, overlay, quoted, broken, tuplet, slur, grace_open, grace_close, decoration, barline, volta, unit, meter, key, field, chord, rest, note, nothing, skipped, refused, Taken}
 use Rattle.reader.specs.Barlines.{left_of}
 use Rattle.reader.specs.Codes.{kind_code}
 use Rattle.reader.specs.Records.{pass_bits}
@@ -29,8 +29,8 @@ lexeme_for at quoted = Quoted
 lexeme_for at (broken up n) = Broken up n
 lexeme_for at (tuplet t) = Tuplet t.actual t.normal t.count
 lexeme_for at slur = Slur
-lexeme_for at graceOpen = GraceOpen
-lexeme_for at graceClose = GraceClose
+lexeme_for at grace_open = GraceOpen
+lexeme_for at grace_close = GraceClose
 lexeme_for at decoration = Decoration
 lexeme_for at (barline b o) = Barline (barline_for b) (barline_for (left_of b)) o
 lexeme_for at (volta ps) = Volta (get_or ps 0 0) (pass_bits ps)

@@ -9,15 +9,15 @@ use borrow.Author.Tests.{eq-eqb, ne_eqb, eqb-false}
 use Rattle.laws.specs.Lists.{starts_with}
 use Rattle.laws.proofs.Bools.{and_true}
 use Rattle.standard.specs.Bytes.{first}
-use Rattle.standard.specs.Bars.{Barline, symbol, symbol_at, bar_symbols, normal, repeatStart, repeatEnd, repeatBoth, double, final}
+use Rattle.standard.specs.Bars.{Barline, symbol, symbol_at, bar_symbols, normal, repeat_start, repeat_end, repeat_both, double, final}
 use Rattle.token_symbols.specs.Bars.{barline_for, as_barline}
 
 -- the code's barline for one of the definition's stands for that one
 pub as_for : (b : Barline) → as_barline (barline_for b) ≡ b
 as_for normal = refl
-as_for repeatStart = refl
-as_for repeatEnd = refl
-as_for repeatBoth = refl
+as_for repeat_start = refl
+as_for repeat_end = refl
+as_for repeat_both = refl
 as_for double = refl
 as_for final = refl
 
@@ -33,7 +33,7 @@ module _ (s : List ℕ) where
   no : (p : ℕ) → eqb p 0 ≡ false → (first s ≡ p → ⊥) → starts_with (p ∷ []) s ≡ false
   no p n e = starts_one p s n ∙ ne_eqb p (first s) (λ k. e (sym k))
 
-  pub start_symbol : first s ≡ 58 → symbol_at bar_symbols (124 ∷ s) ≡ some (symbol "|:" repeatStart)
+  pub start_symbol : first s ≡ 58 → symbol_at bar_symbols (124 ∷ s) ≡ some (symbol "|:" repeat_start)
   unfolding symbol_at bar_symbols
   start_symbol e = rw (yes 58 refl e, symbol_at)
 
@@ -49,11 +49,11 @@ module _ (s : List ℕ) where
   unfolding symbol_at bar_symbols
   normal_symbol a b d = rw (no 58 refl a, symbol_at) (rw (no 124 refl b) (rw (no 93 refl d)))
 
-  pub end_symbol : first s ≡ 124 → symbol_at bar_symbols (58 ∷ s) ≡ some (symbol ":|" repeatEnd)
+  pub end_symbol : first s ≡ 124 → symbol_at bar_symbols (58 ∷ s) ≡ some (symbol ":|" repeat_end)
   unfolding symbol_at bar_symbols
   end_symbol e = rw (yes 124 refl e, symbol_at)
 
-  pub both_symbol : (first s ≡ 124 → ⊥) → first s ≡ 58 → symbol_at bar_symbols (58 ∷ s) ≡ some (symbol "::" repeatBoth)
+  pub both_symbol : (first s ≡ 124 → ⊥) → first s ≡ 58 → symbol_at bar_symbols (58 ∷ s) ≡ some (symbol "::" repeat_both)
   unfolding symbol_at bar_symbols
   both_symbol a e = rw (no 124 refl a, symbol_at) (rw (yes 58 refl e))
 

@@ -2,7 +2,7 @@
 use Rattle.std.specs.Prelude.{ℕ, ◌+◌, length}
 use Rattle.std.proofs.Math.Option.{Option, none, some}
 use Rattle.standard.specs.Bars as standard
-use Rattle.standard.specs.Bars.{normal, repeatStart, repeatEnd, repeatBoth, double, final, Symbol}
+use Rattle.standard.specs.Bars.{normal, repeat_start, repeat_end, repeat_both, double, final, Symbol}
 use Rattle.reader.specs.Barlines.{left_of}
 use Rattle.token_symbols.specs.declared.Barline.{Barline}
 use Rattle.token_symbols.specs.declared.Barline.TheVariants.{Normal, RepeatStart, RepeatEnd, RepeatBoth, Double, Final}
@@ -12,18 +12,18 @@ use Rattle.token_symbols.specs.declared.Bar.TheVariants.{Read, Nothing}
 -- the code's for the definition's
 abbrev pub barline_for : standard.Barline → Barline
 barline_for normal = Normal
-barline_for repeatStart = RepeatStart
-barline_for repeatEnd = RepeatEnd
-barline_for repeatBoth = RepeatBoth
+barline_for repeat_start = RepeatStart
+barline_for repeat_end = RepeatEnd
+barline_for repeat_both = RepeatBoth
 barline_for double = Double
 barline_for final = Final
 
 -- the definition's for the code's
 abbrev pub as_barline : Barline → standard.Barline
 as_barline Normal = normal
-as_barline RepeatStart = repeatStart
-as_barline RepeatEnd = repeatEnd
-as_barline RepeatBoth = repeatBoth
+as_barline RepeatStart = repeat_start
+as_barline RepeatEnd = repeat_end
+as_barline RepeatBoth = repeat_both
 as_barline Double = double
 as_barline Final = final
 

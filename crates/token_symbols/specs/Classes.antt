@@ -1,14 +1,14 @@
 -- The classes of bytes by number, and the table of the first 128.
 use Rattle.std.specs.Prelude.{ℕ, zero, suc, List, [], ◌∷◌}
 use Rattle.standard.specs.Notes as Notes
-use Rattle.reader.specs.Tokens.{Class, white, ampersand, quote, more, less, paren, braceOpen, braceClose, bang, plus, bars, bracket, pitched, none-of-these, resting, class_of}
+use Rattle.reader.specs.Tokens.{Class, white, ampersand, quote, more, less, paren, brace_open, brace_close, bang, plus, bars, bracket, pitched, none-of-these, resting, class_of}
 
 abbrev pub rest_code : Notes.NoteKind → ℕ
 rest_code Notes.sounded = 18
 rest_code Notes.rest = 13
-rest_code Notes.invisibleRest = 14
-rest_code Notes.barRest = 15
-rest_code Notes.invisibleBarRest = 16
+rest_code Notes.invisible_rest = 14
+rest_code Notes.bar_rest = 15
+rest_code Notes.invisible_bar_rest = 16
 
 unfoldable pub class_code : Class → ℕ
 class_code none-of-these = 0
@@ -18,8 +18,8 @@ class_code quote = 3
 class_code more = 4
 class_code less = 5
 class_code paren = 6
-class_code braceOpen = 7
-class_code braceClose = 8
+class_code brace_open = 7
+class_code brace_close = 8
 class_code bang = 9
 class_code plus = 10
 class_code bars = 11

@@ -1,7 +1,7 @@
 -- Tuplets as the code has them.
 use Rattle.std.specs.Prelude.{ℕ, ◌+◌}
 use Rattle.std.proofs.Math.Option.{Option, none, some}
-use Rattle.reader.specs.Token.{Token, space, overlay, quoted, broken, tuplet, slur, graceOpen, graceClose, decoration, barline, volta, unit, meter, key, field, chord, rest, note, nothing, skipped, refused, Taken}
+use Rattle.reader.specs.Token.{Token, space, overlay, quoted, broken, tuplet, slur, grace_open, grace_close, decoration, barline, volta, unit, meter, key, field, chord, rest, note, nothing, skipped, refused, Taken}
 use Rattle.token_symbols.specs.declared.Tuplet.{Tuplet}
 use Rattle.token_symbols.specs.declared.Tuplet.TheVariants.{Read, Nothing}
 use Rattle.token_symbols.specs.declared.Number as number
@@ -20,8 +20,8 @@ tuplet_in next overlay = Nothing
 tuplet_in next quoted = Nothing
 tuplet_in next (broken up n) = Nothing
 tuplet_in next slur = Nothing
-tuplet_in next graceOpen = Nothing
-tuplet_in next graceClose = Nothing
+tuplet_in next grace_open = Nothing
+tuplet_in next grace_close = Nothing
 tuplet_in next decoration = Nothing
 tuplet_in next (barline b o) = Nothing
 tuplet_in next (volta ps) = Nothing

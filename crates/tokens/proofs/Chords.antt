@@ -17,13 +17,13 @@ use Rattle.editions.specs.declared.Edition.{Edition}
 use Rattle.reader.specs.Lengths.{Length}
 use Rattle.reader.specs.Fields.{unit_inline, key_refusal}
 use Rattle.reader.specs.Pitches.{Before, octave_of, accidental_of, chord_of}
-use Rattle.reader.specs.Token.{Token, space, overlay, quoted, broken, tuplet, slur, graceOpen, graceClose, decoration, barline, volta, unit, meter, key, field, chord, rest, note, nothing, skipped, refused, Taken, taken}
+use Rattle.reader.specs.Token.{Token, space, overlay, quoted, broken, tuplet, slur, grace_open, grace_close, decoration, barline, volta, unit, meter, key, field, chord, rest, note, nothing, skipped, refused, Taken, taken}
 use Rattle.reader.specs.Tuplets.{tuplet_of, or_slur}
 use Rattle.reader.specs.Barlines.{barline_as, barline_of}
 use Rattle.reader.specs.PassLists.{Listed, listed, faulty, is_pass_byte, list_of, volta_as, volta_of}
 use Rattle.reader.specs.Inline.{unit_token, key_token, field_token, is_inline, inline_at, token_unless}
 use Rattle.reader.specs.Sounds.{chord_taken, chord_at, rest_as, note_as, note_after, note_of}
-use Rattle.reader.specs.Tokens.{closed_by, broken_of, bracket_of, Class, white, ampersand, quote, more, less, paren, braceOpen, braceClose, bang, plus, bars, bracket, pitched, none-of-these, resting, class_of, token_as, token_of}
+use Rattle.reader.specs.Tokens.{closed_by, broken_of, bracket_of, Class, white, ampersand, quote, more, less, paren, brace_open, brace_close, bang, plus, bars, bracket, pitched, none-of-these, resting, class_of, token_as, token_of}
 use Rattle.reader.specs.Keys.{key_of}
 use Rattle.reader.proofs.LengthLaws.{with_length_lem}
 use Rattle.token_lexemes.proofs.Ratio.{Form, form}
@@ -38,8 +38,8 @@ pitches_in quoted = none
 pitches_in (broken up n) = none
 pitches_in (tuplet t) = none
 pitches_in slur = none
-pitches_in graceOpen = none
-pitches_in graceClose = none
+pitches_in grace_open = none
+pitches_in grace_close = none
 pitches_in decoration = none
 pitches_in (barline b o) = none
 pitches_in (volta ps) = none
@@ -137,8 +137,8 @@ of_class ed quote s ps e = never (closed_by (is "\"") quoted (drop 1 s) (taken q
 of_class ed more s ps e = never (broken_of true (suc (count_while (is ">") (drop 1 s))) s).token ps (broken_none true (suc (count_while (is ">") (drop 1 s))) s) e
 of_class ed less s ps e = never (broken_of false (suc (count_while (is "<") (drop 1 s))) s).token ps (broken_none false (suc (count_while (is "<") (drop 1 s))) s) e
 of_class ed paren s ps e = never (or_slur (tuplet_of ed (drop 1 s))).token ps (slur_none (tuplet_of ed (drop 1 s)) (form ed (drop 1 s))) e
-of_class ed braceOpen s ps e = never graceOpen ps refl e
-of_class ed braceClose s ps e = never graceClose ps refl e
+of_class ed brace_open s ps e = never grace_open ps refl e
+of_class ed brace_close s ps e = never grace_close ps refl e
 of_class ed bang s ps e = never (closed_by (is "!") decoration (drop 1 s) (taken skipped 1)).token ps (closed_none (is "!") decoration (drop 1 s) (taken skipped 1) refl refl) e
 of_class ed plus s ps e = never (closed_by (is "+") decoration (drop 1 s) (taken skipped 1)).token ps (closed_none (is "+") decoration (drop 1 s) (taken skipped 1) refl refl) e
 of_class ed bars s ps e = never (barline_as s (symbol_at bar_symbols s)).token ps (bar_none s (symbol_at bar_symbols s)) e

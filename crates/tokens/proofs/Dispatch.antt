@@ -19,8 +19,8 @@ use Rattle.reader.specs.Lengths.{many_slashes, value_of}
 use Rattle.reader.specs.Codes.{kind_code}
 use Rattle.reader.specs.Pitches.{octave_of}
 use Rattle.reader.specs.Sounds.{rest_as, note_as}
-use Rattle.reader.specs.Token.{Token, space, overlay, quoted, broken, tuplet, slur, graceOpen, graceClose, decoration, barline, volta, unit, meter, key, field, chord, rest, note, nothing, skipped, refused, Taken, taken}
-use Rattle.reader.specs.Tokens.{Class, white, ampersand, quote, more, less, paren, braceOpen, braceClose, bang, plus, bars, bracket, pitched, none-of-these, resting, classes, class_in, class_of, token_as, token_of, effect_of}
+use Rattle.reader.specs.Token.{Token, space, overlay, quoted, broken, tuplet, slur, grace_open, grace_close, decoration, barline, volta, unit, meter, key, field, chord, rest, note, nothing, skipped, refused, Taken, taken}
+use Rattle.reader.specs.Tokens.{Class, white, ampersand, quote, more, less, paren, brace_open, brace_close, bang, plus, bars, bracket, pitched, none-of-these, resting, classes, class_in, class_of, token_as, token_of, effect_of}
 use Rattle.reader.proofs.LengthLaws.{with_many, with_few}
 use Rattle.token_symbols.specs.Classes.{class_code}
 use Rattle.token_lexemes.specs.Lexemes.{lexeme_for, cut_for, rest_for}
@@ -29,7 +29,7 @@ use Rattle.tokens.specs.Tokens.{rest_length, token_for, tokenised_for, valued_fo
 -- BY CLASS
 unfoldable pub by_code : Edition → ℕ → List ℕ → Taken
 by_code ed n s =
-    elim (eqb n 1) [ true ↦ token_as ed white s | false ↦ elim (eqb n 2) [ true ↦ token_as ed ampersand s | false ↦ elim (eqb n 3) [ true ↦ token_as ed quote s | false ↦ elim (eqb n 4) [ true ↦ token_as ed more s | false ↦ elim (eqb n 5) [ true ↦ token_as ed less s | false ↦ elim (eqb n 6) [ true ↦ token_as ed paren s | false ↦ elim (eqb n 7) [ true ↦ token_as ed braceOpen s | false ↦ elim (eqb n 8) [ true ↦ token_as ed braceClose s | false ↦ elim (eqb n 9) [ true ↦ token_as ed bang s | false ↦ elim (eqb n 10) [ true ↦ token_as ed plus s | false ↦ elim (eqb n 11) [ true ↦ token_as ed bars s | false ↦ elim (eqb n 12) [ true ↦ token_as ed bracket s | false ↦ elim (eqb n 13) [ true ↦ token_as ed (resting Notes.rest) s | false ↦ elim (eqb n 14) [ true ↦ token_as ed (resting Notes.invisibleRest) s | false ↦ elim (eqb n 15) [ true ↦ token_as ed (resting Notes.barRest) s | false ↦ elim (eqb n 16) [ true ↦ token_as ed (resting Notes.invisibleBarRest) s | false ↦ elim (eqb n 17) [ true ↦ token_as ed pitched s | false ↦ elim (eqb n 18) [ true ↦ token_as ed (resting Notes.sounded) s | false ↦ token_as ed none-of-these s ] ] ] ] ] ] ] ] ] ] ] ] ] ] ] ] ] ]
+    elim (eqb n 1) [ true ↦ token_as ed white s | false ↦ elim (eqb n 2) [ true ↦ token_as ed ampersand s | false ↦ elim (eqb n 3) [ true ↦ token_as ed quote s | false ↦ elim (eqb n 4) [ true ↦ token_as ed more s | false ↦ elim (eqb n 5) [ true ↦ token_as ed less s | false ↦ elim (eqb n 6) [ true ↦ token_as ed paren s | false ↦ elim (eqb n 7) [ true ↦ token_as ed brace_open s | false ↦ elim (eqb n 8) [ true ↦ token_as ed brace_close s | false ↦ elim (eqb n 9) [ true ↦ token_as ed bang s | false ↦ elim (eqb n 10) [ true ↦ token_as ed plus s | false ↦ elim (eqb n 11) [ true ↦ token_as ed bars s | false ↦ elim (eqb n 12) [ true ↦ token_as ed bracket s | false ↦ elim (eqb n 13) [ true ↦ token_as ed (resting Notes.rest) s | false ↦ elim (eqb n 14) [ true ↦ token_as ed (resting Notes.invisible_rest) s | false ↦ elim (eqb n 15) [ true ↦ token_as ed (resting Notes.bar_rest) s | false ↦ elim (eqb n 16) [ true ↦ token_as ed (resting Notes.invisible_bar_rest) s | false ↦ elim (eqb n 17) [ true ↦ token_as ed pitched s | false ↦ elim (eqb n 18) [ true ↦ token_as ed (resting Notes.sounded) s | false ↦ token_as ed none-of-these s ] ] ] ] ] ] ] ] ] ] ] ] ] ] ] ] ] ]
 
 coded : (ed : Edition) (x : Class) (s : List ℕ) → token_as ed x s ≡ by_code ed (class_code x) s
 unfolding by_code class_code
@@ -39,8 +39,8 @@ coded ed quote s = refl
 coded ed more s = refl
 coded ed less s = refl
 coded ed paren s = refl
-coded ed braceOpen s = refl
-coded ed braceClose s = refl
+coded ed brace_open s = refl
+coded ed brace_close s = refl
 coded ed bang s = refl
 coded ed plus s = refl
 coded ed bars s = refl
@@ -49,9 +49,9 @@ coded ed pitched s = refl
 coded ed none-of-these s = refl
 coded ed (resting Notes.sounded) s = refl
 coded ed (resting Notes.rest) s = refl
-coded ed (resting Notes.invisibleRest) s = refl
-coded ed (resting Notes.barRest) s = refl
-coded ed (resting Notes.invisibleBarRest) s = refl
+coded ed (resting Notes.invisible_rest) s = refl
+coded ed (resting Notes.bar_rest) s = refl
+coded ed (resting Notes.invisible_bar_rest) s = refl
 
 -- the token at a position, by the number of its class
 pub classed : (ed : Edition) (line : List ℕ) (at k n : ℕ) → k ≡ class_code (class_of (get_or line at 0)) → k ≡ n → token_of ed (drop at line) ≡ by_code ed n (drop at line)
@@ -79,16 +79,16 @@ no_class ed quote s n1 n2 n3 n4 n5 n6 n7 n8 n9 n10 n11 n12 n13 n14 n15 n16 n17 n
 no_class ed more s n1 n2 n3 n4 n5 n6 n7 n8 n9 n10 n11 n12 n13 n14 n15 n16 n17 n18 = absurd (n4 refl)
 no_class ed less s n1 n2 n3 n4 n5 n6 n7 n8 n9 n10 n11 n12 n13 n14 n15 n16 n17 n18 = absurd (n5 refl)
 no_class ed paren s n1 n2 n3 n4 n5 n6 n7 n8 n9 n10 n11 n12 n13 n14 n15 n16 n17 n18 = absurd (n6 refl)
-no_class ed braceOpen s n1 n2 n3 n4 n5 n6 n7 n8 n9 n10 n11 n12 n13 n14 n15 n16 n17 n18 = absurd (n7 refl)
-no_class ed braceClose s n1 n2 n3 n4 n5 n6 n7 n8 n9 n10 n11 n12 n13 n14 n15 n16 n17 n18 = absurd (n8 refl)
+no_class ed brace_open s n1 n2 n3 n4 n5 n6 n7 n8 n9 n10 n11 n12 n13 n14 n15 n16 n17 n18 = absurd (n7 refl)
+no_class ed brace_close s n1 n2 n3 n4 n5 n6 n7 n8 n9 n10 n11 n12 n13 n14 n15 n16 n17 n18 = absurd (n8 refl)
 no_class ed bang s n1 n2 n3 n4 n5 n6 n7 n8 n9 n10 n11 n12 n13 n14 n15 n16 n17 n18 = absurd (n9 refl)
 no_class ed plus s n1 n2 n3 n4 n5 n6 n7 n8 n9 n10 n11 n12 n13 n14 n15 n16 n17 n18 = absurd (n10 refl)
 no_class ed bars s n1 n2 n3 n4 n5 n6 n7 n8 n9 n10 n11 n12 n13 n14 n15 n16 n17 n18 = absurd (n11 refl)
 no_class ed bracket s n1 n2 n3 n4 n5 n6 n7 n8 n9 n10 n11 n12 n13 n14 n15 n16 n17 n18 = absurd (n12 refl)
 no_class ed (resting Notes.rest) s n1 n2 n3 n4 n5 n6 n7 n8 n9 n10 n11 n12 n13 n14 n15 n16 n17 n18 = absurd (n13 refl)
-no_class ed (resting Notes.invisibleRest) s n1 n2 n3 n4 n5 n6 n7 n8 n9 n10 n11 n12 n13 n14 n15 n16 n17 n18 = absurd (n14 refl)
-no_class ed (resting Notes.barRest) s n1 n2 n3 n4 n5 n6 n7 n8 n9 n10 n11 n12 n13 n14 n15 n16 n17 n18 = absurd (n15 refl)
-no_class ed (resting Notes.invisibleBarRest) s n1 n2 n3 n4 n5 n6 n7 n8 n9 n10 n11 n12 n13 n14 n15 n16 n17 n18 = absurd (n16 refl)
+no_class ed (resting Notes.invisible_rest) s n1 n2 n3 n4 n5 n6 n7 n8 n9 n10 n11 n12 n13 n14 n15 n16 n17 n18 = absurd (n14 refl)
+no_class ed (resting Notes.bar_rest) s n1 n2 n3 n4 n5 n6 n7 n8 n9 n10 n11 n12 n13 n14 n15 n16 n17 n18 = absurd (n15 refl)
+no_class ed (resting Notes.invisible_bar_rest) s n1 n2 n3 n4 n5 n6 n7 n8 n9 n10 n11 n12 n13 n14 n15 n16 n17 n18 = absurd (n16 refl)
 no_class ed pitched s n1 n2 n3 n4 n5 n6 n7 n8 n9 n10 n11 n12 n13 n14 n15 n16 n17 n18 = absurd (n17 refl)
 no_class ed (resting Notes.sounded) s n1 n2 n3 n4 n5 n6 n7 n8 n9 n10 n11 n12 n13 n14 n15 n16 n17 n18 = absurd (n18 refl)
 no_class ed none-of-these s n1 n2 n3 n4 n5 n6 n7 n8 n9 n10 n11 n12 n13 n14 n15 n16 n17 n18 = refl
@@ -118,8 +118,8 @@ valued_token at u quoted = refl
 valued_token at u (broken up n) = refl
 valued_token at u (tuplet t) = refl
 valued_token at u slur = refl
-valued_token at u graceOpen = refl
-valued_token at u graceClose = refl
+valued_token at u grace_open = refl
+valued_token at u grace_close = refl
 valued_token at u decoration = refl
 valued_token at u (barline b o) = refl
 valued_token at u (volta ps) = refl
@@ -133,9 +133,9 @@ valued_token at u nothing = refl
 valued_token at u skipped = refl
 valued_token at u (refused n) = refl
 valued_token at u (rest Notes.rest l) = refl
-valued_token at u (rest Notes.invisibleRest l) = refl
-valued_token at u (rest Notes.barRest l) = refl
-valued_token at u (rest Notes.invisibleBarRest l) = refl
+valued_token at u (rest Notes.invisible_rest l) = refl
+valued_token at u (rest Notes.bar_rest l) = refl
+valued_token at u (rest Notes.invisible_bar_rest l) = refl
 valued_token at u (rest Notes.sounded l) = refl
 
 pub effect_token : (at : ℕ) (t : Token) → effect_in (lexeme_for at t) ≡ effect_for (effect_of t)
@@ -146,8 +146,8 @@ effect_token at quoted = refl
 effect_token at (broken up n) = refl
 effect_token at (tuplet t) = refl
 effect_token at slur = refl
-effect_token at graceOpen = refl
-effect_token at graceClose = refl
+effect_token at grace_open = refl
+effect_token at grace_close = refl
 effect_token at decoration = refl
 effect_token at (barline b o) = refl
 effect_token at (volta ps) = refl

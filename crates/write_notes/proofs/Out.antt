@@ -156,7 +156,7 @@ voice_out_lem s v p (x ∷ xs) t =
     let ih = voice_out_lem s v (p + note_row_width) xs (table_rest note_row note_row_width length_note (x ∷ []) xs (p + note_row_width) (omega arith) t) in
     rw (byte_voice s p x row, note_out_lem s p x row, ih) (kept_by v x xs (eqb x.0 v) refl)
 
--- byVoice, with the first voice before the others
+-- by_voice, with the first voice before the others
 pub by_voice_lem : (xs : List (ℕ × Note)) → by_voice xs ≡ of_voice 0 xs ++ (of_voice 1 xs ++ (of_voice 2 xs ++ of_voice 3 xs))
 unfolding by_voice
 by_voice_lem xs = append_assoc (of_voice 0 xs ++ of_voice 1 xs) (of_voice 2 xs) (of_voice 3 xs) ∙ append_assoc (of_voice 0 xs) (of_voice 1 xs) (of_voice 2 xs ++ of_voice 3 xs)
@@ -242,7 +242,7 @@ pub length_in_order : (ms : List Head) (log : List (ℕ × Note)) → sum notes_
 length_in_order ms log e h = sym (ones (in_order ms log)) ∙ in_order_sum (λ x. 1) ms log e h ∙ ones log
 
 -- THE SECTIONS
--- a table of headRow is one of headBytes
+-- a table of head_row is one of head_bytes
 heads_bytes : (ms : List Head) → All (λ (m : Head). length m.counts ≡ 4) ms → enc_all head_row ms ≡ enc_all head_bytes ms
 unfolding enc_all
 heads_bytes [] h = refl

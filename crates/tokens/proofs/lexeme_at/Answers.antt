@@ -93,19 +93,19 @@ pub returns-in-14 : goal.returns-in-14
 unfolding by_code token_as kind_code
 returns-in-14 c =
     let by_class : (n : ℕ) → c.args.class ≡ n → token_of c.args.edition (drop c.args.at c.args.line.now) ≡ by_code c.args.edition n (drop c.args.at c.args.line.now) = λ n e. classed _ c.args.line.now c.args.at c.args.class n c.requires.1 e in
-    c.rest-in-14.ensures ∙ rest_cut c.args.edition c.args.line.now c.args.at Notes.invisibleRest ∙ ap (cut_for c.args.at) (sym (by_class 14 c.in-14.is))
+    c.rest-in-14.ensures ∙ rest_cut c.args.edition c.args.line.now c.args.at Notes.invisible_rest ∙ ap (cut_for c.args.at) (sym (by_class 14 c.in-14.is))
 
 pub returns-in-15 : goal.returns-in-15
 unfolding by_code token_as kind_code
 returns-in-15 c =
     let by_class : (n : ℕ) → c.args.class ≡ n → token_of c.args.edition (drop c.args.at c.args.line.now) ≡ by_code c.args.edition n (drop c.args.at c.args.line.now) = λ n e. classed _ c.args.line.now c.args.at c.args.class n c.requires.1 e in
-    c.rest-in-15.ensures ∙ rest_cut c.args.edition c.args.line.now c.args.at Notes.barRest ∙ ap (cut_for c.args.at) (sym (by_class 15 c.in-15.is))
+    c.rest-in-15.ensures ∙ rest_cut c.args.edition c.args.line.now c.args.at Notes.bar_rest ∙ ap (cut_for c.args.at) (sym (by_class 15 c.in-15.is))
 
 pub returns-in-16 : goal.returns-in-16
 unfolding by_code token_as kind_code
 returns-in-16 c =
     let by_class : (n : ℕ) → c.args.class ≡ n → token_of c.args.edition (drop c.args.at c.args.line.now) ≡ by_code c.args.edition n (drop c.args.at c.args.line.now) = λ n e. classed _ c.args.line.now c.args.at c.args.class n c.requires.1 e in
-    c.rest-in-16.ensures ∙ rest_cut c.args.edition c.args.line.now c.args.at Notes.invisibleBarRest ∙ ap (cut_for c.args.at) (sym (by_class 16 c.in-16.is))
+    c.rest-in-16.ensures ∙ rest_cut c.args.edition c.args.line.now c.args.at Notes.invisible_bar_rest ∙ ap (cut_for c.args.at) (sym (by_class 16 c.in-16.is))
 
 pub returns-in-17 : goal.returns-in-17
 unfolding by_code token_as
