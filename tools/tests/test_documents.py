@@ -114,7 +114,7 @@ class Theorems(unittest.TestCase):
 class Files(unittest.TestCase):
     def files(self):
         for folder, folders, names in os.walk(ROOT):
-            folders[:] = [name for name in folders if name not in ('.git', 'target', '__pycache__')]
+            folders[:] = [name for name in folders if name not in ('.git', 'target', 'out', '__pycache__')]
             for name in names:
                 if name != '.git':
                     yield os.path.join(folder, name)

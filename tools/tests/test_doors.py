@@ -87,43 +87,43 @@ def places(text, function, pieces):
 
 def specified(t):
     records = t['records']
-    facts = {'width of a ' + name: number(records, r'\n%sWidth = (\d+)\n' % name) for name in ('measure', 'note', 'pitch', 'lyric')}
-    facts['most bytes'] = number(t['answer'], r'\nmostBytes = (\d+)\n')
-    facts['scratch'] = re.findall(r'\nscratchNeeded n = (\d+) \* \(n \+ (\d+)\)\n', t['answer'])
-    facts['reading'] = number(t['bound'], r'pub never-16 : [^\n]* → (\d+) \* length text ≤ rl →')
-    facts['refused bit'] = number(t['packed'], r'\nrefusedBit = (\d+)\n')
-    facts['number unit'] = number(t['packed'], r'\nnumberUnit = (\d+)\n')
+    facts = {'width of a ' + name: number(records, r'\n%s_width = (\d+)\n' % name) for name in ('measure', 'note', 'pitch', 'lyric')}
+    facts['most bytes'] = number(t['answer'], r'\nmost_bytes = (\d+)\n')
+    facts['scratch'] = re.findall(r'\nscratch_needed n = (\d+) \* \(n \+ (\d+)\)\n', t['answer'])
+    facts['reading'] = number(t['bound'], r'pub never_16 : [^\n]* → (\d+) \* length text ≤ rl →')
+    facts['refused bit'] = number(t['packed'], r'\nrefused_bit = (\d+)\n')
+    facts['number unit'] = number(t['packed'], r'\nnumber_unit = (\d+)\n')
     for name in ('barline', 'kind', 'beam', 'syllabic', 'volta'):
-        facts[name] = codes(t['codes'], name + 'Code')
+        facts[name] = codes(t['codes'], name + '_code')
     facts['volta'].pop(0)
     facts['beam'][0] = 'none' if facts['beam'][0] == 'unbeamed' else facts['beam'][0]
-    minor, major = re.findall(r'\nmodeCode minor = cond minor (\d+) (\d+)\n', t['codes'])[0]
+    minor, major = re.findall(r'\nmode_code minor = cond minor (\d+) (\d+)\n', t['codes'])[0]
     facts['mode'] = {int(major): 'major', int(minor): 'minor'}
-    facts['flags'] = {plain(name): int(bit) for name, bit in re.findall(r'bit \((?:f \.)?(\w+)(?: n)?\) (\d+)', between(records, '\nflagByte n', '\n\n'))}
+    facts['flags'] = {plain(name): int(bit) for name, bit in re.findall(r'bit \(?(?:f\.)?(\w+)(?: n\))? (\d+)', between(records, '\nflag_byte n', '\n\n'))}
     facts['flags']['unbeamed'] = facts['flags'].pop('isunbeamed')
-    facts['measure'] = places(records, 'measureBytes', {
-        'counts': ('noteCounts', 16), 'left': ('m .left', 1), 'right': ('m .right', 1), 'top': ('m .meter .0', 1), 'bottom': ('m .meter .1', 1),
-        'key': ('keyMarkBytes', 2), 'volta': ('voltaCode', 1), 'first pass': ('getD', 1), 'passes': ('le32 (passBits', 4)})
-    facts['note'] = places(records, 'noteBytes', {
-        'kind': ('kindCode', 1), 'value': ('n .value', 1), 'dots': ('n .dots', 1), 'flags': ('flagByte', 1), 'beam': ('beamCode', 1),
+    facts['measure'] = places(records, 'measure_bytes', {
+        'counts': ('note_counts', 16), 'left': ('m.left', 1), 'right': ('m.right', 1), 'top': ('m.meter.0', 1), 'bottom': ('m.meter.1', 1),
+        'key': ('key_mark_bytes', 2), 'volta': ('volta_code', 1), 'first pass': ('get_or', 1), 'passes': ('le32 (pass_bits', 4)})
+    facts['note'] = places(records, 'note_bytes', {
+        'kind': ('kind_code', 1), 'value': ('n.value', 1), 'dots': ('n.dots', 1), 'flags': ('flag_byte', 1), 'beam': ('beam_code', 1),
         'actual': ('.actual', 1), 'normal': ('.normal', 1), 'boundary': ('.boundary', 1), 'pitches': ('le32', 4)})
-    facts['pitch'] = places(records, 'pitchBytes', {'step': ('p .step', 1), 'octave': ('p .octave', 1), 'alter': ('p .alter', 1), 'cents': ('signed16', 2)})
-    facts['lyric'] = places(records, 'lyricBytes', {
-        'note': ('le32 i', 4), 'verse': ('.verse', 1), 'syllabic': ('syllabicCode', 1), 'extend': ('.extend', 1), 'text': ('le32 (length', 4)})
+    facts['pitch'] = places(records, 'pitch_bytes', {'step': ('p.step', 1), 'octave': ('p.octave', 1), 'alter': ('p.alter', 1), 'cents': ('signed16', 2)})
+    facts['lyric'] = places(records, 'lyric_bytes', {
+        'note': ('le32 i', 4), 'verse': ('.verse', 1), 'syllabic': ('syllabic_code', 1), 'extend': ('.extend', 1), 'text': ('le32 (length', 4)})
     for name in ('measure', 'note', 'pitch', 'lyric'):
         facts['end of a ' + name] = facts[name].pop('end')
-    facts['most lines'], facts['most notes'], facts['most voices'] = [number(t['scan'], r'\n%s = (\d+)\n' % name) for name in ('mostLines', 'mostNotes', 'mostVoices')]
+    facts['most lines'], facts['most notes'], facts['most voices'] = [number(t['scan'], r'\n%s = (\d+)\n' % name) for name in ('most_lines', 'most_notes', 'most_voices')]
     facts['longest line'] = number(t['lines'], r'ltb (\d+) \(length l\)\) \(refused 5\)')
-    facts['last pass'] = number(t['passes'], r'\nisPass n = leb 1 n && leb n (\d+)\n')
-    facts['most slashes'] = number(t['lengths'], r'\nmanySlashes ed s = ltb (\d+) \(slashes ')
+    facts['last pass'] = number(t['passes'], r'\nis_pass n = leb 1 n && leb n (\d+)\n')
+    facts['most slashes'] = number(t['lengths'], r'\nmany_slashes ed s = ltb (\d+) \(slashes ')
     shape, out, falls = [number(t['passes'], pattern) for pattern in (
-        r'\ntested none = faulty (\d+)\n', r'elim \(all isPass \(numbersIn is\)\) \[\s*\| false ↦ faulty (\d+)\n', r'elim \(rise \(numbersIn is\)\) \[ false ↦ faulty (\d+) \|')]
+        r'\ntested none = faulty (\d+)\n', r'elim \(all is_pass \(numbers_in is\)\) \[\s*\| false ↦ faulty (\d+)\n', r'elim \(rise \(numbers_in is\)\) \[ false ↦ faulty (\d+) \|')]
     facts['refusals of a pass list'] = {shape: 'passes', out: 'passrange', falls: 'passorder'}
     first, last = re.findall(r'\nbeamable k value = [^\n]*leb (\d+) value && leb value (\d+)', t['notes'])[0]
     facts['beamable'] = {int(first): 'eighth', int(last): 'hundredtwentyeighth'}
     told = set()
     for name in ('answer', 'scan', 'lines', 'fields', 'inline', 'passes', 'tokens', 'sounds'):
-        told |= {int(n) for n in re.findall(r'\b(?:refusedWith|refused|refuses|refuse|faulty|some) (\d+)\b', t[name])}
+        told |= {int(n) for n in re.findall(r'\b(?:refused_with|refused|refuses|refuse|faulty|some) (\d+)\b', t[name])}
     # Those of the played list: as the definition has them, or the code's call that clears the list.
     told |= {int(n) for n in re.findall(r'\b(?:refused |refuse\(list, )(\d+)\b', t['played'])}
     facts['refused numbers'] = told
@@ -132,7 +132,7 @@ def specified(t):
 
 def calls(library):
     """The library's calls by name: parameters and result as its code has them."""
-    found = re.findall(r'\n#\[no_mangle\]\npub extern "C" fn (\w+)\(([^)]*)\) -> (\w+)\s', library)
+    found = re.findall(r'\n#\[unsafe\(no_mangle\)\]\npub extern "C" fn (\w+)\(([^)]*)\) -> (\w+)\s', library)
     return {name: ([tuple(word.strip() for word in parameter.split(':')) for parameter in words.split(',') if parameter.strip()], result) for name, words, result in found}
 
 
@@ -285,11 +285,11 @@ def differences(t):
 
 # A change in one place alone, which has to show.
 SPOILED = [
-    ('records', 'noteWidth = 12', 'noteWidth = 13'), ('records', 'm .left) ∷ barlineCode (m .right)', 'm .right) ∷ barlineCode (m .left)'),
-    ('records', 'bit (f .slurStart) 4', 'bit (f .slurStart) 64'), ('codes', 'kindCode barRest = 3', 'kindCode barRest = 5'), ('answer', '32 * (n + 256)', '32 * (n + 128)'),
-    ('answer', 'mostBytes = 67108864', 'mostBytes = 67108865'), ('scan', 'mostVoices = 32', 'mostVoices = 16'), ('answer', 'refusedWith 16 0', 'refusedWith 23 0'),
+    ('records', 'note_width = 12', 'note_width = 13'), ('records', 'm.left ∷ barline_code m.right', 'm.right ∷ barline_code m.left'),
+    ('records', 'bit f.slur_start 4', 'bit f.slur_start 64'), ('codes', 'kind_code bar_rest = 3', 'kind_code bar_rest = 5'), ('answer', '32 * (n + 256)', '32 * (n + 128)'),
+    ('answer', 'most_bytes = 67108864', 'most_bytes = 67108865'), ('scan', 'most_voices = 32', 'most_voices = 16'), ('answer', 'refused_with 16 0', 'refused_with 23 0'),
     ('passes', 'leb n 32', 'leb n 33'), ('passes', 'tested none = faulty 14', 'tested none = faulty 18'),
-    ('passes', '| false ↦ faulty 17', '| false ↦ faulty 18'), ('bound', '→ 23 * length text ≤ rl', '→ 24 * length text ≤ rl'), ('packed', 'numberUnit = 4294967296', 'numberUnit = 65536'),
+    ('passes', '| false ↦ faulty 17', '| false ↦ faulty 18'), ('bound', '→ 23 * length text ≤ rl', '→ 24 * length text ≤ rl'), ('packed', 'number_unit = 4294967296', 'number_unit = 65536'),
     ('header', 'ABC_PITCH_BYTES 5', 'ABC_PITCH_BYTES 6'), ('header', '#define ABC_MIDDLE 10', '#define ABC_MIDDLE 23'),
     ('header', 'ABC_BAR_DOUBLE, ABC_BAR_FINAL', 'ABC_BAR_FINAL, ABC_BAR_DOUBLE'), ('header', 'ABC_GRACE = 16', 'ABC_GRACE = 64'), ('header', '10,000th', '1,000th'),
     ('header', 'ABC_VERSION_MINOR 6', 'ABC_VERSION_MINOR 7'), ('header', 'ABC_PASS_RANGE 17', 'ABC_PASS_RANGE 14'), ('rust', '67_108_864', '67_108_863'), ('rust', 'saturating_mul(23)', 'saturating_mul(22)'),
