@@ -2,7 +2,6 @@
 use Prim.Native.Nat.{ℕ, zero, suc, ◌+◌, ◌-◌, ◌*◌, ◌^◌, ◌≤◌, ◌<◌, min}
 use mathlib.Core.Path.{◌≡◌, refl, sym, ap, subst, ◌∙◌}
 use mathlib.Core.Bool.{Bool, true, false, cond, ◌&&◌}
-use mathlib.Core.Option.{none}
 use mathlib.Core.List.{List, [], ◌∷◌, ◌++◌, append-nil}
 use native.Mathlib.Numerals.{add-one}
 use native.Mathlib.Omega.{arith}
@@ -19,7 +18,6 @@ use Rattle.standard.specs.Bars.{normal}
 use Rattle.standard.specs.Notes as Notes
 use Rattle.standard.specs.Notes.{NoteKind, is_sounded}
 use Rattle.reader.specs.Codes.{kind_code, beam_code}
-use Rattle.reader.specs.State as State
 use Rattle.reader.specs.State.{Note, Verses, with_beam}
 use Rattle.reader.specs.Part.{can_beam, grouped, after_half, counted_in, rest_with}
 use Rattle.reader.specs.Records.{measure_width}

@@ -1,7 +1,6 @@
 -- THE LOG AND THE HEADS: the open head by its index, counts below the log's length, and what a change of a beam or a value leaves of the pitches.
-use Prim.Native.Nat.{ℕ, zero, suc, ◌+◌, ◌-◌, ◌≤◌, ◌<◌}
-use mathlib.Core.Path.{◌≡◌, refl, sym, ap, ◌∙◌}
-use mathlib.Core.Bool.{Bool, true, false, cond}
+use Prim.Native.Nat.{ℕ, zero, suc, ◌-◌, ◌≤◌, ◌<◌}
+use mathlib.Core.Path.{◌≡◌, refl, ap, ◌∙◌}
 use mathlib.Core.Option.{Option, none, some}
 use mathlib.Core.List.{List, [], ◌∷◌, ◌++◌, map, append-nil}
 use native.Mathlib.Nat.{not-suc-le-zero, le_of_suc-le-suc}
@@ -12,12 +11,10 @@ use Rattle.laws.specs.Lists.{alter_at, concat, sum}
 use Rattle.laws.proofs.Bools.{by_test}
 use Rattle.laws.proofs.Lists.{map_append, concat_append, All-get_or, get_or_sum}
 use Rattle.standard.specs.Pitches.{Pitch}
-use Rattle.standard.specs.Notes as Notes
 use Rattle.reader.specs.State as State
 use Rattle.reader.specs.State.{Note}
-use Rattle.reader.specs.Part.{can_beam, grouped, group_in, broken_note, halved_note, after_half}
+use Rattle.reader.specs.Part.{can_beam, grouped, broken_note, halved_note, after_half}
 use Rattle.part_layout.specs.Log.{Head, LogState, on_last_head, at_place, beamed_new, beamed_before, notes_in}
-use Rattle.part_layout.specs.Lines.{Fits}
 use Rattle.part_layout.specs.Lines.{Standing}
 use Rattle.part_invariant.specs.Invariant.{pitches_in}
 

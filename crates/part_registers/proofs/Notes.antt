@@ -1,26 +1,24 @@
 -- What a note gets by the code's values is what the definition gives it.
-use Prim.Native.Nat.{ℕ, zero, suc, ◌+◌, ◌-◌, min}
-use mathlib.Core.Path.{◌≡◌, refl, sym, ap, ◌∙◌}
-use mathlib.Core.Bool.{Bool, true, false, cond}
+use Prim.Native.Nat.{ℕ, zero, suc, min}
+use mathlib.Core.Path.{◌≡◌, refl, sym, ap}
+use mathlib.Core.Bool.{Bool}
 use mathlib.Core.Option.{Option, none, some}
 use native.Mathlib.Omega.{arith}
 use lib.Dec.{leb, eqb}
-use borrow.Author.Tests.{eq-eqb, ne_eqb, eqb-true, eqb-false}
-use Rattle.laws.proofs.Bools.{by_test, cond_ap}
+use borrow.Author.Tests.{ne_eqb, eqb-true, eqb-false}
+use Rattle.laws.proofs.Bools.{by_test}
 use Rattle.standard.specs.Tuplets.{boundary}
 use Rattle.standard.specs.Notes as Notes
 use Rattle.standard.specs.Notes.{NoteKind, is_sounded, beamable, flags_of, Behind}
 use Rattle.reader.specs.State as State
 use Rattle.reader.specs.State.{Note}
 use Rattle.reader.specs.Codes.{kind_code, beam_code, bit}
-use Rattle.reader.specs.Part.{can_beam, run_after, group_in, grouped, one_fewer, broken_note, after_half, written_on}
+use Rattle.reader.specs.Part.{run_after, group_in, grouped, one_fewer, broken_note, after_half}
 use Rattle.part_layout.specs.Log.{beamed_new}
-use Rattle.token_lengths.specs.declared.Length.{Length}
-use Rattle.token_lengths.specs.declared.Length.TheVariants.{Written, WholeBar}
-use Rattle.token_lengths.specs.Values.{as_value, broken_length, written}
+use Rattle.token_lengths.specs.Values.{as_value, written}
 use Rattle.token_lengths.proofs.Broken.{NoBar, broken_note_lem}
 use Rattle.part_rows.specs.Encoded.{flags_byte, row_for}
-use Rattle.part_registers.specs.Notes.{beams, bit_of, flags_in, length_in, boundary_of, with_beam, grouped_row, fewer, broken_row, halved_row, run_again, beamed_row}
+use Rattle.part_registers.specs.Notes.{beams, bit_of, flags_in, length_in, boundary_of, grouped_row, fewer, broken_row, halved_row, run_again, beamed_row}
 use Rattle.part_registers.specs.States.{pending_for, half_for, running_for}
 
 pub beams_is : (k : NoteKind) (v : ℕ) → beams (kind_code k) v ≡ beamable k v

@@ -1,5 +1,5 @@
 -- WHAT A NOTE GETS, by the code's values.
-use Rattle.std.specs.Prelude.{ℕ, zero, suc, ◌+◌, ◌-◌, Bool, true, false, cond, ◌&&◌, leb, eqb}
+use Rattle.std.specs.Prelude.{ℕ, ◌+◌, ◌-◌, Bool, cond, ◌&&◌, leb, eqb}
 use Rattle.standard.specs.Lengths.{Value}
 use Rattle.token_lengths.specs.declared.Length.{Length}
 use Rattle.token_lengths.specs.declared.Length.TheVariants.{Written, WholeBar}

@@ -1,5 +1,5 @@
 -- WHAT IS KEPT OUTSIDE SCRATCH, as the definition has it.
-use Rattle.std.specs.Prelude.{ℕ, min}
+use Rattle.std.specs.Prelude.{min}
 use Rattle.std.proofs.Math.Option.{Option, none, some}
 use Rattle.standard.specs.Keys.{Key}
 use Rattle.standard.specs.Notes as Notes

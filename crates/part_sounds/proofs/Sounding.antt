@@ -32,7 +32,6 @@ use Rattle.part_accidentals.specs.declared.Resolved.{Resolved}
 use Rattle.part_accidentals.specs.Resolving.{signs, written_of, ResolvedAs}
 use Rattle.part_scopes.proofs.Scopes.{scoped_behind}
 use Rattle.part_registers.specs.declared.Line.{Line}
-use Rattle.part_registers.specs.declared.Pending.{Pending}
 use Rattle.part_registers.specs.declared.Counts.{Counts}
 use Rattle.part_registers.specs.declared.Tables.{Tables}
 use Rattle.part_registers.specs.declared.Registers.{Registers}

@@ -1,5 +1,5 @@
 -- NOTES AND RESTS: their rows, the row that a token defers, and what each does to every part that is represented.
-use Rattle.std.specs.Prelude.{ℕ, ◌+◌, ◌<◌, ◌≡◌, Bool, false, true, List, [], ◌∷◌, ◌++◌, length, get_or}
+use Rattle.std.specs.Prelude.{ℕ, ◌<◌, ◌≡◌, Bool, false, true, List, [], ◌∷◌, ◌++◌, length, get_or}
 use Rattle.laws.specs.Lists.{alter_at}
 use Rattle.standard.specs.Pitches as standard
 use Rattle.standard.specs.Notes.{Behind, pending_after}

@@ -1,5 +1,4 @@
 -- `part_accidentals::abc_key_alter` meets its contract.
-use borrow.Author.Rules.{rules}
 use Rattle.part_accidentals.proofs.Keys.{key_by_lem}
 use Rattle.part_accidentals.proofs.abc_key_alter.Goals as goal
 

@@ -1,5 +1,4 @@
 -- `part_accidentals::enter` meets its contract.
-use borrow.Author.Rules.{rules}
 use Rattle.part_accidentals.proofs.enter.Goals as goal
 
 pub returns : goal.returns

@@ -2,7 +2,6 @@
 use mathlib.Core.Path.{sym}
 use Rattle.part_scopes.proofs.Places.{place_over}
 use Rattle.part_accidentals.proofs.Resolving.{no_entry, no_such_row, other_step, other_octave, row_is}
-use borrow.Author.Rules.{rules}
 use Rattle.part_accidentals.proofs.find_row.Goals as goal
 
 pub returns-then-count-eq0 : goal.returns-then-count-eq0

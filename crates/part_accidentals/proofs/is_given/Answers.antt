@@ -5,7 +5,6 @@ use lib.Dec.{eqb}
 use lib.ListN.{get_or}
 use Rattle.laws.proofs.Bools.{cond_true, cond_false}
 use Rattle.part_scopes.specs.Scopes.{is_given}
-use borrow.Author.Rules.{rules}
 use Rattle.part_accidentals.proofs.is_given.Goals as goal
 
 pub returns-then-place-eq0 : goal.returns-then-place-eq0

@@ -5,7 +5,6 @@ use Rattle.laws.specs.Bytes.{splice, le32}
 use Rattle.laws.proofs.Splices.{spliced_next}
 use Rattle.part_rows.specs.Encoded.{scope_row}
 use Rattle.part_scopes.specs.Scopes.{with_row}
-use borrow.Author.Rules.{rules}
 use Rattle.part_accidentals.proofs.put_row.Goals as goal
 
 pub returns : goal.returns

@@ -2,7 +2,6 @@
 use mathlib.Core.Path.{ap}
 use Rattle.part_accidentals.specs.Resolving.{signs}
 use Rattle.part_accidentals.proofs.Resolving.{marked_taken, by_own, by_scope}
-use borrow.Author.Rules.{rules}
 use native.Mathlib.Omega.{arith}
 use Rattle.part_accidentals.proofs.resolve_abc_pitch.Goals as goal
 

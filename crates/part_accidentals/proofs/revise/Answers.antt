@@ -4,7 +4,6 @@ use mathlib.Core.Path.{refl, ap, ◌∙◌}
 use Rattle.laws.specs.Bytes.{splice}
 use Rattle.laws.proofs.Splices.{spliced_next}
 use Rattle.part_rows.specs.Encoded.{scope_slot}
-use borrow.Author.Rules.{rules}
 use Rattle.part_accidentals.proofs.revise.Goals as goal
 
 pub returns : goal.returns

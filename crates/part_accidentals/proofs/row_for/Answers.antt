@@ -1,6 +1,5 @@
 -- `part_accidentals::row_for` meets its contract: there is one, or it is new.
 use Rattle.part_accidentals.proofs.Resolving.{row_found, row_put}
-use borrow.Author.Rules.{rules}
 use Rattle.part_accidentals.proofs.row_for.Goals as goal
 
 pub returns-then-found-ne0 : goal.returns-then-found-ne0

@@ -5,7 +5,6 @@ use lib.ListN.{get_or}
 use Rattle.part_rows.specs.Encoded.{slot_alter_at, slot_cents_at}
 use Rattle.part_scopes.proofs.Places.{place_inside}
 use Rattle.part_accidentals.proofs.Resolving.{given_inside, by_slot, by_key}
-use borrow.Author.Rules.{rules}
 use native.Mathlib.Omega.{arith}
 use Rattle.part_accidentals.proofs.unmarked.Goals as goal
 

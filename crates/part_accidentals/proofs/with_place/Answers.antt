@@ -3,7 +3,6 @@ use Prim.Native.Nat.{ℕ}
 use mathlib.Core.Path.{sym, ap}
 use lib.ListN.{set}
 use Rattle.part_accidentals.proofs.Places.{four_set}
-use borrow.Author.Rules.{rules}
 use Rattle.part_accidentals.proofs.with_place.Goals as goal
 
 pub returns-then-voice-eq0 : goal.returns-then-voice-eq0

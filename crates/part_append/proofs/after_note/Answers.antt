@@ -1,5 +1,4 @@
 -- `part_append::after_note` meets its contract.
-use borrow.Author.Rules.{rules}
 use Rattle.part_append.proofs.after_note.Goals as goal
 
 pub returns : goal.returns

@@ -1,7 +1,6 @@
 -- `part_append::append` meets its contract.
 use Rattle.part_invariant.proofs.Appending.{append_overlay, append_place, append_some, append_head}
 use Rattle.part_append.proofs.Appending.{counts_on, appends_on}
-use borrow.Author.Rules.{rules}
 use native.Mathlib.Omega.{arith}
 use Rattle.part_append.proofs.append.Goals as goal
 

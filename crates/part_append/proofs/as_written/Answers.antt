@@ -1,7 +1,6 @@
 -- `part_append::as_written` meets its contract.
 use mathlib.Core.Path.{ap, ◌∙◌}
 use Rattle.part_registers.specs.Notes.{halved_row}
-use borrow.Author.Rules.{rules}
 use Rattle.part_append.proofs.as_written.Goals as goal
 
 pub returns : goal.returns

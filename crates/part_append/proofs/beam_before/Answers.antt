@@ -1,6 +1,5 @@
 -- `part_append::beam_before` meets its contract.
 use Rattle.part_append.proofs.Appending.{before_none, before_plain, before_first, before_later}
-use borrow.Author.Rules.{rules}
 use native.Mathlib.Omega.{arith}
 use Rattle.part_append.proofs.beam_before.Goals as goal
 

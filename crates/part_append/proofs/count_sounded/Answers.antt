@@ -1,7 +1,6 @@
 -- `part_append::count_sounded` meets its contract.
 use borrow.Author.Tests.{eq-eqb, ne_eqb}
 use Rattle.part_invariant.specs.Appended.{sounded_on}
-use borrow.Author.Rules.{rules}
 use Rattle.part_append.proofs.count_sounded.Goals as goal
 
 pub returns-then-overlay-ne0 : goal.returns-then-overlay-ne0

@@ -1,5 +1,4 @@
 -- `part_append::place` meets its contract.
-use borrow.Author.Rules.{rules}
 use Rattle.part_append.proofs.place.Goals as goal
 
 pub returns : goal.returns

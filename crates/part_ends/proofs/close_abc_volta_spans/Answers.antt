@@ -1,15 +1,8 @@
 -- `part_ends::close_abc_volta_spans` meets its contract: measures done and measures left (`Going`).
-use Prim.Native.Nat.{◌+◌, ◌-◌, ◌*◌, ◌≤◌}
-use mathlib.Core.Path.{◌≡◌, refl}
-use mathlib.Core.List.{List}
+use mathlib.Core.Path.{refl}
 use native.Mathlib.Omega.{arith}
-use lib.ListN.{length}
-use Rattle.part_layout.specs.Log.{Head}
-use Rattle.part_rows.specs.Table.{Table, Only}
-use Rattle.part_measures.specs.Heads.{head_row}
 use Rattle.part_rows.proofs.Tables.{only_none, only_then}
-use Rattle.reader.specs.Records.{measure_width}
-use Rattle.part_ends.proofs.Closing.{Going, going_start, going_turn, going_end}
+use Rattle.part_ends.proofs.Closing.{going_start, going_turn, going_end}
 use borrow.Author.Rules.{rules}
 use Rattle.part_ends.proofs.close_abc_volta_spans.Goals as goal
 
@@ -20,9 +13,9 @@ pub loop-i-preserved : goal.loop-i-preserved
 loop-i-preserved c =
     let v = c.loop-i.invariant in
     let e = c.close_at-span.ensures in
-    (search rules, search rules, only_then v.2 e.0, λ heads t h. going_turn (v.3 heads t h) c.loop-i-test.true e.1)
+    (search rules, search rules, only_then v.2 e.only, λ heads t h. going_turn (v.3 heads t h) c.loop-i-test.true e.table)
 
 pub returns : goal.returns
 returns c =
     let v = c.loop-i.invariant in
-    (v.2, λ heads t h. going_end (v.3 heads t h) (omega arith))
+    record { only = v.2; table = λ heads t h. going_end (v.3 heads t h) (omega arith) }

@@ -1,16 +1,13 @@
 -- `part_ends::close_abc_volta_spans` meets its contract: measures done and measures left (`Going`).
 use Prim.Native.Nat.{◌+◌, ◌-◌, ◌*◌, ◌≤◌}
-use mathlib.Core.Path.{◌≡◌, refl}
+use mathlib.Core.Path.{◌≡◌}
 use mathlib.Core.List.{List}
-use native.Mathlib.Omega.{arith}
 use lib.ListN.{length}
 use Rattle.part_layout.specs.Log.{Head}
 use Rattle.part_rows.specs.Table.{Table, Only}
 use Rattle.part_measures.specs.Heads.{head_row}
-use Rattle.part_rows.proofs.Tables.{only_none, only_then}
 use Rattle.reader.specs.Records.{measure_width}
-use Rattle.part_ends.proofs.Closing.{Going, going_start, going_turn, going_end}
-use borrow.Author.Rules.{rules}
+use Rattle.part_ends.proofs.Closing.{Going}
 use Rattle.part_ends.proofs.close_abc_volta_spans.Given as goal
 
 abbrev pub invariant-loop-i : goal.invariant-loop-i

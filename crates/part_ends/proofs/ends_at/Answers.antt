@@ -3,7 +3,6 @@ use native.Mathlib.Omega.{arith}
 use mathlib.Core.Path.{sym, ◌∙◌}
 use Rattle.part_measures.specs.Heads.{right_at}
 use Rattle.part_ends.proofs.Closing.{ends_right, ends_last, ends_next, right_byte, byte_of}
-use borrow.Author.Rules.{rules}
 use Rattle.part_ends.proofs.ends_at.Goals as goal
 
 pub returns-then-ends_ending : goal.returns-then-ends_ending

@@ -1,6 +1,5 @@
 -- `part_registers::after_half` meets its contract.
 use Rattle.part_registers.specs.Notes.{halved_row}
-use borrow.Author.Rules.{rules}
 use Rattle.part_registers.proofs.after_half.Goals as goal
 
 pub returns-in-Nothing : goal.returns-in-Nothing

@@ -1,6 +1,5 @@
 -- `part_registers::apply_abc_tuplet` meets its contract.
 use Rattle.part_registers.specs.Notes.{grouped_row}
-use borrow.Author.Rules.{rules}
 use Rattle.part_registers.proofs.apply_abc_tuplet.Goals as goal
 
 pub returns-in-Nothing : goal.returns-in-Nothing

@@ -1,7 +1,6 @@
 -- `part_registers::beamed_new` meets its contract.
 use borrow.Author.Tests.{eq-eqb, ne_eqb}
 use Rattle.part_registers.specs.Notes.{beamed_row}
-use borrow.Author.Rules.{rules}
 use Rattle.part_registers.proofs.beamed_new.Goals as goal
 
 pub returns-then-run-eq0 : goal.returns-then-run-eq0

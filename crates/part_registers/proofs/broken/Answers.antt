@@ -1,6 +1,5 @@
 -- `part_registers::broken` meets its contract.
 use Rattle.part_registers.specs.Notes.{broken_row}
-use borrow.Author.Rules.{rules}
 use Rattle.part_registers.proofs.broken.Goals as goal
 
 pub returns : goal.returns

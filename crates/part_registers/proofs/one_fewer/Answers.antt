@@ -1,7 +1,6 @@
 -- `part_registers::one_fewer` meets its contract.
 use borrow.Author.Tests.{le-leb, lt-leb}
 use Rattle.part_registers.specs.Notes.{fewer}
-use borrow.Author.Rules.{rules}
 use Rattle.part_registers.proofs.one_fewer.Goals as goal
 
 pub returns-then-remaining-le1 : goal.returns-then-remaining-le1

@@ -1,7 +1,6 @@
 -- `part_registers::update_abc_beam_run` meets its contract.
 use borrow.Author.Tests.{eq-eqb, ne_eqb}
 use Rattle.part_registers.specs.Notes.{run_again}
-use borrow.Author.Rules.{rules}
 use Rattle.part_registers.proofs.update_abc_beam_run.Goals as goal
 
 pub returns-then-run-eq0 : goal.returns-then-run-eq0

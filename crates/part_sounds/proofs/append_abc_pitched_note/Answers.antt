@@ -1,6 +1,5 @@
 -- `part_sounds::append_abc_pitched_note` meets its contract.
 use Rattle.part_sounds.proofs.Deferring.{once_appended_note}
-use borrow.Author.Rules.{rules}
 use Rattle.part_sounds.proofs.append_abc_pitched_note.Goals as goal
 
 pub returns : goal.returns

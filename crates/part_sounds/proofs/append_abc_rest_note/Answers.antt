@@ -1,5 +1,4 @@
 -- `part_sounds::append_abc_rest_note` meets its contract.
-use borrow.Author.Rules.{rules}
 use Rattle.part_sounds.proofs.append_abc_rest_note.Goals as goal
 
 pub returns : goal.returns

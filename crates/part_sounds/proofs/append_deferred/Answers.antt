@@ -1,6 +1,5 @@
 -- `part_sounds::append_deferred` meets its contract.
 use mathlib.Core.Path.{refl}
-use borrow.Author.Rules.{rules}
 use Rattle.laws.proofs.Bools.{both_true}
 use Rattle.part_sounds.proofs.append_deferred.Goals as goal
 

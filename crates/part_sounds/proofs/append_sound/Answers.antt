@@ -1,5 +1,4 @@
 -- `part_sounds::append_sound` meets its contract.
-use borrow.Author.Rules.{rules}
 use Rattle.part_sounds.proofs.append_sound.Goals as goal
 
 pub returns : goal.returns

@@ -1,5 +1,4 @@
 -- `part_sounds::defer_nothing` meets its contract.
-use borrow.Author.Rules.{rules}
 use Rattle.part_sounds.proofs.defer_nothing.Goals as goal
 
 pub returns : goal.returns

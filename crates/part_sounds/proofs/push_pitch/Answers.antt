@@ -1,6 +1,5 @@
 -- `part_sounds::push_pitch` meets its contract.
 use Rattle.part_sounds.proofs.Sounding.{push_overlay, pushes}
-use borrow.Author.Rules.{rules}
 use native.Mathlib.Omega.{arith}
 use Rattle.part_sounds.proofs.push_pitch.Goals as goal
 

@@ -1,5 +1,4 @@
 -- `part_sounds::rest_row` meets its contract.
-use borrow.Author.Rules.{rules}
 use Rattle.part_sounds.proofs.rest_row.Goals as goal
 
 pub returns : goal.returns

@@ -1,5 +1,4 @@
 -- `part_sounds::sound_row` meets its contract.
-use borrow.Author.Rules.{rules}
 use Rattle.part_sounds.proofs.sound_row.Goals as goal
 
 pub returns : goal.returns
