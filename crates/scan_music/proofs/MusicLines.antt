@@ -127,6 +127,30 @@ module _ (ed : Edition) (line : List ℕ) (at : ℕ) where
   ends (On p) b e t = sym (none_left p (nltb→le at (length line) (subst (λ (x : Bool). T (not x)) e t)))
   ends (Refused k) b e t = refl
 
+-- THE WALK: the cursor is at the place `at` of the line, whose end it knows; what is still to come, after the answer q so far, gives the answer of the whole line after `start`
+pub record Walked (ed : Edition) (line : List ℕ) (start q : Counted) (at end : ℕ) : Type 0 where
+  pub to_end : end ≡ length line
+  pub at_most : at ≤ length line
+  pub to_come : counted_on q (effects ed (drop at line)) ≡ counted_on start (effects ed line)
+
+module _ {ed : Edition} {line : List ℕ} {start q : Counted} {at end : ℕ} (w : Walked ed line start q at end) (b : Bool) (e : b ≡ goes_on q at end) where
+  tested : b ≡ goes_on q at (length line)
+  tested = rw w.to_end at e
+
+  -- in a turn a token is there
+  pub walked_less : b ≡ true → at < length line
+  walked_less t = goes ed line at q b tested (subst T (sym t) tt)
+
+  -- behind the loop the answer so far is the answer
+  pub walked_over : b ≡ false → q ≡ counted_on start (effects ed line)
+  walked_over t = ends ed line at q b tested (subst (λ (x : Bool). T (not x)) (sym t) tt) ∙ w.to_come
+
+  -- one token more
+  pub walked_on : b ≡ true → (s : Counted) (x : code.Effect) → x ≡ (found ed line at).effect → ((es : List Effect) → counted_on s es ≡ counted_on q (effect_as x ∷ es)) → Walked ed line start s (found ed line at).next end
+  walked_on t s x is f =
+      let h = walked_less t in
+      record { to_end = w.to_end; at_most = within ed line at h; to_come = turned ed line at h q s x is f ∙ w.to_come }
+
 -- THE LINE in the scan
 abbrev pub count_of : State → Count
 count_of st = record { notes = st.notes; unit = st.unit; top = st.top; bottom = st.bottom }

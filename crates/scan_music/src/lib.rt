@@ -104,7 +104,7 @@ fn goes_on(q: Counted, at: usize, end: usize) -> bool
     }
 }
 
-// The tokens of a line from left to right, to the first refusal: the cursor is lent for each and moved on. Proved by hand; `count_line` above it has no cursor.
+// The tokens of a line from left to right, to the first refusal: the cursor is lent for each and moved on; `count_line` below has no cursor.
 fn walk_line(edition: Edition, line: &[u8], start: Counted, classes: &[u8; 128]) -> Counted
     requires { classes.now ≡ class_table }
     ensures { result ≡ counted_on start (effects edition line.now) }

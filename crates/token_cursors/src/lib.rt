@@ -1,5 +1,5 @@
 // A place in a music line, lent by `&mut` and moved on: one token is taken, and the cursor stands behind it.
-// The borrow checker covers no function with a reference to a struct: each here is a walk of its MIR by hand, thin over the token reader.
+// Thin over the token reader.
 #![tactic(auto)]
 
 ghost use Rattle.std.specs.Prelude.{◌≡◌, ◌<◌, length, drop};
