@@ -22,7 +22,7 @@ FILES = {
     'packed': 'crates/abc/specs/Packed.antt',
     'bound': 'crates/bounds/proofs/Reading.antt',
     'played': 'crates/reading_played',
-    'library': 'crates/abc/src/lib.rt',
+    'library': 'crates/abc_c/src/lib.rt',
     'header': 'include/abc.h',
     'rust': 'bindings/rust/src/lib.rs',
     'views': 'bindings/rust/src/reading.rs',
