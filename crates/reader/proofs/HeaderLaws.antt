@@ -3,21 +3,20 @@ use Prim.Native.Nat.{ℕ}
 use mathlib.Core.Path.{◌≡◌, refl, sym, ap, subst, ◌∙◌}
 use mathlib.Core.Bool.{Bool, true, false, cond, not, ◌&&◌, false≢true}
 use mathlib.Core.Option.{Option, none, some}
-use mathlib.Core.List.{List, [], ◌∷◌, ◌++◌, map}
-use native.Mathlib.Omega.{arith}
+use mathlib.Core.List.{List, [], ◌∷◌, map}
 use lib.Dec.{eqb, leb, ltb}
 use lib.ListN.{length, drop}
 use borrow.Author.Tests.{eqb-true}
 use Rattle.laws.specs.Lists.{elem, starts_with, is_nil}
-use Rattle.laws.proofs.Bools.{by_test, both_true, and_left, and_right, and_true, and_no_right, eqb_sym}
+use Rattle.laws.proofs.Bools.{by_test, and_left, and_right, and_true, and_no_right, eqb_sym}
 use Rattle.standard.specs.Bytes.{ascii}
 use Rattle.standard.specs.Texts.{still_header}
 use Rattle.standard.specs.Keys.{Key}
 use Rattle.editions.specs.declared.Edition.{Edition}
 use Rattle.reader.specs.Text.{clean, has_high}
-use Rattle.reader.specs.Tokens.{Effect, effects}
+use Rattle.reader.specs.Tokens.{Effect}
 use Rattle.reader.specs.Keys.{key_of}
-use Rattle.reader.specs.Fields.{meter_of, unit_of, identifier, middle_word, key_refusal}
+use Rattle.reader.specs.Fields.{identifier, key_refusal}
 use Rattle.reader.specs.Lines.{begins, is_v, is_k, is_l, is_m, is_x, is_lyric, is_field, Kind, blank, refused, lyric, voice, key, meter, unit, tune, other, music, voice_kind, kind_unless, key_kind, field_kind, line_kind, kind_of}
 use Rattle.reader.specs.Steps.{TextLine, refuse, on, first, run}
 use Rattle.reader.specs.Scan.{Items, Out, ScanState, begin, most_lines, most_voices, voices_before, first_refusal, play_on, voice_on, unit_on, act, step, scan}

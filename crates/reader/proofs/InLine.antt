@@ -1,12 +1,10 @@
 -- WHAT A NOTE AND A BROKEN RHYTHM DO TO THEIR VOICE, in a line of a part: that `beams_meet` and `broken_sum` speak of what the reader does with tokens.
-use Prim.Native.Nat.{ℕ, zero, suc, ◌+◌, ◌<◌}
-use mathlib.Core.Path.{◌≡◌, refl, sym, ap, ◌∙◌}
-use mathlib.Core.Bool.{Bool, true, false, not}
-use mathlib.Core.Option.{Option, none, some}
+use Prim.Native.Nat.{ℕ, ◌+◌, ◌<◌}
+use mathlib.Core.Path.{◌≡◌, refl, ap, ◌∙◌}
+use mathlib.Core.Bool.{Bool, true, not}
+use mathlib.Core.Option.{none, some}
 use mathlib.Core.List.{List, [], ◌∷◌, ◌++◌}
-use lib.Dec.{ltb}
-use lib.ListN.{length, drop}
-use lib.Seq.{drop_at}
+use lib.ListN.{length}
 use borrow.Author.Tests.{lt-ltb}
 use native.Mathlib.Omega.{arith}
 use Rattle.laws.specs.Lists.{on_first, all, count_while}
@@ -15,9 +13,8 @@ use Rattle.reader.specs.Pitches.{chord_of}
 use Rattle.editions.specs.declared.Edition.{Edition}
 use Rattle.reader.specs.Sounds.{chord_taken, chord_at}
 use Rattle.reader.proofs.Digits.{count_while_front, drop_behind}
-use Rattle.standard.specs.Lengths.{Value, dotted, halved}
-use Rattle.reader.specs.Token.{Token, broken, Taken}
-use Rattle.reader.specs.State.{Note, Half, PartState, voice_now, set_voice, voice_in, on_open}
+use Rattle.reader.specs.Token.{broken}
+use Rattle.reader.specs.State.{Note, PartState, voice_now, set_voice, on_open}
 use Rattle.reader.specs.Part.{append, after_half, beamed, run_after, grouped, broken_note, on_broken, on_token}
 use Rattle.reader.proofs.LineLaws.{Ready, voice_set}
 

@@ -1,29 +1,28 @@
 -- SIGNS BESIDE THE NOTES, as the standard has them: ties, slurs and grace notes (4.11, 4.12), overlay (7.4), spaces between notes (4.7), the end of an ending (4.9), verses (5.1).
 use Prim.Native.Nat.{ℕ, zero, suc}
-use mathlib.Core.Path.{◌≡◌, refl, sym, ap, ◌∙◌}
-use mathlib.Core.Bool.{Bool, true, false, cond}
+use mathlib.Core.Path.{◌≡◌, refl, ap, ◌∙◌}
+use mathlib.Core.Bool.{true, false}
 use mathlib.Core.Option.{Option, none, some}
 use mathlib.Core.List.{List, [], ◌∷◌}
 use lib.Dec.{eqb}
-use lib.ListN.{take, length, get_or}
+use lib.ListN.{get_or}
 use Rattle.laws.specs.Lists.{on_first, count_while, alter_at}
 use Rattle.laws.proofs.Bools.{by_test}
 use Rattle.laws.proofs.Lists.{length_alter_at}
 use Rattle.standard.specs.Bytes.{is_digit}
 use Rattle.standard.specs.Pitches.{Written}
 use Rattle.standard.specs.Bars.{Barline, normal, repeat_start, repeat_end, repeat_both, double, final, closes_ending}
-use Rattle.standard.specs.Notes.{NoteKind, Flags, Pending, Behind, flags_of, pending_after, slur_opens, grace_opens, grace_closes, next_voice}
+use Rattle.standard.specs.Notes.{Flags, Pending, Behind, flags_of, pending_after, slur_opens, grace_opens, grace_closes, next_voice}
 use Rattle.standard.specs.Lyrics.{next_verse}
 use Rattle.editions.specs.declared.Edition.{Edition}
-use Rattle.reader.specs.Lengths.{Length, value_of}
-use Rattle.reader.specs.Pitches.{sounds_of, scope_after_all}
-use Rattle.reader.specs.Token.{Token, space, overlay, slur, grace_open, grace_close, note, chord, rest, taken}
+use Rattle.reader.specs.Lengths.{Length}
+use Rattle.reader.specs.Pitches.{scope_after_all}
+use Rattle.reader.specs.Token.{space, overlay, slur, grace_open, grace_close, note, chord, taken}
 use Rattle.reader.specs.Sounds.{behind}
-use Rattle.reader.specs.Tokens.{token_of, token_as, class_of}
-use Rattle.reader.specs.Tuplets.{positive, tuplet_of, with_actual, or_slur, not_zero}
-use Rattle.reader.specs.State.{Note, Half, Measure, PartState, Volta, volta_alone, volta_ends, with_volta, set_scopes, set_pending, voice_now, set_voice, on_open}
+use Rattle.reader.specs.Tokens.{token_of}
+use Rattle.reader.specs.State.{Note, Half, Measure, PartState, volta_alone, volta_ends, with_volta, set_scopes, set_pending, voice_now, set_voice, on_open}
 use Rattle.reader.specs.Voltas.{ends_ending, starts, ends_at, close}
-use Rattle.reader.specs.Part.{can_beam, beamed, halved_note, broken_note, after_half, grouped, append, sound_note, on_sound, on_token, on_lyric, rest_note}
+use Rattle.reader.specs.Part.{can_beam, beamed, halved_note, broken_note, after_half, grouped, append, sound_note, on_sound, on_token, on_lyric}
 use Rattle.reader.specs.All.{all as everything}
 use Rattle.reader.proofs.LineLaws.{Ready}
 use Rattle.reader.proofs.InLine.{voice_after}

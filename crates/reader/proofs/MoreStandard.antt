@@ -1,37 +1,34 @@
 -- MORE PLACES WHERE THE READER AND THE STANDARD AGREE: note lengths as written (4.3), `(p` and `(p:q` (4.13), accidentals to the bar's end (4.2), lists of passes (4.10), words of lyrics (5.1), identifiers (7.1).
-use Prim.Native.Nat.{ℕ, zero, suc, ◌+◌, ◌-◌, ◌*◌, ◌^◌, ◌≤◌, ◌<◌}
-use mathlib.Core.Path.{◌≡◌, refl, sym, ap, ◌∙◌}
-use mathlib.Core.Bool.{Bool, true, false, cond, not, ◌&&◌, false≢true}
+use Prim.Native.Nat.{ℕ, suc, ◌+◌, ◌^◌, ◌≤◌, ◌<◌}
+use mathlib.Core.Path.{◌≡◌, refl, ap, ◌∙◌}
+use mathlib.Core.Bool.{Bool, true, false, not, ◌&&◌, false≢true}
 use mathlib.Core.Option.{Option, none, some}
-use mathlib.Core.List.{List, [], ◌∷◌, ◌++◌, append-nil}
-use native.Mathlib.Nat.{not-suc-le-zero}
+use mathlib.Core.List.{List, [], ◌∷◌, ◌++◌}
 use native.Mathlib.Omega.{arith}
-use lib.Dec.{eqb, ltb}
-use lib.ListN.{length, take, drop}
+use lib.Dec.{eqb}
+use lib.ListN.{length, drop}
 use lib.Seq.{take-append_seam, drop_at}
-use borrow.Author.Tests.{eqb-true, le-leb, le-ltb, lt-ltb, ne_eqb}
-use Rattle.laws.specs.Lists.{all, count_while, eq_text, is_nil, filter, starts_with}
-use Rattle.laws.proofs.Bools.{by_test, both_true, and_left, and_right, and_both, eqb_same}
+use borrow.Author.Tests.{eqb-true, le-ltb, lt-ltb}
+use Rattle.laws.specs.Lists.{all, count_while, eq_text}
+use Rattle.laws.proofs.Bools.{by_test, and_left, and_right, eqb_same}
 use Rattle.standard.specs.Bytes.{ascii, is, is_digit, first, last, decimal}
-use Rattle.standard.specs.Pitches.{Accidental, Written, Pitch, altered}
+use Rattle.standard.specs.Pitches.{Accidental, Written, altered}
 use Rattle.standard.specs.Keys.{Key, key_alter}
-use Rattle.standard.specs.Tuplets.{usual_normal}
-use Rattle.standard.specs.Passes.{pass, passes, passes_of}
-use Rattle.standard.specs.Lyrics.{Word, syllable, single, syllable_text, syllables, syllabic_of}
+use Rattle.standard.specs.Passes.{pass, passes_of}
+use Rattle.standard.specs.Lyrics.{syllable, single, syllable_text, syllables, syllabic_of}
 use Rattle.editions.specs.declared.Edition.{Edition}
 use Rattle.editions.specs.declared.Edition.TheVariants.{Second}
 use Rattle.reader.specs.Text.{is_space}
 use Rattle.reader.specs.Pieces.{pieces, words, separator, field_words}
 use Rattle.reader.specs.Fields.{first_word, identifier}
-use Rattle.reader.specs.Lengths as lengths
 use Rattle.reader.specs.Lengths.{Length, number, slashes, length_over, length_of}
 use Rattle.reader.specs.Pitches.{Scope, remembered, or_key, sound_by, sound_of, scope_by, scope_after}
-use Rattle.reader.specs.Token.{taken, tuplet, volta}
-use Rattle.reader.specs.Tuplets.{normal_for, counted, with_count, with_normal, with_actual, tuplet_of, tuplet_token}
+use Rattle.reader.specs.Token.{taken, tuplet}
+use Rattle.reader.specs.Tuplets.{normal_for, with_count, with_normal, with_actual, tuplet_of}
 use Rattle.reader.specs.PassesInTurn.{pass_number, item_of, last_pass, in_turn, pass_list}
 use Rattle.reader.specs.PassesInTurn as lists
 use Rattle.reader.specs.Lyrics.{word_of, or_skip}
-use Rattle.reader.proofs.Digits.{digit_not, count_while_front, drop_behind, digits_some, pieces_digits}
+use Rattle.reader.proofs.Digits.{count_while_front, drop_behind, digits_some, pieces_digits}
 use Rattle.reader.proofs.LengthLaws.{no_slash, lone_slash, length_by, over_many}
 use Rattle.reader.proofs.Standard.{positive_meets, part_meets}
 

@@ -2,7 +2,7 @@
 use Prim.Native.Nat.{ℕ, suc, ◌+◌, ◌*◌, ◌-◌, ◌≤◌}
 use mathlib.Core.Path.{◌≡◌, refl, sym, ap, ap₂, ◌∙◌}
 use mathlib.Core.Logic.{◌⊎◌, inl, inr}
-use mathlib.Core.Bool.{Bool, true, false, cond, not, ◌&&◌, false≢true}
+use mathlib.Core.Bool.{Bool, true, false, cond, ◌&&◌, false≢true}
 use mathlib.Core.Option.{Option, none, some}
 use mathlib.Core.List.{List, [], ◌∷◌, ◌++◌}
 use native.Mathlib.Omega.{arith}
@@ -11,7 +11,7 @@ use lib.ListN.{length, take}
 use borrow.Author.Tests.{leb-true, leb-false, le-leb, ne_eqb, eqb-true, eqb-false}
 use Rattle.laws.specs.Lists.{all, count_while}
 use Rattle.laws.proofs.Bools.{by_test, and_left, and_right, and_assoc}
-use Rattle.standard.specs.Bytes.{is, is_digit, first, decimal, digits}
+use Rattle.standard.specs.Bytes.{is, is_digit, decimal, digits}
 use Rattle.standard.specs.Passes.{Item, pass, passes, passes_of}
 use Rattle.reader.specs.Pieces.{pieces, separator}
 use Rattle.reader.specs.Token.{Taken, taken, refused}

@@ -1,17 +1,16 @@
 -- LISTS OF PASSES (ABC 2.1, 4.10) of any length: `[` and a list that is written as the standard says, within document 01's limits, is read as its passes.
 use Prim.Native.Nat.{ℕ, suc, ◌≤◌, ◌<◌}
-use mathlib.Core.Path.{◌≡◌, refl, sym, ap, ◌∙◌}
+use mathlib.Core.Path.{◌≡◌, refl, ap, ◌∙◌}
 use mathlib.Core.Bool.{Bool, true, false, not, ◌&&◌, ◌||◌}
-use mathlib.Core.Option.{Option, none, some}
+use mathlib.Core.Option.{some}
 use mathlib.Core.List.{List, [], ◌∷◌, ◌++◌}
 use native.Mathlib.Omega.{arith}
-use lib.Dec.{eqb, ltb}
-use lib.ListN.{length, take}
+use lib.ListN.{length}
 use lib.Seq.{take-append_seam}
 use borrow.Author.Tests.{lt-ltb}
 use Rattle.laws.specs.Lists.{All, all, count_while}
-use Rattle.laws.proofs.Bools.{and_left, and_right, and_both, or_left, or_right}
-use Rattle.standard.specs.Bytes.{is, is_digit, first, decimal}
+use Rattle.laws.proofs.Bools.{and_left, and_right, and_both, or_left}
+use Rattle.standard.specs.Bytes.{is, is_digit, first}
 use Rattle.standard.specs.Passes.{pass, passes, passes_of}
 use Rattle.standard.specs.Texts.{Number, commaed, PassesText, ended, number, range}
 use Rattle.reader.specs.Token.{taken, volta}

@@ -6,7 +6,7 @@ use mathlib.Core.Option.{Option, none, some}
 use mathlib.Core.List.{List, [], ◌∷◌, ◌++◌, map, reverse}
 use native.Mathlib.Omega.{arith}
 use lib.ListN.{length, length-map, length-append}
-use Rattle.laws.specs.Lists.{foldl, All, any, concat, sum}
+use Rattle.laws.specs.Lists.{foldl, All, any, sum}
 use Rattle.laws.specs.Bytes.{little, le32}
 use Rattle.laws.proofs.Bools.{by_test}
 use Rattle.laws.proofs.Numbers.{length_little}

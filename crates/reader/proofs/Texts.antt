@@ -1,18 +1,18 @@
 -- WHAT IS WRITTEN AS THE STANDARD SAYS IS READ AS IT SAYS: the laws for `Texts` of crate standard, in the ranges that each one names.
-use Prim.Native.Nat.{ℕ, zero, suc, ◌+◌, ◌-◌, ◌^◌, ◌≤◌, ◌<◌}
-use mathlib.Core.Path.{◌≡◌, refl, sym, ap, subst, ◌∙◌}
-use mathlib.Core.Bool.{Bool, true, false, cond, not, ◌&&◌, ◌||◌, false≢true}
+use Prim.Native.Nat.{ℕ, suc, ◌+◌, ◌-◌, ◌^◌, ◌≤◌, ◌<◌}
+use mathlib.Core.Path.{◌≡◌, refl, sym, ap, ◌∙◌}
+use mathlib.Core.Bool.{Bool, true, false, not, ◌&&◌, ◌||◌}
 use mathlib.Core.Option.{Option, none, some}
 use mathlib.Core.List.{List, [], ◌∷◌, ◌++◌, append_assoc}
 use native.Mathlib.Nat.{not-suc-le-zero}
 use native.Mathlib.Omega.{arith}
 use lib.Dec.{eqb, leb}
-use lib.ListN.{length, length-append, drop, get_or}
+use lib.ListN.{length, length-append, get_or}
 use borrow.Author.Tests.{eqb-true}
 use Rattle.laws.specs.Lists.{All, all, count_while, eq_text, filter, is_nil}
-use Rattle.laws.proofs.Bools.{by_test, both_true, and_left, and_right, and_both, and_no_right, or_no_left, or_no_right, not_true}
-use Rattle.standard.specs.Bytes.{ascii, is, is_digit, is_capital, first, last, decimal}
-use Rattle.standard.specs.Tuplets.{Tuplet, usual_normal, default_normal, normal_in}
+use Rattle.laws.proofs.Bools.{by_test, and_left, and_right, and_both, and_no_right, or_no_left, or_no_right, not_true}
+use Rattle.standard.specs.Bytes.{is, is_digit, is_capital, first, last}
+use Rattle.standard.specs.Tuplets.{Tuplet, default_normal, normal_in}
 use Rattle.standard.specs.Notes as notes
 use Rattle.standard.specs.Notes.{NoteKind}
 use Rattle.standard.specs.Lyrics as lyric_words_lem
@@ -21,7 +21,7 @@ use Rattle.standard.specs.Texts.{Number, is_field_line, MeterText, common, cut, 
 use Rattle.standard.specs.Texts as texts
 use Rattle.editions.specs.declared.Edition.{Edition}
 use Rattle.editions.specs.declared.Edition.TheVariants.{Second}
-use Rattle.reader.specs.Pieces.{pieces, words, separator}
+use Rattle.reader.specs.Pieces.{words, separator}
 use Rattle.reader.specs.Fields.{meter_of, unit_of, unit_inline, identifier}
 use Rattle.reader.specs.Lengths.{Length, length_of}
 use Rattle.reader.specs.Pitches.{chord_of}

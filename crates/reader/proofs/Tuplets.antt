@@ -1,7 +1,7 @@
 -- THE DEFAULTS OF TUPLETS in both editions: no greater than a byte; in the first edition never left to the meter, in the second those of 5, 7 and 9 alone.
-use Prim.Native.Nat.{ℕ, zero, suc, ◌^◌, ◌-◌, ◌+◌, ◌≤◌, ◌<◌}
-use mathlib.Core.Path.{◌≡◌, refl, sym, ap, ◌∙◌, subst}
-use mathlib.Core.Bool.{Bool, true, false, ◌||◌}
+use Prim.Native.Nat.{ℕ, zero, suc, ◌+◌, ◌≤◌, ◌<◌}
+use mathlib.Core.Path.{◌≡◌, refl, sym, subst}
+use mathlib.Core.Bool.{false, ◌||◌}
 use mathlib.Core.Option.{Option, none, some}
 use mathlib.Core.List.{List}
 use native.Mathlib.Omega.{arith}
@@ -15,7 +15,7 @@ use Rattle.standard.specs.Tuplets.{Tuplet, usual_normal, waits_for_meter, defaul
 use Rattle.standard.specs.Fields.{Meter}
 use Rattle.editions.specs.declared.Edition.{Edition}
 use Rattle.editions.specs.declared.Edition.TheVariants.{First, Second}
-use Rattle.reader.specs.Token.{Token, tuplet, Taken, taken}
+use Rattle.reader.specs.Token.{tuplet, Taken, taken}
 use Rattle.reader.specs.Tuplets.{not_zero, positive, or_one_less, normal_for, counted, with_count, with_normal, with_actual, tuplet_of, tuplet_token, part_or}
 use Rattle.reader.specs.Part.{in_meter}
 

@@ -1,13 +1,12 @@
 -- THE ANSWER AND BOTH STORES of `parse_abc`, for every text and both store lengths. Nothing of what the stores held before shows.
-use Rattle.std.specs.Prelude.{ℕ, zero, suc, ◌+◌, ◌*◌, ◌-◌, max, Bool, true, false, cond, not, ◌||◌, List, [], ◌∷◌, ◌++◌, leb, length}
+use Rattle.std.specs.Prelude.{ℕ, zero, suc, ◌+◌, ◌*◌, ◌-◌, max, Bool, true, false, cond, List, [], ◌∷◌, ◌++◌, leb, length}
 use Rattle.std.proofs.Math.Option.{Option, none, some}
 use Rattle.laws.specs.Lists.{sum, any}
 use Rattle.laws.specs.Bytes.{le32, zeros}
-use Rattle.standard.specs.Keys.{Key}
 use Rattle.editions.specs.declared.Edition.{Edition}
 use Rattle.reader.specs.Text.{is_utf8, is_blank, text_lines}
-use Rattle.reader.specs.Steps.{Step, refuse, on, items_of}
-use Rattle.reader.specs.Scan.{Item, voice_declared, reset, key_in_header, key_change, meter_change, lyric_line, music_line, Env, ScanState, scan, Out}
+use Rattle.reader.specs.Steps.{refuse, on, items_of}
+use Rattle.reader.specs.Scan.{Item, voice_declared, reset, key_in_header, key_change, meter_change, lyric_line, music_line, Env, scan, Out}
 use Rattle.reader.specs.Part.{Part, build, empty_part}
 use Rattle.reader.specs.Records.{sections}
 

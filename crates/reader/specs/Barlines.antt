@@ -1,9 +1,9 @@
 -- BARLINES (ABC 2.1, 4.8; 000, parse_barline).
-use Rattle.std.specs.Prelude.{ℕ, Bool, true, false, not, List, length, drop}
+use Rattle.std.specs.Prelude.{ℕ, not, List, length, drop}
 use Rattle.std.proofs.Math.Option.{Option, none, some}
 use Rattle.standard.specs.Bytes.{is, first}
 use Rattle.standard.specs.Bars.{Barline, normal, repeat_start, repeat_end, repeat_both, double, final, Symbol, bar_symbols, symbol_at}
-use Rattle.reader.specs.Token.{Token, barline, skipped, Taken, taken}
+use Rattle.reader.specs.Token.{barline, skipped, Taken, taken}
 
 -- the left barline of the measure behind it: `|:`, `::` and `||` stand there too
 abbrev pub left_of : Barline → Barline

@@ -1,5 +1,5 @@
 -- THE NUMBERS THAT DOCUMENT 01 GIVES TO EACH CASE ("The reading").
-use Rattle.std.specs.Prelude.{ℕ, Bool, true, false, cond}
+use Rattle.std.specs.Prelude.{ℕ, Bool, cond}
 use Rattle.standard.specs.Bars.{Barline, normal, repeat_start, repeat_end, repeat_both, double, final}
 use Rattle.standard.specs.Notes.{NoteKind, sounded, rest, invisible_rest, bar_rest, invisible_bar_rest, Beam, unbeamed, begins, continues, ends}
 use Rattle.standard.specs.Lyrics

@@ -1,5 +1,5 @@
 -- THE KINDS OF LINES: a line, cut and trimmed, is a lyric line, a field or music ("A letter and `:` at the start is a field").
-use Rattle.std.specs.Prelude.{ℕ, Bool, true, false, cond, ◌&&◌, ◌||◌, List, [], ◌∷◌, eqb, ltb, length, drop}
+use Rattle.std.specs.Prelude.{ℕ, Bool, false, cond, ◌&&◌, ◌||◌, List, [], ◌∷◌, eqb, ltb, length, drop}
 use Rattle.std.proofs.Math.Option.{Option, none, some}
 use Rattle.laws.specs.Lists.{is_nil}
 use Rattle.standard.specs.Keys.{Key}

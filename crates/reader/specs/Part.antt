@@ -1,5 +1,5 @@
 -- ONE PART FROM ITS OWN ITEMS: the fold of tokens and items into measures (document 01, "Rules behind the records"; 000, parse_body_line).
-use Rattle.std.specs.Prelude.{ℕ, zero, suc, ◌+◌, ◌-◌, Bool, true, false, cond, not, ◌&&◌, ◌||◌, List, [], ◌∷◌, ◌++◌, map, reverse, leb, eqb, get_or, replicate}
+use Rattle.std.specs.Prelude.{ℕ, zero, suc, ◌+◌, ◌-◌, Bool, true, false, cond, not, ◌&&◌, List, [], ◌∷◌, map, reverse, leb, eqb, get_or, replicate}
 use Rattle.std.proofs.Math.Option.{Option, none, some}
 use Rattle.laws.specs.Lists.{foldl, alter_at, on_first}
 use Rattle.standard.specs.Lengths.{Value, dotted, halved}
@@ -14,12 +14,12 @@ use Rattle.standard.specs.Fields.{Meter}
 use Rattle.editions.specs.declared.Edition.{Edition}
 use Rattle.editions.specs.declared.Edition.TheVariants.{First, Second}
 use Rattle.reader.specs.Lengths.{Length, value_of}
-use Rattle.reader.specs.Pitches.{Scope, sounds_of, scope_after_all}
+use Rattle.reader.specs.Pitches.{sounds_of, scope_after_all}
 use Rattle.reader.specs.Token.{Token, space, overlay, quoted, broken, tuplet, slur, grace_open, grace_close, decoration, barline, volta, unit, meter, key, field, chord, rest, note, nothing, skipped, refused}
 use Rattle.reader.specs.Barlines.{left_of}
 use Rattle.reader.specs.Tokens.{tokens}
 use Rattle.reader.specs.Scan.{Item, voice_declared, reset, key_in_header, key_change, meter_change, lyric_line, music_line}
-use Rattle.reader.specs.State.{Group, Note, Volta, volta_begins, Measure, Half, Running, Line, Sung, Verses, PartState, with_beam, with_value, with_group, with_left, with_right, with_meter, with_key_mark, with_volta, set_key, set_scopes, set_measures, set_pending, set_verses, set_line, with_run, with_overlay, with_half, with_tuplet, with_unit, with_time, no_scopes, new_measure, new_line, new_part, on_open, is_empty, voice_now, set_voice}
+use Rattle.reader.specs.State.{Group, Note, volta_begins, Measure, Half, Running, Verses, PartState, with_beam, with_value, with_group, with_left, with_right, with_meter, with_key_mark, with_volta, set_key, set_scopes, set_measures, set_pending, set_verses, set_line, with_run, with_overlay, with_half, with_tuplet, with_unit, with_time, no_scopes, new_measure, new_line, new_part, on_open, is_empty, voice_now, set_voice}
 use Rattle.reader.specs.Voltas.{closed}
 use Rattle.reader.specs.Lyrics.{Syllable, sung_in}
 

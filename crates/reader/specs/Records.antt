@@ -5,7 +5,7 @@ use Rattle.laws.specs.Lists.{concat}
 use Rattle.laws.specs.Bytes.{le32}
 use Rattle.standard.specs.Keys.{Key}
 use Rattle.standard.specs.Pitches.{Pitch}
-use Rattle.standard.specs.Notes.{is_sounded, Flags}
+use Rattle.standard.specs.Notes.{is_sounded}
 use Rattle.reader.specs.State.{Note, Measure}
 use Rattle.reader.specs.Lyrics.{Syllable}
 use Rattle.reader.specs.Part.{Part, can_beam}

@@ -1,5 +1,5 @@
 -- NOTES, RESTS AND CHORDS (ABC 2.1, 4.1 to 4.5, 4.11, 4.17; 000, parse_abc_chord and parse_body_line; document 02, T-04).
-use Rattle.std.specs.Prelude.{ℕ, suc, ◌+◌, Bool, true, false, cond, not, List, [], ◌∷◌, ltb, length, drop}
+use Rattle.std.specs.Prelude.{ℕ, suc, ◌+◌, true, false, cond, not, List, [], ◌∷◌, ltb, length, drop}
 use Rattle.std.proofs.Math.Option.{Option, none, some}
 use Rattle.laws.specs.Lists.{count_while}
 use Rattle.standard.specs.Bytes.{is}
@@ -7,8 +7,8 @@ use Rattle.standard.specs.Pitches.{Written, is_letter, step_of}
 use Rattle.standard.specs.Notes.{NoteKind, Behind}
 use Rattle.editions.specs.declared.Edition.{Edition}
 use Rattle.reader.specs.Lengths.{Length, length_of, many_slashes}
-use Rattle.reader.specs.Pitches.{Octave, octave_of, Before, accidental_of, chord_of}
-use Rattle.reader.specs.Token.{Token, chord, rest, note, nothing, refused, Taken, taken}
+use Rattle.reader.specs.Pitches.{octave_of, Before, accidental_of, chord_of}
+use Rattle.reader.specs.Token.{chord, rest, note, nothing, refused, Taken, taken}
 
 -- ties and slur ends right behind a note (ABC 2.1, 4.11)
 unfoldable pub behind : List ℕ → Behind

@@ -1,5 +1,5 @@
 -- WHAT A PART IS WHILE ITS ITEMS ARE READ: notes, measures, and what is pending. Lists that grow are kept with the newest first.
-use Rattle.std.specs.Prelude.{ℕ, Bool, true, false, List, [], ◌∷◌, get_or}
+use Rattle.std.specs.Prelude.{ℕ, Bool, List, [], ◌∷◌, get_or}
 use Rattle.std.proofs.Math.Option.{Option, none, some}
 use Rattle.laws.specs.Lists.{all, alter_at, on_first, is_nil}
 use Rattle.standard.specs.Pitches.{Pitch}

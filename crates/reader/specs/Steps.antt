@@ -1,5 +1,5 @@
 -- STEPS from line to line: each is refused, or goes on with a new state and items for the parts.
-use Rattle.std.specs.Prelude.{ℕ, Bool, true, false, cond, List, [], ◌∷◌, ◌++◌, eqb}
+use Rattle.std.specs.Prelude.{ℕ, cond, List, [], ◌∷◌, ◌++◌, eqb}
 
 -- a line of the text: its bytes, with its line feed
 abbrev pub TextLine : Type 0

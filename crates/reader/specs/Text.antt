@@ -1,6 +1,6 @@
 -- A TEXT AS BYTES: UTF-8, Unicode's white space, lines, and a line cut at its comment and trimmed.
 use Rattle.std.specs.Prelude.{ℕ, Bool, true, false, cond, ◌&&◌, ◌||◌, List, [], ◌∷◌, eqb, leb, ltb}
-use Rattle.laws.specs.Lists.{foldl, is_nil}
+use Rattle.laws.specs.Lists.{foldl}
 
 -- from a to b
 abbrev pub within : ℕ → ℕ → ℕ → Bool

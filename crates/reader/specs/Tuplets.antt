@@ -1,12 +1,12 @@
 -- TUPLETS `(p`, `(p:q`, `(p:q:r` (ABC 2.1, 4.13; 000, parse_abc_tuplet). Below, n bytes from the `(` on are read and s stands behind them.
-use Rattle.std.specs.Prelude.{ℕ, ◌+◌, ◌-◌, ◌^◌, Bool, true, false, cond, List, [], ◌∷◌, ltb, eqb, take, drop}
+use Rattle.std.specs.Prelude.{ℕ, ◌+◌, ◌-◌, ◌^◌, true, false, cond, List, ltb, eqb, take, drop}
 use Rattle.std.proofs.Math.Option.{Option, none, some}
 use Rattle.laws.specs.Lists.{count_while}
 use Rattle.standard.specs.Bytes.{is, is_digit, first, digits}
-use Rattle.standard.specs.Tuplets.{Tuplet, usual_normal, default_normal}
+use Rattle.standard.specs.Tuplets.{usual_normal, default_normal}
 use Rattle.editions.specs.declared.Edition.{Edition}
 use Rattle.editions.specs.declared.Edition.TheVariants.{First, Second}
-use Rattle.reader.specs.Token.{Token, tuplet, slur, Taken, taken}
+use Rattle.reader.specs.Token.{tuplet, slur, Taken, taken}
 
 -- a number that is not 0
 unfoldable pub not_zero : Option ℕ → Option ℕ

@@ -1,5 +1,5 @@
 -- BAR SYMBOLS (ABC 2.1, 4.8) and REPEATS AND ENDINGS (4.9, 4.10).
-use Rattle.std.specs.Prelude.{ℕ, Bool, true, false, cond, List, [], ◌∷◌, length}
+use Rattle.std.specs.Prelude.{ℕ, Bool, true, false, List, [], ◌∷◌}
 use Prim.Native.String.{String}
 use Rattle.std.proofs.Math.Option.{Option, none, some}
 use Rattle.laws.specs.Lists.{starts_with}

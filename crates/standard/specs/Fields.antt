@@ -1,5 +1,5 @@
 -- METER AND UNIT LENGTH FIELDS (ABC 2.1, 3.1.6 and 3.1.7).
-use Rattle.std.specs.Prelude.{ℕ, Bool, true, false, cond, List, [], ◌∷◌}
+use Rattle.std.specs.Prelude.{ℕ, true, false, cond, List}
 use Rattle.std.proofs.Math.Option.{Option, none, some}
 use Rattle.laws.specs.Lists.{eq_text}
 use Rattle.standard.specs.Bytes.{ascii}

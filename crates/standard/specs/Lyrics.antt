@@ -1,6 +1,6 @@
 -- LYRICS (ABC 2.1, 5.1): `-` splits a word into syllables, `_` holds the last one, `*` skips a note, `|` goes to the next bar, `~` is a space; no syllable on a
 -- grace note; several lines are verses.
-use Rattle.std.specs.Prelude.{ℕ, suc, min, Bool, true, false, cond, List, [], ◌∷◌, map}
+use Rattle.std.specs.Prelude.{ℕ, suc, min, Bool, true, cond, List, [], ◌∷◌, map}
 use Rattle.std.proofs.Math.Option.{Option, none, some}
 use Rattle.standard.specs.Bytes.{is}
 use Rattle.standard.specs.Notes.{Flags}

@@ -1,5 +1,5 @@
 -- RESTS (ABC 2.1, 4.5), BEAMS (4.7), TIES AND SLURS (4.11), GRACE NOTES (4.12), VOICE OVERLAY (7.4).
-use Rattle.std.specs.Prelude.{ℕ, zero, suc, min, Bool, true, false, cond, ◌&&◌, List, [], ◌∷◌, leb, replicate}
+use Rattle.std.specs.Prelude.{ℕ, zero, suc, min, Bool, true, false, ◌&&◌, List, [], ◌∷◌, leb}
 
 -- 4.5: a note or chord; `z` a rest, `x` an invisible one; `Z` and `X` the same for a whole bar
 pub data NoteKind : Type 0 where

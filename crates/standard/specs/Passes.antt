@@ -1,6 +1,5 @@
 -- PASS LISTS of endings (ABC 2.1, 4.9, 4.10): `[1`, `[2`, `[1,3`, `[1-3`: numbers and ranges, with commas between.
-use Rattle.std.specs.Prelude.{ℕ, zero, suc, ◌-◌, Bool, true, false, cond, ◌&&◌, List, [], ◌∷◌, ◌++◌, ltb}
-use Rattle.std.proofs.Math.Option.{Option, none, some}
+use Rattle.std.specs.Prelude.{ℕ, zero, suc, ◌-◌, List, [], ◌∷◌}
 
 -- n numbers from a on
 unfoldable pub rising : ℕ → ℕ → List ℕ

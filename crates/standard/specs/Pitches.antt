@@ -1,5 +1,5 @@
 -- PITCH LETTERS AND OCTAVES (ABC 2.1, 4.1), ACCIDENTALS (4.2). Signed numbers have 128 added (Bytes).
-use Rattle.std.specs.Prelude.{ℕ, ◌+◌, ◌-◌, ◌%◌, min, Bool, true, false, cond, ◌&&◌, ◌||◌, List, [], ◌∷◌, leb, ltb, eqb}
+use Rattle.std.specs.Prelude.{ℕ, ◌+◌, ◌-◌, ◌%◌, Bool, true, false, cond, ◌&&◌, ◌||◌, List, leb, ltb}
 use Rattle.std.proofs.Math.Option.{Option, none, some}
 use Rattle.laws.specs.Lists.{foldl, eq_text}
 use Rattle.standard.specs.Bytes.{ascii, is}
