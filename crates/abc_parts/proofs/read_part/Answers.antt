@@ -10,4 +10,4 @@ returns c =
     let p = c.requires in
     let b = c.build_items-r in
     let e = c.end_part-count.ensures in
-    part_read a.edition a.text.now a.scratch.now a.n a.part (key_as a.key) a.t p.1 _ b.result b.ensures p.0 _ _ e.0.1 e.1 e.0.0
+    part_read a.edition a.text.now a.scratch.now a.n a.part (key_as a.key) a.t p.1 _ b.result b.ensures p.0 _ _ e.upper_bound.1 e.value e.upper_bound.0

@@ -25,10 +25,10 @@ returns c =
     let t = c.size_part-t.result in
     let d = c.read_part-d in
     let u = c.sing_part-sheet in
-    let header = key_as a.key in (
-      part_wrote a.edition a.text.now a.scratch.now a.n a.part header t _ d.result d.ensures _ u.result u.ensures.0 u.ensures.1 c.write_sections.ensures,
-      (
+    let header = key_as a.key in record {
+      wrote_is = part_wrote a.edition a.text.now a.scratch.now a.n a.part header t _ d.result d.ensures _ u.result u.ensures.0 u.ensures.1 c.write_sections.ensures;
+      n_unchanged = (
         sung_items a.edition a.text.now a.scratch.now a.n a.part header t _ d.result d.ensures _ u.result u.ensures.0 u.ensures.1,
         sung_length a.edition a.text.now a.scratch.now a.n a.part header t _ d.result d.ensures _ u.result u.ensures.0 u.ensures.1,
-      ),
-    )
+      );
+    }
