@@ -11,11 +11,11 @@ use Rattle.laws.proofs.Bools.{by_test}
 use Rattle.standard.specs.Bytes.{is, is_digit, first}
 use Rattle.standard.specs.Keys.{Key}
 use Rattle.editions.specs.declared.Edition.{Edition}
-use Rattle.reader.specs.Token.{Token, Taken, key}
+use Rattle.reader.specs.Token.{Token, Taken}
 use Rattle.reader.specs.Tuplets.{positive, counted, with_count, with_normal, with_actual, tuplet_of, or_slur, part_or, normal_for}
 use Rattle.reader.specs.PassLists.{Listed, listed, faulty, volta_as}
 use Rattle.reader.specs.Inline.{unit_token, key_token, field_token, token_unless}
-use Rattle.reader.specs.Fields.{unit_inline, middle_word, key_refusal}
+use Rattle.reader.specs.Fields.{unit_inline, key_refusal}
 use Rattle.reader.specs.Tokens.{closed_by, broken_of}
 use Rattle.reader.specs.Keys.{key_of}
 use Rattle.capacity.specs.Covers.{makes, none_made_lem}

@@ -1,10 +1,10 @@
 -- ASCII is UTF-8.
-use Prim.Native.Nat.{ℕ, ◌≤◌}
+use Prim.Native.Nat.{ℕ}
 use mathlib.Core.Path.{◌≡◌, refl, ap, ◌∙◌}
 use mathlib.Core.Bool.{true, false}
 use mathlib.Core.List.{List, [], ◌∷◌}
 use borrow.Author.Tests.{ltb-false, le-leb}
-use lib.Dec.{leb, ltb}
+use lib.Dec.{ltb}
 use Rattle.laws.specs.Lists.{foldl}
 use Rattle.laws.proofs.Bools.{or_no_left, or_no_right}
 use Rattle.reader.specs.Text.{Utf8, between, utf8_step, is_between, is_utf8, has_high}

@@ -1,7 +1,6 @@
 -- `field_keys::ended_else` meets its contract, by the case and the test of a capital.
 use borrow.Author.Tests.{le-leb, lt-leb}
 use Rattle.field_keys.specs.Passed.{ended_else}
-use borrow.Author.Rules.{rules}
 use Rattle.field_keys.proofs.ended_else.Goals as goal
 
 pub returns-then-first-lt65 : goal.returns-then-first-lt65

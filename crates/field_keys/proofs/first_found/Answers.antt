@@ -1,6 +1,5 @@
 -- `field_keys::first_found` meets its contract, by the case and the test.
 use Rattle.field_keys.specs.Passed.{first_found}
-use borrow.Author.Rules.{rules}
 use Rattle.field_keys.proofs.first_found.Goals as goal
 
 pub returns-then-here : goal.returns-then-here

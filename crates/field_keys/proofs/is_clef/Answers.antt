@@ -2,7 +2,6 @@
 use mathlib.Core.Path.{sym, ◌∙◌}
 use Rattle.reader.specs.Keys.{clefs}
 use Rattle.laws.proofs.Bools.{or_false}
-use borrow.Author.Rules.{rules}
 use Rattle.field_keys.proofs.is_clef.Goals as goal
 
 pub returns-then-is_named : goal.returns-then-is_named

@@ -2,7 +2,6 @@
 use Rattle.standard.specs.Bytes.{is}
 use Rattle.reader.specs.Keys.{is_key_word}
 use Rattle.text_words.proofs.Finds.{any_in, any_over}
-use borrow.Author.Rules.{rules}
 use Rattle.field_keys.proofs.is_key_word.Goals as goal
 
 pub returns-then-find_byte-e : goal.returns-then-find_byte-e

@@ -1,6 +1,5 @@
 -- `field_keys::key_by` meets its contract, by the case.
 use Rattle.field_keys.specs.Passed.{key_else, key_by}
-use borrow.Author.Rules.{rules}
 use Rattle.field_keys.proofs.key_by.Goals as goal
 
 pub returns-in-Named : goal.returns-in-Named

@@ -1,6 +1,5 @@
 -- `field_keys::key_named` meets its contract: the fifths are the callee's.
 use Rattle.field_keys.specs.Passed.{key_named}
-use borrow.Author.Rules.{rules}
 use Rattle.field_keys.proofs.key_named.Goals as goal
 
 pub returns : goal.returns

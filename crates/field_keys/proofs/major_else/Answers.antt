@@ -1,6 +1,5 @@
 -- `field_keys::major_else` meets its contract, by the case.
 use Rattle.field_keys.specs.Passed.{major_else}
-use borrow.Author.Rules.{rules}
 use Rattle.field_keys.proofs.major_else.Goals as goal
 
 pub returns-in-Named : goal.returns-in-Named

@@ -1,10 +1,9 @@
 -- `field_keys::parse_key` meets its contract. The loop's invariant: the words from i on, after what was passed, give what all words give.
-use Prim.Native.Nat.{◌-◌, ◌≤◌, ◌<◌}
+use Prim.Native.Nat.{◌≤◌, ◌<◌}
 use mathlib.Core.Path.{◌∙◌}
 use native.Mathlib.Omega.{arith}
 use Rattle.text_words.proofs.WordLaws.{word_past, word_within, next_past}
-use Rattle.field_keys.proofs.Walks.{Walking, walking_start, walking_on, walking_over}
-use borrow.Author.Rules.{rules}
+use Rattle.field_keys.proofs.Walks.{walking_start, walking_on, walking_over}
 use Rattle.field_keys.proofs.parse_key.Goals as goal
 
 pub word_start-i-requires : goal.word_start-i-requires

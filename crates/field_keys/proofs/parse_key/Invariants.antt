@@ -1,10 +1,6 @@
 -- `field_keys::parse_key` meets its contract. The loop's invariant: the words from i on, after what was passed, give what all words give.
-use Prim.Native.Nat.{◌-◌, ◌≤◌, ◌<◌}
-use mathlib.Core.Path.{◌∙◌}
-use native.Mathlib.Omega.{arith}
-use Rattle.text_words.proofs.WordLaws.{word_past, word_within, next_past}
-use Rattle.field_keys.proofs.Walks.{Walking, walking_start, walking_on, walking_over}
-use borrow.Author.Rules.{rules}
+use Prim.Native.Nat.{◌-◌}
+use Rattle.field_keys.proofs.Walks.{Walking}
 use Rattle.field_keys.proofs.parse_key.Given as goal
 
 abbrev pub invariant-loop-i : goal.invariant-loop-i

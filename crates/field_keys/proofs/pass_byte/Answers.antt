@@ -1,6 +1,5 @@
 -- `field_keys::pass_byte` meets its contract: each field is a callee's answer.
 use Rattle.field_keys.specs.Passed.{pass_byte}
-use borrow.Author.Rules.{rules}
 use Rattle.field_keys.proofs.pass_byte.Goals as goal
 
 pub returns : goal.returns

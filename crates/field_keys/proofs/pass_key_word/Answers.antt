@@ -1,7 +1,6 @@
 -- `field_keys::pass_key_word` meets its contract, by its test.
 use mathlib.Core.Path.{sym, ◌∙◌}
 use Rattle.field_keys.specs.Passed.{pass_kept}
-use borrow.Author.Rules.{rules}
 use Rattle.field_keys.proofs.pass_key_word.Goals as goal
 
 pub returns-then-is_key_word : goal.returns-then-is_key_word

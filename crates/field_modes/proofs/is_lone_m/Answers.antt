@@ -5,8 +5,6 @@ use mathlib.Core.Bool.{not}
 use native.Mathlib.Omega.{arith}
 use Rattle.field_modes.specs.Modes.{lone_m}
 use Rattle.field_modes.proofs.Words.{says_m, second_none, second_between, lower_letter}
-use borrow.Author.Rules.{rules}
-use Rattle.laws.proofs.Bools.{not_true, not_false}
 use Rattle.field_modes.proofs.is_lone_m.Goals as goal
 
 pub returns-then-not-says : goal.returns-then-not-says

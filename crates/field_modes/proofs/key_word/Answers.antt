@@ -1,10 +1,9 @@
 -- `field_modes::key_word` meets its contract. The loop's invariant: the words of the key text from i on are those from `from` on.
-use Prim.Native.Nat.{◌-◌, ◌≤◌, ◌<◌}
+use Prim.Native.Nat.{◌≤◌, ◌<◌}
 use mathlib.Core.Path.{sym, ◌∙◌}
 use native.Mathlib.Omega.{arith}
-use Rattle.text_words.proofs.WordLaws.{word_past, word_within, next_past}
-use Rattle.field_modes.proofs.Words.{word_inside, Seeking, seeking_start, seeking_here, seeking_on, seeking_over}
-use borrow.Author.Rules.{rules}
+use Rattle.text_words.proofs.WordLaws.{next_past}
+use Rattle.field_modes.proofs.Words.{word_inside, seeking_start, seeking_here, seeking_on, seeking_over}
 use Rattle.field_modes.proofs.key_word.Goals as goal
 
 pub word_start-i-requires : goal.word_start-i-requires

@@ -1,8 +1,6 @@
 -- `field_modes::mode_at` meets its contract: by name, else by a lone m.
 use mathlib.Core.Path.{sym, ◌∙◌}
-use mathlib.Core.List.{map}
 use Rattle.field_modes.proofs.Names.{mode_named, mode_unnamed}
-use borrow.Author.Rules.{rules}
 use Rattle.field_modes.proofs.mode_at.Goals as goal
 
 pub returns-then-mode-ne-UNNAMED : goal.returns-then-mode-ne-UNNAMED

@@ -1,13 +1,12 @@
 -- `field_modes::mode_from` meets its contract: in the word, or in the next one of the key text.
-use Prim.Native.Nat.{◌≤◌, ◌<◌}
-use mathlib.Core.Path.{◌≡◌, sym, ap, ◌∙◌}
+use Prim.Native.Nat.{◌≤◌}
+use mathlib.Core.Path.{ap, ◌∙◌}
 use native.Mathlib.Omega.{arith}
 use lib.ListN.{length}
 use Rattle.laws.proofs.Parts.{between_first, between_none}
 use Rattle.standard.specs.Keys.{flatter}
 use Rattle.field_modes.specs.Modes.{mode_at, mode_from}
 use Rattle.field_modes.proofs.Words.{next_mode}
-use borrow.Author.Rules.{rules}
 use Rattle.field_modes.proofs.mode_from.Goals as goal
 
 pub returns-then-i-e : goal.returns-then-i-e

@@ -1,14 +1,8 @@
 -- `field_modes::named_mode` meets its contract. The loop's invariant: the search of the table from k on gives the answer of the whole search.
-use Prim.Native.Nat.{◌-◌, ◌≤◌, ◌<◌}
-use mathlib.Core.Path.{◌≡◌, refl, sym, ◌∙◌}
-use mathlib.Core.List.{map}
+use Prim.Native.Nat.{◌≤◌, ◌<◌}
+use mathlib.Core.Path.{refl, sym, ◌∙◌}
 use native.Mathlib.Omega.{arith}
-use lib.ListN.{length, drop}
-use Rattle.laws.specs.Bytes.{between}
-use Rattle.standard.specs.Bytes.{lower}
-use Rattle.field_modes.specs.Modes.{named_in}
 use Rattle.field_modes.proofs.Names.{named_here, named_on, named_end}
-use borrow.Author.Rules.{rules}
 use Rattle.field_modes.proofs.named_mode.Goals as goal
 
 pub loop-k-init : goal.loop-k-init

@@ -1,11 +1,8 @@
 -- `field_tonics::fifths_in` meets its contract. The loop's invariant: the search of the table from i on gives the answer of the whole search.
-use Prim.Native.Nat.{◌-◌, ◌≤◌, ◌<◌}
-use mathlib.Core.Path.{◌≡◌, refl, sym, ◌∙◌}
+use Prim.Native.Nat.{◌≤◌, ◌<◌}
+use mathlib.Core.Path.{refl, sym, ◌∙◌}
 use native.Mathlib.Omega.{arith}
-use lib.ListN.{length, drop}
-use Rattle.field_tonics.specs.Names.{lookup_in}
 use Rattle.field_tonics.proofs.Tables.{lookup_here, lookup_on, lookup_end}
-use borrow.Author.Rules.{rules}
 use Rattle.field_tonics.proofs.fifths_in.Goals as goal
 
 pub loop-i-init : goal.loop-i-init

@@ -5,7 +5,6 @@ use native.Mathlib.Omega.{arith}
 use Rattle.reader.specs.Keys.{fifths_of}
 use Rattle.field_tonics.specs.Names.{tonic_in}
 use Rattle.field_tonics.proofs.Tables.{one_byte, two_bytes, zero_second}
-use borrow.Author.Rules.{rules}
 use Rattle.field_tonics.proofs.fifths_of.Goals as goal
 
 pub returns-then-s-eq0 : goal.returns-then-s-eq0

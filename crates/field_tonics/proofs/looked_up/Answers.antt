@@ -1,6 +1,5 @@
 -- `field_tonics::looked_up` meets its contract, by its test.
 use Rattle.field_tonics.specs.Names.{looked_up}
-use borrow.Author.Rules.{rules}
 use Rattle.field_tonics.proofs.looked_up.Goals as goal
 
 pub returns-then-minor : goal.returns-then-minor

@@ -1,7 +1,6 @@
 -- `field_tonics::with_byte` meets its contract, by the name's case and the test.
 use mathlib.Core.Path.{sym, ◌∙◌}
 use Rattle.field_tonics.specs.Names.{with_byte}
-use borrow.Author.Rules.{rules}
 use Rattle.field_tonics.proofs.with_byte.Goals as goal
 
 pub returns-then-space : goal.returns-then-space

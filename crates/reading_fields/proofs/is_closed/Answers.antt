@@ -1,5 +1,4 @@
 -- `reading_fields::is_closed` meets its contract.
-use borrow.Author.Rules.{rules}
 use Rattle.reading_fields.specs.Codes.{is_closed}
 use Rattle.reading_fields.proofs.is_closed.Goals as goal
 

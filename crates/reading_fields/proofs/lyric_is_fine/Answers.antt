@@ -1,5 +1,4 @@
 -- `reading_fields::lyric_is_fine` meets its contract.
-use borrow.Author.Rules.{rules}
 use Rattle.reading_fields.specs.Codes.{is_lyric}
 use Rattle.reading_fields.proofs.lyric_is_fine.Goals as goal
 

@@ -1,6 +1,5 @@
 -- `reading_fields::note_is_fine` meets its contract.
 use mathlib.Core.Path.{refl}
-use borrow.Author.Rules.{rules}
 use Rattle.reading_fields.specs.Codes.{is_note}
 use Rattle.reading_fields.proofs.note_is_fine.Goals as goal
 

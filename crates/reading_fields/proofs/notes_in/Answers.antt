@@ -1,6 +1,5 @@
 -- `reading_fields::notes_in` meets its contract.
 use native.Mathlib.Omega.{arith}
-use borrow.Author.Rules.{rules}
 use Rattle.reading_sections.specs.Sections.{notes_in}
 use Rattle.reading_fields.proofs.notes_in.Goals as goal
 

@@ -1,5 +1,4 @@
 -- `reading_fields::volta_step` meets its contract.
-use borrow.Author.Rules.{rules}
 use borrow.Author.Tests.{eq-eqb, ne_eqb}
 use Rattle.reading_fields.specs.Codes.{volta_step}
 use Rattle.reading_fields.proofs.volta_step.Goals as goal

@@ -1,7 +1,6 @@
 -- `reading_sections::section_at` meets its contract.
 use mathlib.Core.Path.{ap}
 use native.Mathlib.Omega.{arith}
-use borrow.Author.Rules.{rules}
 use Prim.Native.Nat.{ℕ, ◌+◌, ◌*◌}
 use Rattle.reading_sections.specs.Sections.{behind}
 use Rattle.reading_sections.proofs.section_at.Goals as goal

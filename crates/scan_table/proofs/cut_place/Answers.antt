@@ -1,5 +1,4 @@
 -- `scan_table::cut_place` meets its contract: a place that lies in the text stays, and what is past the text has no bytes.
-use borrow.Author.Rules.{rules}
 use Rattle.scan_table.proofs.Rows.{cut_empty, cut_past, cut_short}
 use Rattle.scan_table.proofs.cut_place.Goals as goal
 

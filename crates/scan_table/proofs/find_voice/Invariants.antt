@@ -1,13 +1,10 @@
 -- `scan_table::find_voice` meets its contract. The invariant: what is to come of the voices gives the answer.
 use Prim.Native.Nat.{◌+◌, ◌-◌, ◌≤◌}
 use mathlib.Core.Path.{◌≡◌}
-use mathlib.Core.Bool.{true, false}
-use borrow.Author.Rules.{rules}
 use lib.ListN.{drop}
 use Rattle.laws.specs.Lists.{index_of}
 use Rattle.laws.specs.Bytes.{between}
 use Rattle.scan_table.specs.Rows.{voices_in}
-use Rattle.scan_table.proofs.Rows.{same_voice, search_start, search_found, search_on, search_end}
 use Rattle.scan_table.proofs.find_voice.Given as goal
 
 abbrev pub invariant-loop-i : goal.invariant-loop-i

@@ -2,7 +2,6 @@
 use Rattle.scan_table.specs.Rows.{row_from}
 use Rattle.scan_table.proofs.Rows.{row_read}
 use mathlib.Core.Path.{refl}
-use borrow.Author.Rules.{rules}
 use Rattle.scan_table.proofs.get_item.Goals as goal
 
 pub returns : goal.returns

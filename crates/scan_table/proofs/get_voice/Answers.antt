@@ -2,7 +2,6 @@
 use Prim.Native.Nat.{◌*◌}
 use Rattle.scan_table.specs.Rows.{voice_row_width}
 use Rattle.scan_table.proofs.Rows.{voice_read}
-use borrow.Author.Rules.{rules}
 use Rattle.scan_table.proofs.get_voice.Goals as goal
 
 pub returns : goal.returns

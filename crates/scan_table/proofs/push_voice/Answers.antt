@@ -2,7 +2,6 @@
 use mathlib.Core.Path.{refl}
 use Rattle.laws.specs.Bytes.{little}
 use Rattle.laws.proofs.Splices.{spliced_next}
-use borrow.Author.Rules.{rules}
 use Rattle.scan_table.proofs.push_voice.Goals as goal
 
 pub returns : goal.returns

@@ -3,7 +3,6 @@ use mathlib.Core.Path.{refl}
 use Rattle.laws.specs.Bytes.{little}
 use Rattle.laws.proofs.Splices.{spliced_next}
 use Rattle.scan_table.specs.Rows.{enc_item}
-use borrow.Author.Rules.{rules}
 use Rattle.scan_table.proofs.put_item.Goals as goal
 
 pub returns : goal.returns

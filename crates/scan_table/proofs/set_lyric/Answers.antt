@@ -4,7 +4,6 @@ use mathlib.Core.Path.{ap, ◌∙◌}
 use mathlib.Core.List.{List}
 use Rattle.laws.specs.Bytes.{splice, le32}
 use Rattle.scan_table.specs.Rows.{row_from, unit_at}
-use borrow.Author.Rules.{rules}
 use Rattle.scan_table.proofs.set_lyric.Goals as goal
 
 pub returns : goal.returns

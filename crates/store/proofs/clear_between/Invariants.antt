@@ -1,10 +1,7 @@
 -- `store::clear_between` meets its contract: so far zeros stand from `from` up to `i`.
-use mathlib.Core.Path.{◌≡◌, ◌∙◌, ap}
-use Prim.Native.Nat.{ℕ, ◌-◌, ◌≤◌}
-use native.Mathlib.Omega.{arith}
-use borrow.Author.Rules.{rules}
+use mathlib.Core.Path.{◌≡◌}
+use Prim.Native.Nat.{◌-◌, ◌≤◌}
 use Rattle.laws.specs.Bytes.{splice, zeros}
-use Rattle.laws.proofs.Splices.{length_spliced, zeros_none, zeros_more}
 use Rattle.store.proofs.clear_between.Given as goal
 
 abbrev pub invariant-loop-i : goal.invariant-loop-i

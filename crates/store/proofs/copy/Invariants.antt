@@ -1,10 +1,7 @@
 -- `store::copy` meets its contract: so far i bytes are copied.
-use mathlib.Core.Path.{◌≡◌, ap, ◌∙◌}
-use Prim.Native.Nat.{ℕ, ◌-◌, ◌≤◌}
-use native.Mathlib.Omega.{arith}
-use borrow.Author.Rules.{rules}
+use mathlib.Core.Path.{◌≡◌}
+use Prim.Native.Nat.{◌-◌, ◌≤◌}
 use Rattle.laws.specs.Bytes.{splice, part}
-use Rattle.laws.proofs.Splices.{length_spliced, copy_none, copy_more}
 use Rattle.store.proofs.copy.Given as goal
 
 abbrev pub invariant-loop-i : goal.invariant-loop-i

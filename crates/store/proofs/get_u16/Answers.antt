@@ -1,6 +1,5 @@
 -- `store::get_u16` meets its contract: the sum that its two bytes spell.
 use native.Mathlib.Omega.{arith}
-use borrow.Author.Rules.{rules}
 use Rattle.laws.proofs.Numbers.{u16_sum}
 use Rattle.store.proofs.get_u16.Goals as goal
 

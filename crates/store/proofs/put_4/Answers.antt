@@ -1,6 +1,5 @@
 -- `store::put_4` meets its contract: four stores, each where the last ended.
 use native.Mathlib.Omega.{arith}
-use borrow.Author.Rules.{rules}
 use lib.ListN.{length-set}
 use Rattle.laws.proofs.Splices.{set_splice, splice_snoc}
 use Rattle.store.proofs.put_4.Goals as goal

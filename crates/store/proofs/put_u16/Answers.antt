@@ -1,6 +1,5 @@
 -- `store::put_u16` meets its contract: two writes, the second where the first ended.
 use mathlib.Core.Path.{refl}
-use borrow.Author.Rules.{rules}
 use Rattle.laws.specs.Bytes.{little}
 use Rattle.laws.proofs.Splices.{spliced_next}
 use Rattle.store.proofs.put_u16.Goals as goal

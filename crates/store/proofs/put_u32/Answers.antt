@@ -1,5 +1,4 @@
 -- `store::put_u32` meets its contract: its four bytes.
-use borrow.Author.Rules.{rules}
 use Rattle.laws.proofs.Numbers.{le32_bytes}
 use Rattle.store.proofs.put_u32.Goals as goal
 

@@ -1,5 +1,4 @@
 -- `store::put_u8` meets its contract: one store.
-use borrow.Author.Rules.{rules}
 use Rattle.laws.proofs.Splices.{set_splice}
 use Rattle.store.proofs.put_u8.Goals as goal
 

@@ -1,6 +1,5 @@
 -- `store_sections::seal` meets its contract: zeros from where the writer got to.
 use native.Mathlib.Omega.{arith}
-use borrow.Author.Rules.{rules}
 use Rattle.store_sections.proofs.seal.Goals as goal
 
 pub clear-requires : goal.clear-requires

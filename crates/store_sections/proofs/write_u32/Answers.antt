@@ -1,7 +1,6 @@
 -- `store_sections::write_u32` meets its contract: all four bytes, or no room for them.
 use mathlib.Core.Path.{sym}
 use native.Mathlib.Omega.{arith}
-use borrow.Author.Rules.{rules}
 use Rattle.laws.proofs.Numbers.{length_little}
 use Rattle.store_sections.proofs.write_u32.Goals as goal
 

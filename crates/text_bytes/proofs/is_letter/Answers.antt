@@ -1,6 +1,5 @@
 -- `text_bytes::is_letter` meets its contract.
 use mathlib.Core.Path.{sym, ◌∙◌}
-use borrow.Author.Rules.{rules}
 use Rattle.text_bytes.proofs.is_letter.Goals as goal
 
 pub returns-then-is_within : goal.returns-then-is_within

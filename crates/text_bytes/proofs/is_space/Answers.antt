@@ -1,6 +1,5 @@
 -- `text_bytes::is_space` meets its contract.
 use mathlib.Core.Path.{sym, ◌∙◌}
-use borrow.Author.Rules.{rules}
 use Rattle.text_bytes.proofs.is_space.Goals as goal
 
 pub returns-then-is_within : goal.returns-then-is_within

@@ -1,7 +1,6 @@
 -- `text_lines::colon_class` meets its contract: each way out has the tests that led there, in the definition's order.
 use mathlib.Core.Path.{sym, ◌∙◌}
 use borrow.Author.Tests.{eq-eqb, ne_eqb}
-use borrow.Author.Rules.{rules}
 use Rattle.text_lines.proofs.colon_class.Goals as goal
 
 pub returns-then-b-eq119 : goal.returns-then-b-eq119

@@ -1,11 +1,7 @@
 -- `text_lines::find_byte` meets its contract.
 use Prim.Native.Nat.{◌-◌, ◌≤◌}
-use mathlib.Core.Path.{◌≡◌, sym, ap, ◌∙◌}
-use mathlib.Core.Bool.{not}
-use borrow.Author.Rules.{rules}
-use borrow.Author.Tests.{eq-eqb, ne_eqb}
+use mathlib.Core.Path.{◌≡◌}
 use Rattle.laws.specs.Spans.{end_in}
-use Rattle.laws.proofs.Parts.{end_in_more, end_in_stop, end_in_over}
 use Rattle.text_lines.specs.Lines.{not_byte}
 use Rattle.text_lines.proofs.find_byte.Given as goal
 

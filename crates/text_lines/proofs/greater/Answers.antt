@@ -1,5 +1,4 @@
 -- `text_lines::greater` meets its contract.
-use borrow.Author.Rules.{rules}
 use Rattle.text_lines.proofs.LineEnds.{high_second, high_first}
 use Rattle.text_lines.proofs.greater.Goals as goal
 

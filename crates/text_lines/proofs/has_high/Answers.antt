@@ -1,11 +1,5 @@
 -- `text_lines::has_high` meets its contract. The loop's invariant: the greatest byte so far or what is left is above 127 where the line is.
-use borrow.Author.Rules.{rules}
-use mathlib.Core.Path.{◌≡◌, refl}
-use mathlib.Core.Bool.{◌||◌}
-use Prim.Native.Nat.{◌-◌}
-use lib.Dec.{ltb}
-use lib.ListN.{length, drop}
-use Rattle.reader.specs.Text.{has_high}
+use mathlib.Core.Path.{refl}
 use Rattle.text_lines.proofs.LineEnds.{high_next, high_over}
 use Rattle.text_lines.proofs.has_high.Goals as goal
 

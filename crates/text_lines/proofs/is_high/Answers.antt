@@ -3,7 +3,6 @@ use mathlib.Core.Path.{ap, ◌∙◌}
 use Prim.Native.Nat.{◌-◌}
 use Rattle.laws.proofs.Parts.{part_cut}
 use Rattle.reader.specs.Text.{has_high}
-use borrow.Author.Rules.{rules}
 use Rattle.text_lines.proofs.is_high.Goals as goal
 
 pub returns : goal.returns

@@ -1,13 +1,10 @@
 -- `text_lines::lacks` meets its contract. The invariant: what was read and what is left say what the whole block says.
 use Prim.Native.Nat.{◌+◌, ◌-◌, ◌≤◌}
-use mathlib.Core.Path.{◌≡◌, refl, ◌∙◌}
+use mathlib.Core.Path.{◌≡◌}
 use mathlib.Core.Bool.{◌&&◌}
-use native.Mathlib.Nat.{add-zero}
-use borrow.Author.Rules.{rules}
 use Rattle.laws.specs.Lists.{all}
 use Rattle.laws.specs.Bytes.{between}
 use Rattle.text_lines.specs.Lines.{not_byte}
-use Rattle.text_lines.proofs.Finding.{block_next, block_end}
 use Rattle.text_lines.proofs.lacks.Given as goal
 
 abbrev pub invariant-loop-j : goal.invariant-loop-j

@@ -5,7 +5,6 @@ use native.Mathlib.Omega.{arith}
 use lib.ListN.{length}
 use borrow.Author.Tests.{ne_eqb}
 use Rattle.text_lines.proofs.Classes.{class_blank, class_one, class_colon, class_other}
-use borrow.Author.Rules.{rules}
 use Rattle.text_lines.proofs.line_class.Goals as goal
 
 pub returns-then-line-eq0 : goal.returns-then-line-eq0

@@ -1,11 +1,8 @@
 -- `text_lines::pass_without` meets its contract.
-use Prim.Native.Nat.{◌+◌, ◌-◌, ◌≤◌}
-use mathlib.Core.Path.{◌≡◌, refl, sym, ◌∙◌}
-use borrow.Author.Rules.{rules}
+use Prim.Native.Nat.{◌-◌, ◌≤◌}
+use mathlib.Core.Path.{◌≡◌}
 use Rattle.laws.specs.Spans.{end_in}
-use Rattle.laws.proofs.Bools.{not_false}
 use Rattle.text_lines.specs.Lines.{not_byte}
-use Rattle.text_lines.proofs.Finding.{end_behind}
 use Rattle.text_lines.proofs.pass_without.Given as goal
 
 abbrev pub invariant-loop-i : goal.invariant-loop-i

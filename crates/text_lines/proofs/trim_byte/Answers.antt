@@ -2,7 +2,6 @@
 use mathlib.Core.Path.{sym, ◌∙◌}
 use Rattle.text_white.specs.States.{as_white}
 use Rattle.text_lines.proofs.Cleaning.{trim_plain}
-use borrow.Author.Rules.{rules}
 use Rattle.text_lines.proofs.trim_byte.Goals as goal
 
 pub returns-then-is_within : goal.returns-then-is_within

@@ -1,9 +1,6 @@
 -- `text_lines::trim_bytes` meets its contract. The loop's invariant is `Trimming`.
-use borrow.Author.Rules.{rules}
-use Prim.Native.Nat.{◌-◌}
 use native.Mathlib.Omega.{arith}
-use Rattle.text_white.specs.States.{as_white}
-use Rattle.text_lines.proofs.Cleaning.{Trimming, trimming_start, trimming_on, trimming_end}
+use Rattle.text_lines.proofs.Cleaning.{trimming_start, trimming_on, trimming_end}
 use Rattle.text_lines.proofs.trim_bytes.Goals as goal
 
 pub loop-i-init : goal.loop-i-init

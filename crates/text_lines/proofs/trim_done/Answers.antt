@@ -2,7 +2,6 @@
 use mathlib.Core.Path.{sym, ◌∙◌}
 use Rattle.text_white.specs.States.{as_white}
 use Rattle.text_lines.proofs.Cleaning.{end_white, end_other}
-use borrow.Author.Rules.{rules}
 use Rattle.text_lines.proofs.trim_done.Goals as goal
 
 pub returns-then-is_all_white : goal.returns-then-is_all_white

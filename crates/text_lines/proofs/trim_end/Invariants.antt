@@ -1,11 +1,8 @@
 -- `text_lines::trim_end` meets its contract.
-use Prim.Native.Nat.{◌-◌, ◌≤◌}
-use mathlib.Core.Path.{◌≡◌, refl, sym, ap, ◌∙◌}
-use borrow.Author.Rules.{rules}
+use Prim.Native.Nat.{◌≤◌}
+use mathlib.Core.Path.{◌≡◌}
 use Rattle.laws.specs.Bytes.{between}
-use Rattle.laws.proofs.Bools.{not_true, not_false}
 use Rattle.reader.specs.Text.{trim}
-use Rattle.text_lines.proofs.Cleaning.{end_space, end_whole, end_before, end_here, trim_nothing}
 use Rattle.text_lines.proofs.trim_end.Given as goal
 
 abbrev pub invariant-loop-i : goal.invariant-loop-i

@@ -6,7 +6,6 @@ use Rattle.reader.specs.Text.{White, white_step}
 use Rattle.text_white.specs.States.{as_white, is_other}
 use Rattle.text_lines.specs.Lines.{trim_from}
 use Rattle.text_lines.proofs.Cleaning.{trim_kept, trim_new, trim_past}
-use borrow.Author.Rules.{rules}
 use Rattle.text_lines.proofs.trim_step.Goals as goal
 
 pub returns-then-is_other-2 : goal.returns-then-is_other-2

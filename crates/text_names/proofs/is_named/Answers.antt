@@ -7,7 +7,6 @@ use Rattle.laws.proofs.Lists.{eq_text_length}
 use mathlib.Core.List.{map}
 use Rattle.standard.specs.Bytes.{lower}
 use Rattle.text_names.proofs.Texts.{starts_whole, length_lower}
-use borrow.Author.Rules.{rules}
 use Rattle.text_names.proofs.is_named.Goals as goal
 
 pub returns-then-e-i : goal.returns-then-e-i

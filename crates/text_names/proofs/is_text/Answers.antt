@@ -6,7 +6,6 @@ use Rattle.laws.specs.Bytes.{between}
 use Rattle.laws.proofs.Lists.{eq_text_length, eq_text_sym}
 use Rattle.laws.proofs.Parts.{length_between}
 use Rattle.text_names.proofs.Texts.{starts_whole}
-use borrow.Author.Rules.{rules}
 use Rattle.text_names.proofs.is_text.Goals as goal
 
 pub returns-then-b-a : goal.returns-then-b-a

@@ -1,7 +1,6 @@
 -- `text_names::lower` meets its contract, by its tests.
 use borrow.Author.Tests.{le-leb, lt-leb}
 use Rattle.standard.specs.Bytes.{lower as lowered}
-use borrow.Author.Rules.{rules}
 use Rattle.text_names.proofs.lower.Goals as goal
 
 pub returns-then-c-lt65 : goal.returns-then-c-lt65

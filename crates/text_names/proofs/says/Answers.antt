@@ -1,15 +1,13 @@
 -- `text_names::says` meets its contract. The loop's invariant: what is left of the comparison from j on is the whole.
-use Prim.Native.Nat.{◌-◌, ◌≤◌, ◌<◌}
-use mathlib.Core.Path.{◌≡◌, refl, sym, ◌∙◌}
+use Prim.Native.Nat.{◌≤◌, ◌<◌}
+use mathlib.Core.Path.{refl, sym, ◌∙◌}
 use native.Mathlib.Omega.{arith}
-use lib.ListN.{length, drop}
-use Rattle.laws.specs.Lists.{starts_with}
+use lib.ListN.{length}
 use Rattle.laws.specs.Bytes.{between}
 use Rattle.laws.proofs.Lists.{starts_with_end}
 use mathlib.Core.List.{map}
 use Rattle.standard.specs.Bytes.{lower}
 use Rattle.text_names.proofs.Texts.{length_lower, part_lower, starts_short, starts_on, starts_off}
-use borrow.Author.Rules.{rules}
 use Rattle.text_names.proofs.says.Goals as goal
 
 pub returns-then-e-i : goal.returns-then-e-i

@@ -1,15 +1,11 @@
 -- `text_names::says` meets its contract. The loop's invariant: what is left of the comparison from j on is the whole.
-use Prim.Native.Nat.{◌-◌, ◌≤◌, ◌<◌}
-use mathlib.Core.Path.{◌≡◌, refl, sym, ◌∙◌}
-use native.Mathlib.Omega.{arith}
+use Prim.Native.Nat.{◌-◌, ◌≤◌}
+use mathlib.Core.Path.{◌≡◌}
 use lib.ListN.{length, drop}
 use Rattle.laws.specs.Lists.{starts_with}
 use Rattle.laws.specs.Bytes.{between}
-use Rattle.laws.proofs.Lists.{starts_with_end}
 use mathlib.Core.List.{map}
 use Rattle.standard.specs.Bytes.{lower}
-use Rattle.text_names.proofs.Texts.{length_lower, part_lower, starts_short, starts_on, starts_off}
-use borrow.Author.Rules.{rules}
 use Rattle.text_names.proofs.says.Given as goal
 
 abbrev pub invariant-loop-j : goal.invariant-loop-j

@@ -1,14 +1,12 @@
 -- `text_names::starts_with` meets its contract. The loop's invariant: what is left of the comparison from k on is the whole.
-use Prim.Native.Nat.{◌-◌, ◌≤◌, ◌<◌}
-use mathlib.Core.Path.{◌≡◌, refl, sym, ◌∙◌}
+use Prim.Native.Nat.{◌≤◌, ◌<◌}
+use mathlib.Core.Path.{refl, sym, ◌∙◌}
 use native.Mathlib.Omega.{arith}
-use lib.ListN.{length, drop}
-use Rattle.laws.specs.Lists.{starts_with}
+use lib.ListN.{length}
 use Rattle.laws.specs.Bytes.{between}
 use Rattle.laws.proofs.Lists.{starts_with_end}
 use Rattle.laws.proofs.Parts.{length_between}
 use Rattle.text_names.proofs.Texts.{part_byte, starts_short, starts_on, starts_off}
-use borrow.Author.Rules.{rules}
 use Rattle.text_names.proofs.starts_with.Goals as goal
 
 pub returns-then-b-a : goal.returns-then-b-a

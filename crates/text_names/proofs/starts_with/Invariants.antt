@@ -1,14 +1,9 @@
 -- `text_names::starts_with` meets its contract. The loop's invariant: what is left of the comparison from k on is the whole.
-use Prim.Native.Nat.{◌-◌, ◌≤◌, ◌<◌}
-use mathlib.Core.Path.{◌≡◌, refl, sym, ◌∙◌}
-use native.Mathlib.Omega.{arith}
+use Prim.Native.Nat.{◌-◌, ◌≤◌}
+use mathlib.Core.Path.{◌≡◌}
 use lib.ListN.{length, drop}
 use Rattle.laws.specs.Lists.{starts_with}
 use Rattle.laws.specs.Bytes.{between}
-use Rattle.laws.proofs.Lists.{starts_with_end}
-use Rattle.laws.proofs.Parts.{length_between}
-use Rattle.text_names.proofs.Texts.{part_byte, starts_short, starts_on, starts_off}
-use borrow.Author.Rules.{rules}
 use Rattle.text_names.proofs.starts_with.Given as goal
 
 abbrev pub invariant-loop-k : goal.invariant-loop-k

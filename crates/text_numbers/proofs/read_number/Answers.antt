@@ -1,7 +1,6 @@
 -- `text_numbers::read_number` meets its contract.
 use native.Mathlib.Omega.{arith}
 use Rattle.text_numbers.proofs.Numbers.{at_most_at}
-use borrow.Author.Rules.{rules}
 use Rattle.text_numbers.proofs.read_number.Goals as goal
 
 pub returns : goal.returns

@@ -4,7 +4,6 @@ use Prim.Native.Nat.{◌≤◌, ◌<◌}
 use native.Mathlib.Omega.{arith}
 use lib.ListN.{length}
 use Rattle.text_numbers.proofs.Numbers.{whole_short, whole_all}
-use borrow.Author.Rules.{rules}
 use Rattle.text_numbers.proofs.whole_number.Goals as goal
 
 pub returns-then-next-text : goal.returns-then-next-text

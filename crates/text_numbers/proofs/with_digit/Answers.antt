@@ -5,7 +5,6 @@ use native.Mathlib.Omega.{arith}
 use borrow.Author.Tests.{le-leb, lt-leb}
 use Rattle.text_numbers.specs.Digits.{with_digit, most}
 use Rattle.reader.proofs.Digits.{digit_low}
-use borrow.Author.Rules.{rules}
 use Rattle.text_numbers.proofs.with_digit.Goals as goal
 
 pub overflow_sub-d : goal.overflow_sub-d

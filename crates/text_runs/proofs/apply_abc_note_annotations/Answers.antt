@@ -1,8 +1,5 @@
 -- `text_runs::apply_abc_note_annotations` meets its contract. The loop's invariant is `Marking`; the measure is what is left of the line.
-use Prim.Native.Nat.{◌-◌}
-use lib.ListN.{length}
-use Rattle.text_runs.proofs.Behinds.{Marking, marking_start, marking_tie, marking_slur, marking_other, marking_end}
-use borrow.Author.Rules.{rules}
+use Rattle.text_runs.proofs.Behinds.{marking_start, marking_tie, marking_slur, marking_other, marking_end}
 use Rattle.text_runs.proofs.apply_abc_note_annotations.Goals as goal
 
 pub loop-cursor-init : goal.loop-cursor-init

@@ -1,12 +1,8 @@
 -- `text_runs::run_end` meets its contract. The loop's invariant: the run from i on ends where that from `at` on ends; the measure is what is left of the line.
-use Prim.Native.Nat.{◌-◌}
-use mathlib.Core.Path.{◌≡◌, refl, sym, ◌∙◌}
+use mathlib.Core.Path.{refl, sym, ◌∙◌}
 use lib.Dec.{eqb}
-use lib.ListN.{length}
 use borrow.Author.Tests.{eq-eqb, ne_eqb}
-use Rattle.laws.specs.Spans.{end_of}
 use Rattle.laws.proofs.Spans.{end_more, end_stop, end_past}
-use borrow.Author.Rules.{rules}
 use Rattle.text_runs.proofs.run_end.Goals as goal
 
 pub loop-i-init : goal.loop-i-init

@@ -1,5 +1,4 @@
 -- `text_utf8::is_utf8` meets its contract.
-use borrow.Author.Rules.{rules}
 use mathlib.Core.Path.{sym, ◌∙◌}
 use Rattle.text_utf8.proofs.Ascii.{ascii_is_utf8}
 use Rattle.text_utf8.proofs.is_utf8.Goals as goal

@@ -1,12 +1,7 @@
 -- `text_utf8::reads_utf8` meets its contract. The loop's invariant: the reading from here over what is left ends as that of the whole.
-use borrow.Author.Rules.{rules}
-use mathlib.Core.Path.{◌≡◌, refl, sym, ap, ◌∙◌}
-use Prim.Native.Nat.{◌-◌}
-use lib.ListN.{length, drop}
-use Rattle.laws.specs.Lists.{foldl}
+use mathlib.Core.Path.{refl, sym, ap, ◌∙◌}
 use Rattle.laws.proofs.Lists.{foldl_at, foldl_end}
-use Rattle.reader.specs.Text.{between, utf8_step, is_between, is_utf8}
-use Rattle.text_utf8.specs.States.{as_utf8}
+use Rattle.reader.specs.Text.{utf8_step, is_between, is_utf8}
 use Rattle.text_utf8.proofs.reads_utf8.Goals as goal
 
 pub loop-i-init : goal.loop-i-init

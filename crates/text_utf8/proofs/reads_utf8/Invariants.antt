@@ -1,11 +1,9 @@
 -- `text_utf8::reads_utf8` meets its contract. The loop's invariant: the reading from here over what is left ends as that of the whole.
-use borrow.Author.Rules.{rules}
-use mathlib.Core.Path.{◌≡◌, refl, sym, ap, ◌∙◌}
+use mathlib.Core.Path.{◌≡◌}
 use Prim.Native.Nat.{◌-◌}
 use lib.ListN.{length, drop}
 use Rattle.laws.specs.Lists.{foldl}
-use Rattle.laws.proofs.Lists.{foldl_at, foldl_end}
-use Rattle.reader.specs.Text.{between, utf8_step, is_between, is_utf8}
+use Rattle.reader.specs.Text.{between, utf8_step}
 use Rattle.text_utf8.specs.States.{as_utf8}
 use Rattle.text_utf8.proofs.reads_utf8.Given as goal
 

@@ -2,7 +2,6 @@
 use mathlib.Core.Path.{sym, ◌∙◌}
 use borrow.Author.Tests.{le-leb, lt-leb, eq-eqb, ne_eqb}
 use Rattle.reader.specs.Text.{utf8_step}
-use borrow.Author.Rules.{rules}
 use Rattle.text_utf8.proofs.utf8_first.Goals as goal
 
 pub returns-then-b-le127 : goal.returns-then-b-le127

@@ -1,6 +1,5 @@
 -- `text_utf8::utf8_step` meets its contract: in each arm the state is known.
 use Rattle.reader.specs.Text.{utf8_step}
-use borrow.Author.Rules.{rules}
 use Rattle.text_utf8.proofs.utf8_step.Goals as goal
 
 pub returns-in-Between : goal.returns-in-Between

@@ -1,7 +1,6 @@
 -- `text_white::ends_e280` meets its contract.
 use mathlib.Core.Path.{sym, ◌∙◌}
 use borrow.Author.Tests.{eq-eqb, ne_eqb}
-use borrow.Author.Rules.{rules}
 use Rattle.text_white.proofs.ends_e280.Goals as goal
 
 pub returns-then-is_within : goal.returns-then-is_within

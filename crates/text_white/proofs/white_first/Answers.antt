@@ -2,7 +2,6 @@
 use mathlib.Core.Path.{sym, ◌∙◌}
 use borrow.Author.Tests.{eq-eqb, ne_eqb}
 use Rattle.reader.specs.Text.{white_step}
-use borrow.Author.Rules.{rules}
 use Rattle.text_white.proofs.white_first.Goals as goal
 
 pub returns-then-is_space : goal.returns-then-is_space

@@ -10,7 +10,6 @@ use Rattle.laws.proofs.Parts.{length_part}
 use Rattle.reader.specs.Text.{white, white_step, is_all_white}
 use Rattle.text_white.specs.States.{as_white}
 use Rattle.text_white.proofs.Whites.{after1, after2, after3, width_one, width_two, width_three, width_none}
-use borrow.Author.Rules.{rules}
 use Rattle.text_white.proofs.white_len.Goals as goal
 
 pub returns-then-is_all_white : goal.returns-then-is_all_white

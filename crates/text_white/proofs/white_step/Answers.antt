@@ -1,7 +1,6 @@
 -- `text_white::white_step` meets its contract: in each arm the state is known.
 use borrow.Author.Tests.{eq-eqb, ne_eqb}
 use Rattle.reader.specs.Text.{white_step}
-use borrow.Author.Rules.{rules}
 use Rattle.text_white.proofs.white_step.Goals as goal
 
 pub returns-then-b-eq128 : goal.returns-then-b-eq128

@@ -1,8 +1,7 @@
 -- `text_words::find_byte` meets its contract. The loop's invariant: the bytes of the kind end, from k on, where they end from a on.
-use Prim.Native.Nat.{◌-◌, ◌<◌}
-use mathlib.Core.Path.{◌≡◌, refl, sym, ◌∙◌}
+use Prim.Native.Nat.{◌<◌}
+use mathlib.Core.Path.{refl, sym, ◌∙◌}
 use native.Mathlib.Omega.{arith}
-use Rattle.laws.specs.Spans.{end_in}
 use Rattle.text_words.specs.Words.{not_byte}
 use Rattle.text_words.proofs.Stands.{stands_lt, stands_on, stands_off}
 use Rattle.text_words.proofs.find_byte.Goals as goal

@@ -1,10 +1,8 @@
 -- `text_words::find_byte` meets its contract. The loop's invariant: the bytes of the kind end, from k on, where they end from a on.
-use Prim.Native.Nat.{◌-◌, ◌<◌}
-use mathlib.Core.Path.{◌≡◌, refl, sym, ◌∙◌}
-use native.Mathlib.Omega.{arith}
+use Prim.Native.Nat.{◌-◌}
+use mathlib.Core.Path.{◌≡◌}
 use Rattle.laws.specs.Spans.{end_in}
 use Rattle.text_words.specs.Words.{not_byte}
-use Rattle.text_words.proofs.Stands.{stands_lt, stands_on, stands_off}
 use Rattle.text_words.proofs.find_byte.Given as goal
 
 abbrev pub invariant-loop-k : goal.invariant-loop-k

@@ -1,7 +1,6 @@
 -- `text_words::space_before` meets its contract, by its test.
 use borrow.Author.Tests.{lt-ltb, le-ltb}
 use Rattle.text_words.specs.Words.{stands_before}
-use borrow.Author.Rules.{rules}
 use Rattle.text_words.proofs.space_before.Goals as goal
 
 pub returns-then-a-e : goal.returns-then-a-e

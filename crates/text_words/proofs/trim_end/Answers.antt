@@ -1,8 +1,8 @@
 -- `text_words::trim_end` meets its contract. The loop's invariant: the text up to e has the end of the whole.
-use Prim.Native.Nat.{◌-◌, ◌<◌}
+use Prim.Native.Nat.{◌<◌}
 use mathlib.Core.Path.{refl, sym, ◌∙◌}
 use native.Mathlib.Omega.{arith}
-use Rattle.text_words.proofs.Trims.{trims_lt, Trimming, trimming_on, trimming_off}
+use Rattle.text_words.proofs.Trims.{trims_lt, trimming_on, trimming_off}
 use Rattle.text_words.proofs.trim_end.Goals as goal
 
 pub loop-e-init : goal.loop-e-init

@@ -1,7 +1,6 @@
 -- `text_words::word_at` meets its contract, by its test.
 use borrow.Author.Tests.{lt-ltb, le-ltb}
 use Rattle.text_words.specs.Words.{stands_at}
-use borrow.Author.Rules.{rules}
 use Rattle.text_words.proofs.word_at.Goals as goal
 
 pub returns-then-i-b : goal.returns-then-i-b

@@ -1,8 +1,7 @@
 -- `text_words::word_start` meets its contract. The loop's invariant: the bytes of the kind end, from i on, where they end from a on.
-use Prim.Native.Nat.{◌-◌, ◌<◌}
-use mathlib.Core.Path.{◌≡◌, refl, sym, ◌∙◌}
+use Prim.Native.Nat.{◌<◌}
+use mathlib.Core.Path.{refl, sym, ◌∙◌}
 use native.Mathlib.Omega.{arith}
-use Rattle.laws.specs.Spans.{end_in}
 use Rattle.reader.specs.Text.{is_space}
 use Rattle.text_words.proofs.Stands.{stands_lt, stands_on, stands_off}
 use Rattle.text_words.proofs.word_start.Goals as goal

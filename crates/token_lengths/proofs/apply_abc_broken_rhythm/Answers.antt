@@ -1,7 +1,6 @@
 -- `token_lengths::apply_abc_broken_rhythm` meets its contract.
 use Rattle.standard.specs.Lengths.{dotted, halved}
 use Rattle.token_lengths.specs.Values.{broken_length}
-use borrow.Author.Rules.{rules}
 use Rattle.token_lengths.proofs.apply_abc_broken_rhythm.Goals as goal
 
 pub returns-then-lengthen : goal.returns-then-lengthen

@@ -1,5 +1,4 @@
 -- `token_lengths::dots_of` meets its contract.
-use borrow.Author.Rules.{rules}
 use Rattle.token_lengths.proofs.dots_of.Goals as goal
 
 pub returns-in-Written : goal.returns-in-Written

@@ -1,7 +1,6 @@
 -- `token_lexemes::bar_line` meets its contract.
 use mathlib.Core.Path.{sym, ◌∙◌}
 use Rattle.token_lexemes.proofs.Bar.{no_bar_lem, bar_read}
-use borrow.Author.Rules.{rules}
 use Rattle.token_lexemes.proofs.bar_line.Goals as goal
 
 pub returns-in_default : goal.returns-in_default

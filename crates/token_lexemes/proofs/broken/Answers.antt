@@ -1,6 +1,5 @@
 -- `token_lexemes::broken` meets its contract.
 use Rattle.token_lexemes.proofs.Closed.{too_many, not_too_many}
-use borrow.Author.Rules.{rules}
 use Rattle.token_lexemes.proofs.broken.Goals as goal
 
 pub returns-then-count-gt255 : goal.returns-then-count-gt255

@@ -2,7 +2,6 @@
 use Rattle.reader.specs.Token.{decoration, skipped, taken}
 use Rattle.token_lexemes.specs.Lexemes.{lexeme_for}
 use Rattle.token_lexemes.proofs.Closed.{closed, unclosed}
-use borrow.Author.Rules.{rules}
 use Rattle.token_lexemes.proofs.decoration.Goals as goal
 
 pub returns-then-close-line : goal.returns-then-close-line

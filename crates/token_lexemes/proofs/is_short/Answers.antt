@@ -1,6 +1,5 @@
 -- `token_lexemes::is_short` meets its contract.
 use mathlib.Core.Path.{sym, ◌∙◌}
-use borrow.Author.Rules.{rules}
 use Rattle.token_lexemes.proofs.is_short.Goals as goal
 
 pub returns-then-is_within : goal.returns-then-is_within

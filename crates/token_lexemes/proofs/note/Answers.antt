@@ -1,7 +1,6 @@
 -- `token_lexemes::note` meets its contract.
 use mathlib.Core.Path.{sym, ◌∙◌}
 use Rattle.token_lexemes.proofs.Sounding.{note_ends, note_other, note_letter}
-use borrow.Author.Rules.{rules}
 use Rattle.token_lexemes.proofs.note.Goals as goal
 
 pub returns-then-line-place : goal.returns-then-line-place

@@ -5,7 +5,6 @@ use mathlib.Core.Bool.{true}
 use lib.ListN.{get_or}
 use Rattle.token_lexemes.specs.Lexemes.{is_plain}
 use Rattle.token_lexemes.proofs.Sounding.{letter_out, letter_plain, letter_many, letter_in}
-use borrow.Author.Rules.{rules}
 use Rattle.token_lexemes.proofs.note_from_letter.Goals as goal
 
 pub returns-then-is_plain : goal.returns-then-is_plain

@@ -6,7 +6,6 @@ use lib.ListN.{length, drop, length-drop}
 use Rattle.reader.specs.Token.{quoted, taken}
 use Rattle.token_lexemes.specs.Lexemes.{lexeme_for}
 use Rattle.token_lexemes.proofs.Closed.{closed, unclosed}
-use borrow.Author.Rules.{rules}
 use Rattle.token_lexemes.proofs.quoted_text.Goals as goal
 
 pub returns-then-close-line : goal.returns-then-close-line

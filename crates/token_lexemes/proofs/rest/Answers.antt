@@ -1,7 +1,6 @@
 -- `token_lexemes::rest` meets its contract.
 use mathlib.Core.Path.{sym, ◌∙◌}
 use Rattle.token_lexemes.proofs.Sounding.{rest_many, rest_in}
-use borrow.Author.Rules.{rules}
 use Rattle.token_lexemes.proofs.rest.Goals as goal
 
 pub returns-in_default : goal.returns-in_default

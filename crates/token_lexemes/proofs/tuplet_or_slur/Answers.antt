@@ -1,7 +1,6 @@
 -- `token_lexemes::tuplet_or_slur` meets its contract.
 use mathlib.Core.Path.{sym, ◌∙◌}
 use Rattle.token_lexemes.proofs.Ratio.{slur_instead, tuplet_read}
-use borrow.Author.Rules.{rules}
 use Rattle.token_lexemes.proofs.tuplet_or_slur.Goals as goal
 
 pub returns-in_default : goal.returns-in_default

@@ -1,7 +1,6 @@
 -- `token_lexemes::volta` meets its contract.
 use mathlib.Core.Path.{sym, ◌∙◌}
 use Rattle.token_lexemes.proofs.Ending.{no_passes, passes_read}
-use borrow.Author.Rules.{rules}
 use Rattle.token_lexemes.proofs.volta.Goals as goal
 
 pub returns-in_default : goal.returns-in_default

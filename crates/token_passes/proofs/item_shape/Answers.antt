@@ -1,7 +1,6 @@
 -- `token_passes::item_shape` meets its contract.
 use Prim.Native.Nat.{ℕ, ◌+◌}
 use mathlib.Core.Path.{◌≡◌, refl, sym, ap₂, ◌∙◌}
-use mathlib.Core.Bool.{◌&&◌}
 use mathlib.Core.Option.{some}
 use mathlib.Core.List.{List}
 use native.Mathlib.Omega.{arith}
@@ -13,7 +12,6 @@ use Rattle.laws.proofs.Spans.{run_within}
 use Rattle.standard.specs.Bytes.{is_digit}
 use Rattle.reader.specs.PassLists.{list_number, is_pass}
 use Rattle.token_passes.proofs.Shapes.{number_none, number_some, shaped_not_first, shaped_one, shaped_not_second, shaped_no_third, shaped_two}
-use borrow.Author.Rules.{rules}
 use Rattle.token_passes.proofs.item_shape.Goals as goal
 
 pub returns-in_default : goal.returns-in_default

@@ -1,5 +1,5 @@
 -- `token_passes::list_fault` meets its contract. The loop's invariant is `Faulting`; the measure is what is left of the line.
-use Prim.Native.Nat.{◌-◌, ◌<◌}
+use Prim.Native.Nat.{◌<◌}
 use mathlib.Core.Path.{◌≡◌, refl, sym, ap, ◌∙◌}
 use mathlib.Core.Bool.{◌&&◌}
 use mathlib.Core.Option.{some}
@@ -15,8 +15,7 @@ use Rattle.standard.specs.Passes.{Item}
 use Rattle.reader.specs.PassLists.{numbers_in, is_pass}
 use Rattle.token_passes.specs.Passes.{is_item_byte}
 use Rattle.token_passes.specs.Faults.{list_item_at}
-use Rattle.token_passes.proofs.Shapes.{item_none, item_some, Faulting, faulting_start, faulting_none, faulting_last, faulting_on}
-use borrow.Author.Rules.{rules}
+use Rattle.token_passes.proofs.Shapes.{item_none, item_some, faulting_start, faulting_none, faulting_last, faulting_on}
 use Rattle.token_passes.proofs.list_fault.Goals as goal
 
 pub loop-item_in_range-init : goal.loop-item_in_range-init

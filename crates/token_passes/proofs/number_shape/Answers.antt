@@ -17,7 +17,6 @@ use Rattle.token_passes.specs.Faults.{number_shape}
 use Rattle.token_passes.specs.declared.Shape.TheVariants.{Right}
 use Rattle.token_passes.proofs.Items.{zero_first}
 use Rattle.token_passes.proofs.Shapes.{by_digits, plain_number, lone_zero, leading_zero}
-use borrow.Author.Rules.{rules}
 use Rattle.token_passes.proofs.number_shape.Goals as goal
 
 pub overflow_sub-next : goal.overflow_sub-next

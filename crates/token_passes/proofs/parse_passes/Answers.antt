@@ -1,5 +1,5 @@
 -- `token_passes::parse_passes` meets its contract. The loop's invariant is `Passing`; the measure is what is left of the line.
-use Prim.Native.Nat.{◌-◌, ◌<◌}
+use Prim.Native.Nat.{◌<◌}
 use mathlib.Core.Path.{◌≡◌, refl, sym, ◌∙◌}
 use native.Mathlib.Omega.{arith}
 use lib.Dec.{eqb}
@@ -9,8 +9,7 @@ use Rattle.laws.specs.Spans.{end_of}
 use Rattle.laws.proofs.Spans.{run_within}
 use Rattle.token_passes.specs.Passes.{is_item_byte, item_at}
 use Rattle.token_passes.proofs.Items.{Took, took, nothing_none}
-use Rattle.token_passes.proofs.Reading.{Passing, passing_start, passing_none, passing_fits, passing_last, passing_on}
-use borrow.Author.Rules.{rules}
+use Rattle.token_passes.proofs.Reading.{passing_start, passing_none, passing_fits, passing_last, passing_on}
 use Rattle.token_passes.proofs.parse_passes.Goals as goal
 
 pub loop-from-init : goal.loop-from-init

@@ -1,5 +1,5 @@
 -- `token_passes::pass_item` meets its contract.
-use Prim.Native.Nat.{ℕ, ◌+◌, ◌-◌, ◌≤◌}
+use Prim.Native.Nat.{ℕ, ◌+◌, ◌≤◌}
 use mathlib.Core.Path.{◌≡◌, refl, sym, ◌∙◌}
 use mathlib.Core.Option.{some}
 use mathlib.Core.List.{List}
@@ -12,7 +12,6 @@ use Rattle.laws.proofs.Spans.{run_within}
 use Rattle.standard.specs.Bytes.{is_digit}
 use Rattle.reader.specs.PassesInTurn.{pass_number}
 use Rattle.token_passes.proofs.Items.{pass_none, pass_some, no_first, low_first, one_pass, no_second, low_second, a_third, two_passes}
-use borrow.Author.Rules.{rules}
 use Rattle.token_passes.proofs.pass_item.Goals as goal
 
 pub returns-in_default : goal.returns-in_default

@@ -9,7 +9,6 @@ use Rattle.text_numbers.specs.declared.Read.{Read}
 use Rattle.text_numbers.proofs.Numbers.{value_le}
 use Rattle.token_passes.specs.Passes.{pass_for}
 use Rattle.token_passes.proofs.Items.{zero_leads, number_by}
-use borrow.Author.Rules.{rules}
 use Rattle.token_passes.proofs.pass_number.Goals as goal
 
 pub returns-then-byte_at-eq48 : goal.returns-then-byte_at-eq48

@@ -1,6 +1,5 @@
 -- `token_passes::range_bits` meets its contract.
 use Rattle.token_passes.proofs.Bits.{shifts_le, shifts_bits}
-use borrow.Author.Rules.{rules}
 use Rattle.token_passes.proofs.range_bits.Goals as goal
 
 pub overflow_sub-result-2 : goal.overflow_sub-result-2

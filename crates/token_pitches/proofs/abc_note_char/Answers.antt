@@ -1,7 +1,6 @@
 -- `token_pitches::abc_note_char` meets its contract.
 use borrow.Author.Tests.{lt-ltb, le-ltb}
 use Rattle.standard.specs.Pitches.{step_of, letter_octave}
-use borrow.Author.Rules.{rules}
 use Rattle.token_pitches.proofs.abc_note_char.Goals as goal
 
 pub returns-then-c-lt97 : goal.returns-then-c-lt97

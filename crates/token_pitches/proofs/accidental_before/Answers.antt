@@ -7,7 +7,6 @@ use borrow.Author.Tests.{eq-eqb}
 use Rattle.laws.proofs.Spans.{run_within}
 use Rattle.token_pitches.specs.Pitches.{before_for}
 use Rattle.token_pitches.proofs.Accidentals.{before_up, before_down, before_natural, before_none}
-use borrow.Author.Rules.{rules}
 use Rattle.token_pitches.proofs.accidental_before.Goals as goal
 
 pub returns-then-first-eq94 : goal.returns-then-first-eq94

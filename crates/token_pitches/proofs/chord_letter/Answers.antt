@@ -1,7 +1,6 @@
 -- `token_pitches::chord_letter` meets its contract.
 use mathlib.Core.Path.{sym, ◌∙◌}
 use Rattle.token_pitches.proofs.InChord.{letter_refused, letter_read}
-use borrow.Author.Rules.{rules}
 use Rattle.token_pitches.proofs.chord_letter.Goals as goal
 
 pub returns-in_default : goal.returns-in_default

@@ -6,7 +6,6 @@ use lib.Dec.{eqb}
 use borrow.Author.Tests.{eq-eqb}
 use Rattle.laws.proofs.Spans.{run_within}
 use Rattle.token_pitches.proofs.InChord.{sign_first_quarter, sign_first, sign_next}
-use borrow.Author.Rules.{rules}
 use Rattle.token_pitches.proofs.chord_sign.Goals as goal
 
 pub overflow_add-result : goal.overflow_add-result

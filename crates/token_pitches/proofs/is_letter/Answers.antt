@@ -1,5 +1,4 @@
 -- `token_pitches::is_letter` meets its contract, by the test at every byte.
-use mathlib.Core.Path.{◌≡◌}
 use native.Mathlib.Omega.{arith}
 use borrow.Author.Tests.{le-leb, lt-leb}
 use Rattle.token_pitches.proofs.Letters.{letter_small}

@@ -1,6 +1,5 @@
 -- `token_pitches::moved` meets its contract.
 use native.Mathlib.Omega.{arith}
-use borrow.Author.Rules.{rules}
 use Rattle.token_pitches.proofs.moved.Goals as goal
 
 pub returns-then-a-n : goal.returns-then-a-n

@@ -2,7 +2,6 @@
 use native.Mathlib.Omega.{arith}
 use Prim.Native.Nat.{◌≤◌}
 use Rattle.token_pitches.proofs.Octaves.{marks_none, marks_low, marks_high, marks_at}
-use borrow.Author.Rules.{rules}
 use Rattle.token_pitches.proofs.octave_marks.Goals as goal
 
 pub returns-then-byte_at-gt44 : goal.returns-then-byte_at-gt44

@@ -1,11 +1,9 @@
 -- `token_pitches::parse_abc_chord` meets its contract. The loop's invariant is `Counting`; the measure is what is left of the line.
-use Prim.Native.Nat.{◌+◌, ◌-◌, ◌<◌}
+use Prim.Native.Nat.{◌+◌, ◌<◌}
 use mathlib.Core.Path.{sym, ◌∙◌}
 use mathlib.Core.Option.{none}
 use native.Mathlib.Omega.{arith}
-use lib.ListN.{length}
 use Rattle.token_pitches.proofs.Walk.{Counting, counting_start, counting_over, counting_out, counting_one, met_end}
-use borrow.Author.Rules.{rules}
 use Rattle.token_pitches.proofs.parse_abc_chord.Goals as goal
 
 pub loop-i-init : goal.loop-i-init

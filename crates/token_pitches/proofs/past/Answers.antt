@@ -1,7 +1,6 @@
 -- `token_pitches::past` meets its contract.
 use borrow.Author.Tests.{lt-ltb, le-ltb}
 use Rattle.token_pitches.specs.Chords.{closed_at}
-use borrow.Author.Rules.{rules}
 use Rattle.token_pitches.proofs.past.Goals as goal
 
 pub returns-then-close-line : goal.returns-then-close-line

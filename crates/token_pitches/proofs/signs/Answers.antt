@@ -1,13 +1,11 @@
 -- `token_pitches::signs` meets its contract.
 use mathlib.Core.Path.{◌≡◌, refl, sym, ◌∙◌}
-use mathlib.Core.Logic.{⊎_elim}
 use native.Mathlib.Omega.{arith}
 use lib.Dec.{eqb}
 use lib.ListN.{get_or}
-use borrow.Author.Tests.{eq-eqb, eqb-true, eqb-false}
+use borrow.Author.Tests.{eq-eqb}
 use Rattle.laws.proofs.Spans.{run_within}
 use Rattle.token_pitches.proofs.Accidentals.{signs_quarter, signs_many, signs_plain}
-use borrow.Author.Rules.{rules}
 use Rattle.token_pitches.proofs.signs.Goals as goal
 use Rattle.token_pitches.proofs.signs.Goals.{else-n-eq1-via-then-n-eq1+else-byte_at-eq47, else-n-eq1-via-else-n-eq1}
 
@@ -26,6 +24,6 @@ pub returns : goal.returns
 returns c =
     rw c.moved.ensures
     (elim c.else-n-eq1.branch [
-      else-n-eq1-via-then-n-eq1+else-byte_at-eq47 w ↦ signs_plain c.args.line.now c.args.at c.args.up c.args.b c.run_end-end.result c.run_end-end.ensures (λ k. w.if-byte_at-eq47.false (w.byte_at.ensures ∙ k))
-    | else-n-eq1-via-else-n-eq1 w ↦ signs_many c.args.line.now c.args.at c.args.up c.args.b c.run_end-end.result c.run_end-end.ensures w.if-n-eq1.false
+      | else-n-eq1-via-then-n-eq1+else-byte_at-eq47 w ↦ signs_plain c.args.line.now c.args.at c.args.up c.args.b c.run_end-end.result c.run_end-end.ensures (λ k. w.if-byte_at-eq47.false (w.byte_at.ensures ∙ k))
+      | else-n-eq1-via-else-n-eq1 w ↦ signs_many c.args.line.now c.args.at c.args.up c.args.b c.run_end-end.result c.run_end-end.ensures w.if-n-eq1.false
     ])

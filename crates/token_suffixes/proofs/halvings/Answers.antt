@@ -1,7 +1,6 @@
 -- `token_suffixes::halvings` meets its contract.
 use native.Mathlib.Omega.{arith}
 use Rattle.token_suffixes.proofs.Suffixes.{too_many, not_too_many}
-use borrow.Author.Rules.{rules}
 use Rattle.token_suffixes.proofs.halvings.Goals as goal
 
 pub overflow_sub-count : goal.overflow_sub-count

@@ -1,7 +1,6 @@
 -- `token_suffixes::is_run` meets its contract.
 use native.Mathlib.Omega.{arith}
 use Rattle.token_suffixes.specs.Suffixes.{is_run}
-use borrow.Author.Rules.{rules}
 use Rattle.token_suffixes.proofs.is_run.Goals as goal
 
 pub overflow_add-at : goal.overflow_add-at

@@ -1,15 +1,13 @@
 -- `token_suffixes::number_or` meets its contract.
 use mathlib.Core.Path.{◌≡◌, refl, sym, ap, ◌∙◌}
 use mathlib.Core.Bool.{true, false}
-use Prim.Native.Nat.{◌+◌, ◌-◌, ◌≤◌, ◌<◌, ◌^◌}
+use Prim.Native.Nat.{◌-◌, ◌≤◌, ◌<◌, ◌^◌}
 use native.Mathlib.Omega.{arith}
 use lib.ListN.{length, get_or}
-use Rattle.laws.proofs.Bools.{not_true, not_false}
 use Rattle.laws.proofs.Spans.{run_within}
 use Rattle.standard.specs.Bytes.{is_digit}
 use Rattle.reader.proofs.Digits.{digit_low}
 use Rattle.token_suffixes.proofs.Suffixes.{number_none, number_one, number_at_lem, number_small}
-use borrow.Author.Rules.{rules}
 use Rattle.token_suffixes.proofs.number_or.Goals as goal
 
 -- no digit

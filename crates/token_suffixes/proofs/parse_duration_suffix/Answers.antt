@@ -4,7 +4,6 @@ use Prim.Native.Nat.{◌<◌}
 use native.Mathlib.Omega.{arith}
 use lib.ListN.{length, get_or}
 use Rattle.token_suffixes.proofs.Suffixes.{suffix_plain, suffix_slash, suffix_run, slash_within}
-use borrow.Author.Rules.{rules}
 use Rattle.token_suffixes.proofs.parse_duration_suffix.Goals as goal
 
 pub returns-then-byte_at-ne47 : goal.returns-then-byte_at-ne47

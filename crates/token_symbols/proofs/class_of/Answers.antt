@@ -3,7 +3,6 @@ use Prim.Native.Nat.{◌<◌, ◌≤◌}
 use mathlib.Core.Path.{sym}
 use native.Mathlib.Omega.{arith}
 use Rattle.token_symbols.proofs.Table.{table_at, high_skipped}
-use borrow.Author.Rules.{rules}
 use Rattle.token_symbols.proofs.class_of.Goals as goal
 
 pub returns-then-k-lt128 : goal.returns-then-k-lt128

@@ -1,5 +1,4 @@
 -- `token_symbols::default_normal` meets its contract, by the edition.
-use borrow.Author.Rules.{rules}
 use Rattle.token_symbols.proofs.default_normal.Goals as goal
 
 pub returns-in-First : goal.returns-in-First

@@ -2,7 +2,6 @@
 use mathlib.Core.Path.{refl}
 use Rattle.reader.specs.Tokens.{class_of, class_in, classes}
 use Rattle.token_symbols.specs.Classes.{class_code, classes_from, class_table}
-use borrow.Author.Rules.{rules}
 use Rattle.token_symbols.proofs.letter_classes.Goals as goal
 
 pub returns : goal.returns

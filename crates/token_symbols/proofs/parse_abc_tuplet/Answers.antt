@@ -1,5 +1,5 @@
 -- `token_symbols::parse_abc_tuplet` meets its contract.
-use Prim.Native.Nat.{ℕ, ◌+◌, ◌-◌, ◌≤◌}
+use Prim.Native.Nat.{ℕ, ◌+◌, ◌≤◌}
 use mathlib.Core.Path.{◌≡◌, refl, sym, ◌∙◌}
 use mathlib.Core.Option.{some}
 use mathlib.Core.List.{List}
@@ -14,7 +14,6 @@ use Rattle.editions.specs.declared.Edition.{Edition}
 use Rattle.reader.specs.Tuplets.{positive, normal_for, part_or}
 use Rattle.reader.proofs.Tuplets.{normal_most}
 use Rattle.token_symbols.proofs.Ratios.{positive_le, part_le, number_none, number_some, no_actual, one_note, actual_alone, no_normal, normal_alone, no_count, all_three}
-use borrow.Author.Rules.{rules}
 use Rattle.token_symbols.proofs.parse_abc_tuplet.Goals as goal
 
 pub returns-in_default : goal.returns-in_default

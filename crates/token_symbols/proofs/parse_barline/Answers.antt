@@ -6,7 +6,6 @@ use lib.ListN.{get_or, drop}
 use Rattle.laws.proofs.Lists.{drop_next, first_at}
 use Rattle.standard.specs.Bytes.{first}
 use Rattle.token_symbols.proofs.Symbols.{start_symbol, double_symbol, final_symbol, normal_symbol, end_symbol, both_symbol, colon_symbol, other_symbol, other_than}
-use borrow.Author.Rules.{rules}
 use Rattle.token_symbols.proofs.parse_barline.Goals as goal
 
 pub returns-in-58-second : goal.returns-in-58-second

@@ -7,7 +7,6 @@ use Rattle.standard.specs.Bytes.{is_digit}
 use Rattle.reader.specs.Tuplets.{part_or}
 use Rattle.token_symbols.specs.Tuplets.{number_for}
 use Rattle.token_symbols.proofs.Ratios.{part_written, part_empty}
-use borrow.Author.Rules.{rules}
 use Rattle.token_symbols.proofs.part_or.Goals as goal
 
 pub returns-then-is_digit : goal.returns-then-is_digit

@@ -7,7 +7,6 @@ use Rattle.laws.specs.Spans.{run}
 use Rattle.standard.specs.Bytes.{is_digit}
 use Rattle.token_symbols.specs.Tuplets.{number_for}
 use Rattle.token_symbols.proofs.Ratios.{no_digits, past_top, is_zero, is_value}
-use borrow.Author.Rules.{rules}
 use Rattle.token_symbols.proofs.positive.Goals as goal
 
 pub returns-then-value-eq0 : goal.returns-then-value-eq0

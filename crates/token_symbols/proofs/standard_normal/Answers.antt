@@ -2,7 +2,6 @@
 use borrow.Author.Tests.{ne_eqb}
 use Rattle.standard.specs.Tuplets.{usual_normal, default_normal}
 use Rattle.reader.specs.Tuplets.{normal_for, or_one_less}
-use borrow.Author.Rules.{rules}
 use Rattle.token_symbols.proofs.standard_normal.Goals as goal
 
 pub returns-in-2 : goal.returns-in-2

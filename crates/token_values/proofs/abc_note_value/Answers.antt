@@ -1,5 +1,4 @@
 -- `token_values::abc_note_value` meets its contract: each of its three ways gives the reader's written value, and the bound on the parts changes nothing.
-use borrow.Author.Rules.{rules}
 use mathlib.Core.Path.{◌≡◌, sym, ap, ◌∙◌}
 use Prim.Native.Nat.{◌<◌, ◌^◌}
 use native.Mathlib.Omega.{arith}

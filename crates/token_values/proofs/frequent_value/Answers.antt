@@ -1,5 +1,4 @@
 -- `token_values::frequent_value` meets its contract: a test that fails leaves the values behind it.
-use borrow.Author.Rules.{rules}
 use mathlib.Core.Path.{◌≡◌, refl, ap, ◌∙◌}
 use Prim.Native.Nat.{ℕ, ◌*◌}
 use lib.ListN.{drop}

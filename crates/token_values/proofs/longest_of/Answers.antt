@@ -4,7 +4,6 @@ use mathlib.Core.Path.{◌≡◌, refl, sym, ap}
 use mathlib.Core.Bool.{Bool, true}
 use native.Mathlib.Omega.{arith}
 use lib.ListN.{get_or}
-use borrow.Author.Rules.{rules}
 use Rattle.laws.proofs.Finite.{below}
 use Rattle.standard.specs.Lengths.{ten_values, with_dots, forty}
 use Rattle.reader.specs.Lengths.{quarter_note}

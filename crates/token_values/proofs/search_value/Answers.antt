@@ -1,7 +1,5 @@
 -- `token_values::search_value` meets its contract. Within both loops nothing has met the length, and the count is `Counting`, at 4 × k and at 4 × k + dots.
-use borrow.Author.Rules.{rules}
 use mathlib.Core.Path.{◌≡◌, refl, sym, ap, ◌∙◌}
-use mathlib.Core.Logic.{⊎_elim}
 use Prim.Native.Nat.{ℕ, ◌+◌, ◌-◌, ◌*◌, ◌≤◌, ◌<◌}
 use native.Mathlib.Nat.{add-zero, mul-le-mul}
 use native.Mathlib.Omega.{arith}
@@ -15,7 +13,7 @@ use Rattle.token_lengths.specs.Values.{written, length_as}
 use Rattle.token_values.specs.declared.Found.{Found}
 use Rattle.token_values.specs.declared.Found.TheVariants as found
 use Rattle.token_values.specs.Found.{fraction}
-use Rattle.token_values.proofs.Searches.{nth_lt, Counting, counting_start, count_le, count_over, count_below, count_above, written_count}
+use Rattle.token_values.proofs.Searches.{nth_lt, counting_start, count_le, count_over, count_below, count_above, written_count}
 use Rattle.token_values.proofs.Sizes.{size_le}
 use Rattle.token_values.proofs.search_value.Goals as goal
 use Rattle.token_values.proofs.search_value.Goals.{then-scaled-length-2, else-scaled-length-2, else-search-test, then-search-test+then-loop-dots-test+then-scaled-length}
@@ -61,10 +59,10 @@ loop-dots-preserved c =
       omega arith,
       i.1,
       elim c.if-scaled-length-2.branch [
-        then-scaled-length-2 w ↦ let p : c.size.result * a.parts < a.num * 1024 = omega (arith, w.if-scaled-length-2.true) in
-        rw w.below-is (count_below _ _ _ _ _ i.2 hk hd (rw (c.size.ensures, v.ensures) at p))
-      | else-scaled-length-2 w ↦ let p : a.num * 1024 < c.size.result * a.parts = omega (arith, w.if-scaled-length-2.false, c.if-scaled-length.false) in
-        rw w.below-is (count_above _ _ _ _ _ i.2 hk hd (rw (c.size.ensures, v.ensures) at p))
+        | then-scaled-length-2 w ↦ let p : c.size.result * a.parts < a.num * 1024 = omega (arith, w.if-scaled-length-2.true) in
+            rw w.below-is (count_below _ _ _ _ _ i.2 hk hd (rw (c.size.ensures, v.ensures) at p))
+        | else-scaled-length-2 w ↦ let p : a.num * 1024 < c.size.result * a.parts = omega (arith, w.if-scaled-length-2.false, c.if-scaled-length.false) in
+            rw w.below-is (count_above _ _ _ _ _ i.2 hk hd (rw (c.size.ensures, v.ensures) at p))
       ],
     )
 
@@ -79,12 +77,12 @@ pub longest_of-requires : goal.longest_of-requires
 longest_of-requires c =
     let left : Ended c.args.num c.args.parts c.search-test.met c.search-test.below =
     elim c.search-test.branch [
-      else-search-test w ↦ let e : 4 * c.search.k ≡ 40 = omega (arith, w.search-test.false, c.search.invariant.0) in
-      rw (w.met-is, w.below-is, c.search.invariant.1) (count_le _ _ _ _ c.search.invariant.2, written_count c.args.num c.args.parts _ c.requires.0 (count_over _ _ _ _ c.search.invariant.2 e))
-    | then-search-test+then-loop-dots-test+then-scaled-length w ↦ let hk : c.search.k < 10 = omega (arith, w.search-test.true) in
-      let hd : w.loop-dots.dots < 4 = omega (arith, w.loop-dots-test.true) in
-      let hv : w.outward_value-value.result < 10 = rw w.outward_value-value.ensures (nth_lt _ hk) in
-      rw w.met-is (written_met (fraction c.args.num c.args.parts) _ _ c.requires.0 hv hd (rw w.size.ensures at w.if-scaled-length.true))
+      | else-search-test w ↦ let e : 4 * c.search.k ≡ 40 = omega (arith, w.search-test.false, c.search.invariant.0) in
+          rw (w.met-is, w.below-is, c.search.invariant.1) (count_le _ _ _ _ c.search.invariant.2, written_count c.args.num c.args.parts _ c.requires.0 (count_over _ _ _ _ c.search.invariant.2 e))
+      | then-search-test+then-loop-dots-test+then-scaled-length w ↦ let hk : c.search.k < 10 = omega (arith, w.search-test.true) in
+          let hd : w.loop-dots.dots < 4 = omega (arith, w.loop-dots-test.true) in
+          let hv : w.outward_value-value.result < 10 = rw w.outward_value-value.ensures (nth_lt _ hk) in
+          rw w.met-is (written_met (fraction c.args.num c.args.parts) _ _ c.requires.0 hv hd (rw w.size.ensures at w.if-scaled-length.true))
     ] in
     let none_met : Ended c.args.num c.args.parts found.Nothing c.search-test.below = rw c.in_default.is at left in
     none_met.0
@@ -94,12 +92,12 @@ returns-in_default c =
     let answers : search_in outward (fraction c.args.num c.args.parts) ≡ written_as (fraction c.args.num c.args.parts) = outward_as_written (fraction c.args.num c.args.parts) (omega (arith, c.requires.0)) in
     let left : Ended c.args.num c.args.parts c.search-test.met c.search-test.below =
     elim c.search-test.branch [
-      else-search-test w ↦ let e : 4 * c.search.k ≡ 40 = omega (arith, w.search-test.false, c.search.invariant.0) in
-      rw (w.met-is, w.below-is, c.search.invariant.1) (count_le _ _ _ _ c.search.invariant.2, written_count c.args.num c.args.parts _ c.requires.0 (count_over _ _ _ _ c.search.invariant.2 e))
-    | then-search-test+then-loop-dots-test+then-scaled-length w ↦ let hk : c.search.k < 10 = omega (arith, w.search-test.true) in
-      let hd : w.loop-dots.dots < 4 = omega (arith, w.loop-dots-test.true) in
-      let hv : w.outward_value-value.result < 10 = rw w.outward_value-value.ensures (nth_lt _ hk) in
-      rw w.met-is (written_met (fraction c.args.num c.args.parts) _ _ c.requires.0 hv hd (rw w.size.ensures at w.if-scaled-length.true))
+      | else-search-test w ↦ let e : 4 * c.search.k ≡ 40 = omega (arith, w.search-test.false, c.search.invariant.0) in
+          rw (w.met-is, w.below-is, c.search.invariant.1) (count_le _ _ _ _ c.search.invariant.2, written_count c.args.num c.args.parts _ c.requires.0 (count_over _ _ _ _ c.search.invariant.2 e))
+      | then-search-test+then-loop-dots-test+then-scaled-length w ↦ let hk : c.search.k < 10 = omega (arith, w.search-test.true) in
+          let hd : w.loop-dots.dots < 4 = omega (arith, w.loop-dots-test.true) in
+          let hv : w.outward_value-value.result < 10 = rw w.outward_value-value.ensures (nth_lt _ hk) in
+          rw w.met-is (written_met (fraction c.args.num c.args.parts) _ _ c.requires.0 hv hd (rw w.size.ensures at w.if-scaled-length.true))
     ] in
     let none_met : Ended c.args.num c.args.parts found.Nothing c.search-test.below = rw c.in_default.is at left in
     c.longest_of.ensures ∙ ap length_as (sym none_met.1 ∙ sym answers)
@@ -108,12 +106,12 @@ pub returns : goal.returns
 returns c =
     let left : Ended c.args.num c.args.parts c.search-test.met c.search-test.below =
     elim c.search-test.branch [
-      else-search-test w ↦ let e : 4 * c.search.k ≡ 40 = omega (arith, w.search-test.false, c.search.invariant.0) in
-      rw (w.met-is, w.below-is, c.search.invariant.1) (count_le _ _ _ _ c.search.invariant.2, written_count c.args.num c.args.parts _ c.requires.0 (count_over _ _ _ _ c.search.invariant.2 e))
-    | then-search-test+then-loop-dots-test+then-scaled-length w ↦ let hk : c.search.k < 10 = omega (arith, w.search-test.true) in
-      let hd : w.loop-dots.dots < 4 = omega (arith, w.loop-dots-test.true) in
-      let hv : w.outward_value-value.result < 10 = rw w.outward_value-value.ensures (nth_lt _ hk) in
-      rw w.met-is (written_met (fraction c.args.num c.args.parts) _ _ c.requires.0 hv hd (rw w.size.ensures at w.if-scaled-length.true))
+      | else-search-test w ↦ let e : 4 * c.search.k ≡ 40 = omega (arith, w.search-test.false, c.search.invariant.0) in
+          rw (w.met-is, w.below-is, c.search.invariant.1) (count_le _ _ _ _ c.search.invariant.2, written_count c.args.num c.args.parts _ c.requires.0 (count_over _ _ _ _ c.search.invariant.2 e))
+      | then-search-test+then-loop-dots-test+then-scaled-length w ↦ let hk : c.search.k < 10 = omega (arith, w.search-test.true) in
+          let hd : w.loop-dots.dots < 4 = omega (arith, w.loop-dots-test.true) in
+          let hv : w.outward_value-value.result < 10 = rw w.outward_value-value.ensures (nth_lt _ hk) in
+          rw w.met-is (written_met (fraction c.args.num c.args.parts) _ _ c.requires.0 hv hd (rw w.size.ensures at w.if-scaled-length.true))
     ] in
     let answers : search_in outward (fraction c.args.num c.args.parts) ≡ written_as (fraction c.args.num c.args.parts) = outward_as_written (fraction c.args.num c.args.parts) (omega (arith, c.requires.0)) in
     ap length_as (sym (rw c.in-Value.is at left) ∙ sym answers)

@@ -1,6 +1,5 @@
 -- `token_values::size` meets its contract, by the tests at the forty values.
 use Rattle.token_values.proofs.Sizes.{shifted_pos, computed_lt, computed_size}
-use borrow.Author.Rules.{rules}
 use Rattle.token_values.proofs.size.Goals as goal
 
 pub overflow_sub-result : goal.overflow_sub-result

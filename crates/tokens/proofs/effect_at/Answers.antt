@@ -4,7 +4,6 @@ use lib.ListN.{drop}
 use Rattle.reader.specs.Tokens.{token_as, token_of, effect_of}
 use Rattle.tokens.specs.Tokens.{effect_for, effected_for}
 use Rattle.tokens.proofs.Dispatch.{by_code, classed, effect_token}
-use borrow.Author.Rules.{rules}
 use Rattle.tokens.proofs.effect_at.Goals as goal
 
 pub returns-then-class-eq-PITCHED : goal.returns-then-class-eq-PITCHED

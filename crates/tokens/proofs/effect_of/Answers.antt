@@ -1,6 +1,5 @@
 -- `tokens::effect_of` meets its contract.
 use Rattle.tokens.specs.Tokens.{effect_in}
-use borrow.Author.Rules.{rules}
 use Rattle.tokens.proofs.effect_of.Goals as goal
 
 pub returns-in-Space : goal.returns-in-Space

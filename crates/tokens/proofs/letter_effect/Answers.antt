@@ -12,7 +12,6 @@ use Rattle.token_lexemes.specs.Lexemes.{is_plain, is_short}
 use Rattle.token_lexemes.proofs.Sounding.{letter_out, letter_plain, letter_short, letter_many, letter_in}
 use Rattle.tokens.specs.Tokens.{effect_for, effect_in, effected_for, effected_in}
 use Rattle.tokens.proofs.Dispatch.{effected}
-use borrow.Author.Rules.{rules}
 use Rattle.tokens.proofs.letter_effect.Goals as goal
 
 pub returns-then-is_plain : goal.returns-then-is_plain

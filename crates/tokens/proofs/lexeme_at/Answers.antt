@@ -8,7 +8,6 @@ use Rattle.reader.specs.Codes.{kind_code}
 use Rattle.reader.specs.Tokens.{token_as, token_of}
 use Rattle.token_lexemes.specs.Lexemes.{lexeme_for, cut_for}
 use Rattle.tokens.proofs.Dispatch.{by_code, classed, unclassed, rest_cut}
-use borrow.Author.Rules.{rules}
 use Rattle.tokens.proofs.lexeme_at.Goals as goal
 
 pub returns-in-1 : goal.returns-in-1

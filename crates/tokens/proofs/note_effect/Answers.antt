@@ -8,7 +8,6 @@ use Rattle.token_pitches.specs.Pitches.{sign_of}
 use Rattle.token_lexemes.proofs.Sounding.{note_ends, note_other, note_letter}
 use Rattle.tokens.specs.Tokens.{effect_in, effected_in}
 use Rattle.tokens.proofs.Dispatch.{effected, marked}
-use borrow.Author.Rules.{rules}
 use Rattle.tokens.proofs.note_effect.Goals as goal
 
 pub returns-then-line-place : goal.returns-then-line-place

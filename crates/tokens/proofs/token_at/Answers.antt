@@ -5,7 +5,6 @@ use Rattle.reader.specs.Tokens.{token_as, token_of}
 use Rattle.token_lexemes.specs.Lexemes.{cut_for}
 use Rattle.tokens.specs.Tokens.{token_for, tokenised_for, tokenised_in}
 use Rattle.tokens.proofs.Dispatch.{by_code, classed, valued_cut}
-use borrow.Author.Rules.{rules}
 use Rattle.tokens.proofs.token_at.Goals as goal
 
 pub returns-then-class-eq-PITCHED : goal.returns-then-class-eq-PITCHED

@@ -1,6 +1,5 @@
 -- `tokens::tokenise` meets its contract.
 use Rattle.tokens.specs.Tokens.{valued_for}
-use borrow.Author.Rules.{rules}
 use Rattle.tokens.proofs.tokenise.Goals as goal
 
 pub returns-in_default : goal.returns-in_default

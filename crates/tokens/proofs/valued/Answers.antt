@@ -1,7 +1,6 @@
 -- `tokens::valued` meets its contract.
 use borrow.Author.Tests.{lt-ltb, le-ltb}
 use Rattle.tokens.specs.Tokens.{valued_for}
-use borrow.Author.Rules.{rules}
 use Rattle.tokens.proofs.valued.Goals as goal
 
 pub returns-then-kind-lt3 : goal.returns-then-kind-lt3
