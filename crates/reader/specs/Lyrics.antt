@@ -82,9 +82,9 @@ sung_at v c t i notes = alter_at i (put (record { verse = v; syllabic = c; exten
 
 -- what a word does at its note; past the last note a syllable is not written
 unfoldable pub sung_word : ℕ → Word → Option ℕ → Option ℕ → List (List Syllable) → List (List Syllable)
-sung_word v skip note before notes = notes
-sung_word v bar note before notes = notes
-sung_word v hold note before notes = held_at v before notes
+sung_word v skip at before notes = notes
+sung_word v bar at before notes = notes
+sung_word v hold at before notes = held_at v before notes
 sung_word v (syllable c t) (some i) before notes = sung_at v c t i notes
 sung_word v (syllable c t) none before notes = notes
 
