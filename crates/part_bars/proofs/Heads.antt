@@ -15,7 +15,6 @@ use Rattle.reader.specs.Barlines.{left_of}
 use Rattle.reader.specs.Codes.{barline_code}
 use Rattle.reader.specs.Records.{pass_bits, measure_width}
 use Rattle.reader.specs.Token as token
-use Rattle.reader.specs.State as State
 use Rattle.reader.specs.State.{volta_begins, no_scopes, with_time}
 use Rattle.part_layout.specs.Log.{Head, LogState, with_right, with_meter, with_volta, new_head, on_last_head, on_open, open_is_empty, is_empty_head, left_set, ended_heads, ended_last, on_barline, on_token, set_line}
 use Rattle.part_layout.specs.Lines.{Standing}

@@ -1,5 +1,4 @@
 -- `part_bars::end_measure` meets its contract.
-use borrow.Author.Rules.{rules}
 use Rattle.part_bars.proofs.end_measure.Goals as goal
 
 pub returns : goal.returns

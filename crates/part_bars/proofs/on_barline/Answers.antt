@@ -1,7 +1,6 @@
 -- `part_bars::on_barline` meets its contract: one law for each way.
 use Rattle.laws.proofs.Splices.{length_spliced}
 use Rattle.part_bars.proofs.Heads.{represented_heads, simulates_as, empty_simulates, opens_simulates, closed_simulates}
-use borrow.Author.Rules.{rules}
 use native.Mathlib.Omega.{arith}
 use Rattle.part_bars.proofs.on_barline.Goals as goal
 

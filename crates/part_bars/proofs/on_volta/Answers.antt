@@ -1,6 +1,5 @@
 -- `part_bars::on_volta` meets its contract.
 use Rattle.part_bars.proofs.Heads.{represented_heads, volta_simulates}
-use borrow.Author.Rules.{rules}
 use native.Mathlib.Omega.{arith}
 use Rattle.part_bars.proofs.on_volta.Goals as goal
 

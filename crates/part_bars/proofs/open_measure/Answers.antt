@@ -1,5 +1,4 @@
 -- `part_bars::open_measure` meets its contract.
-use borrow.Author.Rules.{rules}
 use Rattle.part_bars.proofs.open_measure.Goals as goal
 
 pub returns : goal.returns

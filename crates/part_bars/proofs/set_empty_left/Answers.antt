@@ -1,5 +1,4 @@
 -- `part_bars::set_empty_left` meets its contract.
-use borrow.Author.Rules.{rules}
 use Rattle.part_bars.proofs.set_empty_left.Goals as goal
 
 pub returns-in-RepeatStart : goal.returns-in-RepeatStart
