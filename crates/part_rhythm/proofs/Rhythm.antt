@@ -17,7 +17,6 @@ use Rattle.standard.specs.Pitches.{Pitch}
 use Rattle.standard.specs.Notes as Notes
 use Rattle.reader.specs.Codes.{kind_code, beam_code}
 use Rattle.reader.specs.Token as token
-use Rattle.reader.specs.State as State
 use Rattle.reader.specs.State.{Note, with_half, with_run}
 use Rattle.reader.specs.Part.{can_beam, broken_note, beamed_again, run_after}
 use Rattle.part_layout.specs.Log.{LogState, set_line, set_log, last_place, at_place, note_at, on_broken, on_nothing, on_token}

@@ -1,7 +1,6 @@
 -- `part_rhythm::beam_again` meets its contract.
 use Prim.Native.Nat.{◌+◌, ◌*◌}
 use Rattle.part_rhythm.proofs.Rhythm.{again_first, again_ends, again_plain}
-use borrow.Author.Rules.{rules}
 use Rattle.part_rows.specs.Encoded.{note_row_width}
 use Rattle.part_rhythm.proofs.beam_again.Goals as goal
 

@@ -1,6 +1,5 @@
 -- `part_rhythm::break_at` meets its contract.
 use Rattle.part_rhythm.proofs.Rhythm.{broken_none_at, broken_some_at}
-use borrow.Author.Rules.{rules}
 use Rattle.part_rhythm.proofs.break_at.Goals as goal
 
 pub returns-then-place-eq0 : goal.returns-then-place-eq0

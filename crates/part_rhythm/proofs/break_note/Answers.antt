@@ -1,7 +1,6 @@
 -- `part_rhythm::break_note` meets its contract.
 use Prim.Native.Nat.{◌+◌, ◌*◌}
 use Rattle.part_rhythm.proofs.Rhythm.{broken_written}
-use borrow.Author.Rules.{rules}
 use Rattle.part_rows.specs.Encoded.{note_row_width}
 use Rattle.part_rhythm.proofs.break_note.Goals as goal
 

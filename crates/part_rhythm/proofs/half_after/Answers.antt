@@ -1,6 +1,5 @@
 -- `part_rhythm::half_after` meets its contract.
 use Rattle.part_rhythm.specs.Rhythm.{half_after}
-use borrow.Author.Rules.{rules}
 use Rattle.part_rhythm.proofs.half_after.Goals as goal
 
 pub returns-then-broken : goal.returns-then-broken

@@ -1,6 +1,5 @@
 -- `part_rhythm::on_broken` meets its contract.
 use Rattle.part_rhythm.proofs.Rhythm.{overlay_small, row_inside, broken_by}
-use borrow.Author.Rules.{rules}
 use Rattle.part_rhythm.proofs.on_broken.Goals as goal
 
 pub last_place-place-requires : goal.last_place-place-requires

@@ -1,6 +1,5 @@
 -- `part_rhythm::on_nothing` meets its contract.
 use Rattle.part_rhythm.proofs.Rhythm.{overlay_small, row_inside, nothing_by}
-use borrow.Author.Rules.{rules}
 use Rattle.part_rhythm.proofs.on_nothing.Goals as goal
 
 pub last_place-place-requires : goal.last_place-place-requires

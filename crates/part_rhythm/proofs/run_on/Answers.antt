@@ -1,5 +1,4 @@
 -- `part_rhythm::run_on` meets its contract.
-use borrow.Author.Rules.{rules}
 use Rattle.part_rhythm.proofs.run_on.Goals as goal
 
 pub returns : goal.returns

@@ -1,5 +1,4 @@
 -- `part_rhythm::wait_for` meets its contract.
-use borrow.Author.Rules.{rules}
 use Rattle.part_rhythm.proofs.wait_for.Goals as goal
 
 pub returns : goal.returns

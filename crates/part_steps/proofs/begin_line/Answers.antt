@@ -1,14 +1,15 @@
 -- `part_steps::begin_line` meets its contract.
 use Rattle.part_steps.proofs.Measures.{opens_first, goes_on_lem}
-use borrow.Author.Rules.{rules}
 use Rattle.part_steps.proofs.begin_line.Goals as goal
 
 pub returns-then-counts-eq0 : goal.returns-then-counts-eq0
 returns-then-counts-eq0 c =
     let a = c.args in
-    opens_first a.unit a.top a.bottom c.requires.0 c.requires.1 c.if-counts-eq0.true _ c.put_measure.ensures _ c.new_line.ensures
+    let h = opens_first {t = a.t} {s = a.store.now} {r = a.r} a.unit a.top a.bottom c.requires.0 c.requires.1 c.if-counts-eq0.true _ c.put_measure.ensures _ c.new_line.ensures in
+    record { simulates_item = h.0; le_heads = h.1 }
 
 pub returns : goal.returns
 returns c =
     let a = c.args in
-    goes_on_lem a.unit a.top a.bottom c.if-counts-eq0.false _ c.new_line-2.ensures
+    let h = goes_on_lem {t = a.t} {s = a.store.now} {r = a.r} a.unit a.top a.bottom c.if-counts-eq0.false _ c.new_line-2.ensures in
+    record { simulates_item = h.0; le_heads = h.1 }

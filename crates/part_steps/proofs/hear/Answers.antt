@@ -1,5 +1,4 @@
 -- `part_steps::hear` meets its contract.
-use borrow.Author.Rules.{rules}
 use Rattle.part_steps.proofs.hear.Goals as goal
 
 pub returns : goal.returns

@@ -1,7 +1,6 @@
 -- `part_steps::next_voice` meets its contract.
 use native.Mathlib.Omega.{arith}
 use Rattle.standard.specs.Notes.{next_voice}
-use borrow.Author.Rules.{rules}
 use Rattle.part_steps.proofs.next_voice.Goals as goal
 
 pub returns-then-voice-lt3 : goal.returns-then-voice-lt3

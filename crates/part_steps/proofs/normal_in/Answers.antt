@@ -1,7 +1,6 @@
 -- `part_steps::normal_in` meets its contract, by what is written and by the meter.
 use mathlib.Core.Path.{sym, ◌∙◌}
 use native.Mathlib.Omega.{arith}
-use borrow.Author.Rules.{rules}
 use Rattle.standard.specs.Tuplets.{normal_in}
 use Rattle.reader.proofs.Tuplets.{meter_stays}
 use Rattle.part_steps.proofs.normal_in.Goals as goal

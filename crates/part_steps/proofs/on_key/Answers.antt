@@ -2,7 +2,6 @@
 use Rattle.field_keys.specs.Passed.{key_as}
 use Rattle.part_bars.proofs.Heads.{represented_heads}
 use Rattle.part_steps.proofs.Measures.{key_simulates}
-use borrow.Author.Rules.{rules}
 use native.Mathlib.Omega.{arith}
 use Rattle.part_steps.proofs.on_key.Goals as goal
 

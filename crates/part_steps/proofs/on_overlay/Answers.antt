@@ -1,6 +1,5 @@
 -- `part_steps::on_overlay` meets its contract.
 use Rattle.part_steps.proofs.Registers.{overlay_simulates}
-use borrow.Author.Rules.{rules}
 use Rattle.part_steps.proofs.on_overlay.Goals as goal
 
 pub returns : goal.returns

@@ -1,6 +1,5 @@
 -- `part_steps::on_space` meets its contract.
 use Rattle.part_steps.proofs.Registers.{space_simulates}
-use borrow.Author.Rules.{rules}
 use Rattle.part_steps.proofs.on_space.Goals as goal
 
 pub returns : goal.returns

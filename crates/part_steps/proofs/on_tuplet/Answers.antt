@@ -1,6 +1,5 @@
 -- `part_steps::on_tuplet` meets its contract.
 use Rattle.part_steps.proofs.Registers.{tuplet_simulates}
-use borrow.Author.Rules.{rules}
 use Rattle.part_steps.proofs.on_tuplet.Goals as goal
 
 pub returns : goal.returns
