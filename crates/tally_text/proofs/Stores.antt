@@ -1,5 +1,5 @@
 -- The program's stores are long enough: no input up to 1,792 bytes is refused with 15 or 16, the calling program's numbers.
-use Prim.Native.Nat.{ℕ, ◌*◌, ◌≤◌}
+use Prim.Native.Nat.{ℕ, ◌≤◌}
 use mathlib.Core.Path.{◌≡◌, refl, subst}
 use mathlib.Core.List.{List}
 use native.Mathlib.Omega.{arith}
@@ -12,7 +12,7 @@ use Rattle.editions.specs.declared.Edition.TheVariants.{First}
 use Rattle.reader.specs.Text.{is_utf8, is_blank, text_lines}
 use Rattle.reader.specs.Steps.{refuse, on}
 use Rattle.reader.specs.Scan.{Out, scan}
-use Rattle.reader.specs.Answer.{Verdict, refusal, reading, Outcome, most_bytes, scratch_needed, refused_with, early, encode, measure_count, written, ended, finish, scanned, unless, parse_abc}
+use Rattle.reader.specs.Answer.{Verdict, refusal, reading, most_bytes, scratch_needed, refused_with, early, encode, measure_count, written, ended, finish, scanned, unless, parse_abc}
 use Rattle.bounds.proofs.ScanRanges.{not_15, OutFits, scan_out}
 use Rattle.bounds.proofs.Reading.{parts_after, utf8_bytes, never_16}
 use Rattle.tally_text.specs.Printed.{most_input, reading_bytes, scratch_bytes}

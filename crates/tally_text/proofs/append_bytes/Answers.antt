@@ -1,6 +1,5 @@
 -- `tally_text::append_bytes` meets its contract.
 use mathlib.Core.Path.{refl}
-use borrow.Author.Rules.{rules}
 use Rattle.tally_text.proofs.Texts.{copied}
 use Rattle.tally_text.proofs.append_bytes.Goals as goal
 

@@ -1,6 +1,5 @@
 -- `tally_text::append_field` meets its contract: the word, and the number behind it.
 use native.Mathlib.Omega.{arith}
-use borrow.Author.Rules.{rules}
 use Rattle.tally_text.specs.Printed.{field}
 use Rattle.tally_text.proofs.Texts.{then, field_most}
 use Rattle.tally_text.proofs.append_field.Goals as goal

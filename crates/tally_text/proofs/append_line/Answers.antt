@@ -1,5 +1,4 @@
 -- `tally_text::append_line` meets its contract: field after field, and the line feed.
-use borrow.Author.Rules.{rules}
 use Rattle.tally_text.specs.Printed.{line}
 use Rattle.tally_text.proofs.Texts.{then}
 use Rattle.tally_text.proofs.append_line.Goals as goal

@@ -1,8 +1,6 @@
 -- `tally_text::append_lines` meets its contract: what is written, and what is still to come, are all lines.
-use Prim.Native.Nat.{ℕ, ◌+◌, ◌-◌}
-use native.Mathlib.Omega.{arith}
 use borrow.Author.Rules.{rules}
-use Rattle.tally_text.proofs.Lines.{Doing, nothing, part_there, line_there, next, finished}
+use Rattle.tally_text.proofs.Lines.{nothing, part_there, line_there, next, finished}
 use Rattle.tally_text.proofs.append_lines.Goals as goal
 
 pub loop-i-init : goal.loop-i-init

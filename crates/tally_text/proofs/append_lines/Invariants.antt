@@ -1,8 +1,6 @@
 -- `tally_text::append_lines` meets its contract: what is written, and what is still to come, are all lines.
-use Prim.Native.Nat.{ℕ, ◌+◌, ◌-◌}
-use native.Mathlib.Omega.{arith}
-use borrow.Author.Rules.{rules}
-use Rattle.tally_text.proofs.Lines.{Doing, nothing, part_there, line_there, next, finished}
+use Prim.Native.Nat.{◌-◌}
+use Rattle.tally_text.proofs.Lines.{Doing}
 use Rattle.tally_text.proofs.append_lines.Given as goal
 
 abbrev pub invariant-loop-i : goal.invariant-loop-i

@@ -1,5 +1,4 @@
 -- `tally_text::append_reading` meets its contract: the count of parts, and their lines.
-use native.Mathlib.Omega.{arith}
 use borrow.Author.Rules.{rules}
 use Rattle.tally_text.specs.Printed.{parts_text}
 use Rattle.tally_text.proofs.Texts.{then}

@@ -1,5 +1,4 @@
 -- `tally_text::append_refusal` meets its contract.
-use borrow.Author.Rules.{rules}
 use Rattle.tally_text.specs.Printed.{refused_text}
 use Rattle.tally_text.proofs.Texts.{then}
 use Rattle.tally_text.proofs.append_refusal.Goals as goal

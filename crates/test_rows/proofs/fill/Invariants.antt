@@ -1,7 +1,6 @@
 -- `test_rows::fill` is safe and ends.
 use Prim.Native.Nat.{◌-◌, ◌≤◌}
 use mathlib.Core.Path.{◌≡◌}
-use borrow.Author.Rules.{rules}
 use lib.ListN.{length}
 use Rattle.test_rows.proofs.fill.Given as goal
 

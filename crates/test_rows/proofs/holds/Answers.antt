@@ -1,7 +1,4 @@
 -- `test_rows::holds` is safe and ends.
-use Prim.Native.Nat.{◌-◌}
-use borrow.Author.Rules.{rules}
-use lib.ListN.{length}
 use Rattle.test_rows.proofs.holds.Goals as goal
 
 pub loop-i-init : goal.loop-i-init

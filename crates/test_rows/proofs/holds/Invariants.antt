@@ -1,6 +1,5 @@
 -- `test_rows::holds` is safe and ends.
 use Prim.Native.Nat.{◌-◌}
-use borrow.Author.Rules.{rules}
 use lib.ListN.{length}
 use Rattle.test_rows.proofs.holds.Given as goal
 

@@ -1,7 +1,4 @@
 -- `test_rows::is_clear` is safe and ends.
-use Prim.Native.Nat.{◌-◌}
-use borrow.Author.Rules.{rules}
-use lib.ListN.{length}
 use Rattle.test_rows.proofs.is_clear.Goals as goal
 
 pub loop-i-init : goal.loop-i-init

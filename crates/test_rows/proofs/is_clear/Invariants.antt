@@ -1,6 +1,5 @@
 -- `test_rows::is_clear` is safe and ends.
 use Prim.Native.Nat.{◌-◌}
-use borrow.Author.Rules.{rules}
 use lib.ListN.{length}
 use Rattle.test_rows.proofs.is_clear.Given as goal
 

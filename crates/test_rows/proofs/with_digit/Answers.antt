@@ -1,7 +1,6 @@
 -- `test_rows::with_digit` is safe and ends.
 use native.Mathlib.Omega.{arith}
 use lib.ListN.{length-set}
-use borrow.Author.Rules.{rules}
 use Rattle.test_rows.proofs.with_digit.Goals as goal
 
 pub returns-then-n-out : goal.returns-then-n-out
