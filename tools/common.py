@@ -77,36 +77,37 @@ def reference():
 
 
 def toolchain():
-    """The toolchain's folder, and its folder for this machine."""
+    """The toolchain's folder."""
     try:
-        guide = subprocess.check_output(['rt', 'doc'], text=True).strip()
+        return os.path.dirname(subprocess.check_output(['rt', 'doc'], text=True).strip())
     except OSError:
         sys.exit('rt is missing: install the Rattle toolchain and put its command rt on PATH')
-    home = os.path.dirname(os.path.dirname(guide))
-    return home, os.path.join(home, 'on', os.uname().machine)
 
 
 def check_scratch(repository, folder, definitions):
-    """Checks a crate of one file of definitions in `folder`, outside the repository, over the libraries in its target/rlib.
+    """Checks a crate of one file of definitions in `folder`, outside the repository, over the libraries that rt built in its crates (crates/NAME/out/rlib).
     What the prover printed comes back. Holes are allowed, so that an unknown value can be asked for."""
-    libraries = os.path.join(repository, 'target', 'rlib')
-    if not os.path.isdir(libraries):
-        sys.exit('no %s: run rt check first' % libraries)
-    home, own = toolchain()
-    for part in ('src', 'specs', 'inc'):
+    kit, crates = toolchain(), os.path.join(repository, 'crates')
+    built = lambda name: os.path.join(crates, name, 'out', 'rlib', name + '.rlib')
+    named = [name for name in sorted(set(re.findall(r'^use Rattle\.(\w+)\.', definitions, re.M))) if os.path.isdir(os.path.join(crates, name))]
+    for name in named:
+        if not os.path.isdir(built(name)):
+            sys.exit('no library of crate %s: run rt lib in %s first' % (name, os.path.join(crates, name)))
+    for part in ('src', 'specs', 'incremental'):
         os.makedirs(os.path.join(folder, part), exist_ok=True)
     open(os.path.join(folder, 'src', 'lib.rt'), 'w').close()
     with open(os.path.join(folder, 'specs', 'Lib.antt'), 'w') as file:
         file.write('pub mod E\n')
     with open(os.path.join(folder, 'specs', 'E.antt'), 'w') as file:
         file.write(definitions)
-    command = [own + '/bin/rattle', 'check', '--crate-name', 'scratch', folder + '/src/lib.rt',
-               '--extern', 'std=%s/rlib/std.rlib' % own]
-    for library in sorted(os.listdir(libraries)):
-        if library.endswith('.rlib'):
-            command += ['--extern', '%s=%s/%s' % (library[:-5], libraries, library)]
-    command += ['-L', 'dependency=%s/rlib' % own, '--antt-project', home + '/logic/antt-project.json',
-                '--logic-built', own + '/logic-built', '--incremental', folder + '/inc', '--allow-holes']
+    command = [kit + '/bin/rattle', 'check', '--crate-name', 'scratch', folder + '/src/lib.rt', '--extern', 'std=%s/rlibs/std.rlib' % kit]
+    for name in named:
+        command += ['--extern', '%s=%s' % (name, built(name))]
+    for name in sorted(os.listdir(crates)):
+        if os.path.isdir(built(name)):
+            command += ['-L', 'dependency=' + os.path.dirname(built(name))]
+    command += ['-L', 'dependency=%s/rlibs' % kit, '--antt-project', kit + '/rattle/logic/antt-project.json', '--logic-built', kit + '/logic_built',
+                '--jobs', '1', '--incremental', folder + '/incremental', '--allow-holes']
     return subprocess.run(command, stdout=subprocess.PIPE, stderr=subprocess.STDOUT, text=True).stdout
 
 
