@@ -1,6 +1,5 @@
 -- `part_chords::append_abc_chord_note` meets its contract.
 use native.Mathlib.Omega.{arith}
-use borrow.Author.Rules.{rules}
 use Rattle.part_chords.proofs.Pushing.{pitches_room, once_appended_chord}
 use Rattle.part_chords.proofs.append_abc_chord_note.Goals as goal
 

@@ -1,10 +1,7 @@
 -- `part_chords::push_pitches` meets its contract. The loop's invariant is `Pushing`.
-use Prim.Native.Nat.{◌-◌}
 use mathlib.Core.Path.{sym, ◌∙◌}
-use mathlib.Core.Logic.{⊎_elim}
 use native.Mathlib.Omega.{arith}
-use borrow.Author.Rules.{rules}
-use Rattle.part_chords.proofs.Pushing.{Pushing, pushing_start, pushing_end, meets, turn, turn_room, turn_able, turn_low, turn_done}
+use Rattle.part_chords.proofs.Pushing.{pushing_start, pushing_end, meets, turn, turn_room, turn_able, turn_low, turn_done}
 use Rattle.part_chords.proofs.push_pitches.Goals as goal
 
 pub loop-n-init : goal.loop-n-init
@@ -18,7 +15,7 @@ shape_of-store-in_default c = c.loop-n.invariant.pushed.only.same_length
 pub returns-in_default : goal.returns-in_default
 returns-in_default c =
     meets c.requires.2 c.loop-n.invariant c.loop-n-test.true
-    (λ q next e. absurd (⊎_elim (λ z. omega (arith, z)) (λ z. omega (arith, z)) (rw (c.next_chord_pitch.ensures ∙ e) at c.in_default.in_default-own.keys2)))
+    (λ q next e. absurd (c.in_default.not-Pitch q next (c.next_chord_pitch.ensures ∙ e)))
 
 pub push_pitch-x-requires : goal.push_pitch-x-requires
 push_pitch-x-requires c =

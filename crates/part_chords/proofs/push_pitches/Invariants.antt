@@ -1,10 +1,6 @@
 -- `part_chords::push_pitches` meets its contract. The loop's invariant is `Pushing`.
 use Prim.Native.Nat.{◌-◌}
-use mathlib.Core.Path.{sym, ◌∙◌}
-use mathlib.Core.Logic.{⊎_elim}
-use native.Mathlib.Omega.{arith}
-use borrow.Author.Rules.{rules}
-use Rattle.part_chords.proofs.Pushing.{Pushing, pushing_start, pushing_end, meets, turn, turn_room, turn_able, turn_low, turn_done}
+use Rattle.part_chords.proofs.Pushing.{Pushing}
 use Rattle.part_chords.proofs.push_pitches.Given as goal
 
 abbrev pub invariant-loop-n : goal.invariant-loop-n
