@@ -1,11 +1,11 @@
 -- The kind of a field line, by what its readers found.
 use Prim.Native.Nat.{ℕ, ◌+◌, ◌≤◌}
-use mathlib.Core.Path.{◌≡◌, refl, sym, ap, ◌∙◌}
-use mathlib.Core.Bool.{Bool, true, false, cond}
+use mathlib.Core.Path.{◌≡◌, refl, sym, ap}
+use mathlib.Core.Bool.{Bool, true, false}
 use mathlib.Core.Option.{Option, some, none}
 use mathlib.Core.List.{List, [], ◌∷◌}
 use native.Mathlib.Omega.{arith}
-use lib.ListN.{length, drop}
+use lib.ListN.{length}
 use Rattle.laws.specs.Lists.{is_nil}
 use Rattle.laws.specs.Bytes.{between}
 use Rattle.laws.proofs.Parts.{length_between, between_none}
@@ -15,7 +15,7 @@ use Rattle.editions.specs.declared.Edition.{Edition}
 use Rattle.reader.specs.Text.{has_high}
 use Rattle.reader.specs.Fields.{meter_of, unit_of, middle_word, identifier, key_refusal}
 use Rattle.reader.specs.Keys.{key_of}
-use Rattle.reader.specs.Lines.{Kind, refused, voice, key, meter, unit, voice_kind, key_kind, kind_unless}
+use Rattle.reader.specs.Lines.{refused, voice, key, meter, unit, voice_kind, key_kind, kind_unless}
 use Rattle.text_words.specs.declared.Part.{Part}
 use Rattle.field_values.specs.Values.{Identifier}
 use Rattle.text_lines.specs.declared.Class.TheVariants as C

@@ -1,5 +1,5 @@
 -- What a music line comes to in the scan: the definition's count of notes, L and M after it, and its first refusal, in one answer.
-use Rattle.std.specs.Prelude.{ℕ, suc, ◌+◌, max, Bool, false, ◌||◌, List, ◌∷◌, eqb, ltb}
+use Rattle.std.specs.Prelude.{ℕ, suc, ◌+◌, max, Bool, false, ◌||◌, List, eqb, ltb}
 use Rattle.std.proofs.Math.Option.{Option, none, some}
 use Rattle.reader.specs.Tokens.{Effect, counts, refuses, sets_unit, sets_meter, no_effect}
 use Rattle.reader.specs.Scan.{note_count, last_unit, last_meter, first_refusal}

@@ -2,7 +2,6 @@
 use mathlib.Core.Path.{sym, ◌∙◌}
 use Rattle.scan_states.proofs.Items.{by_kind, refused_kind}
 use Rattle.scan_fields.proofs.FieldKinds.{high_key, refused_key, is_key}
-use borrow.Author.Rules.{rules}
 use Rattle.scan_fields.proofs.key_line.Goals as goal
 
 pub returns-then-is_high : goal.returns-then-is_high

@@ -2,7 +2,6 @@
 use Rattle.scan_states.proofs.Items.{by_kind, refused_kind}
 use mathlib.Core.Path.{sym, ◌∙◌}
 use Rattle.scan_fields.proofs.FieldKinds.{high_meter, is_meter}
-use borrow.Author.Rules.{rules}
 use Rattle.scan_fields.proofs.meter_line.Goals as goal
 
 pub returns-then-is_high : goal.returns-then-is_high

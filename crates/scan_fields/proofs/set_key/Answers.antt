@@ -4,7 +4,6 @@ use native.Mathlib.Omega.{arith}
 use Rattle.reader.specs.Scan.{act, key_change}
 use Rattle.scan_table.specs.Rows.{item_in, item_as, items_in}
 use Rattle.scan_states.proofs.Items.{one_item}
-use borrow.Author.Rules.{rules}
 use Rattle.scan_fields.proofs.set_key.Goals as goal
 
 pub returns-then-st : goal.returns-then-st

@@ -4,7 +4,6 @@ use native.Mathlib.Omega.{arith}
 use Rattle.reader.specs.Scan.{act}
 use Rattle.scan_table.specs.Rows.{item_in, item_as}
 use Rattle.scan_states.proofs.Items.{stays}
-use borrow.Author.Rules.{rules}
 use Rattle.scan_fields.proofs.set_meter.Goals as goal
 
 pub returns-then-st : goal.returns-then-st

@@ -1,9 +1,8 @@
 -- `scan_fields::set_unit` meets its contract.
-use mathlib.Core.Path.{refl, ◌∙◌}
+use mathlib.Core.Path.{refl}
 use native.Mathlib.Omega.{arith}
 use Rattle.reader.specs.Scan.{act, unit_on}
 use Rattle.scan_states.proofs.Items.{stays}
-use borrow.Author.Rules.{rules}
 use Rattle.scan_fields.proofs.set_unit.Goals as goal
 
 pub returns-in-Nothing : goal.returns-in-Nothing

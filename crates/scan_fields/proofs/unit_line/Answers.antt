@@ -2,7 +2,6 @@
 use Rattle.scan_states.proofs.Items.{by_kind, refused_kind}
 use mathlib.Core.Path.{sym, ◌∙◌}
 use Rattle.scan_fields.proofs.FieldKinds.{high_unit, is_unit}
-use borrow.Author.Rules.{rules}
 use Rattle.scan_fields.proofs.unit_line.Goals as goal
 
 pub returns-then-is_high : goal.returns-then-is_high

@@ -1,8 +1,6 @@
 -- `scan_music::after_effect` meets its contract: a case for each effect.
-use mathlib.Core.Path.{refl}
 use Rattle.scan_music.specs.MusicLines.{effect_as}
 use Rattle.scan_music.proofs.MusicLines.{note_counts_lem, note_refused, refused_here, unit_set, meter_set, passed}
-use borrow.Author.Rules.{rules}
 use Rattle.scan_music.proofs.after_effect.Goals as goal
 
 pub returns-then-p-lt100000 : goal.returns-then-p-lt100000

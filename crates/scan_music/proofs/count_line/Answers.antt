@@ -1,5 +1,4 @@
 -- `scan_music::count_line` meets its contract: `walk_line` from the notes so far.
-use borrow.Author.Rules.{rules}
 use Rattle.scan_music.specs.MusicLines.{counted_on}
 use Rattle.scan_music.proofs.count_line.Goals as goal
 

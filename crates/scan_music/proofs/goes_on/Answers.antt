@@ -1,5 +1,4 @@
 -- `scan_music::goes_on` meets its contract: a case for each answer so far.
-use borrow.Author.Rules.{rules}
 use Rattle.scan_music.specs.MusicLines.{goes_on}
 use Rattle.scan_music.proofs.goes_on.Goals as goal
 

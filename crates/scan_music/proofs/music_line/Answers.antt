@@ -12,7 +12,6 @@ use Rattle.scan_table.specs.Rows.{items_in}
 use Rattle.scan_states.specs.States.{state_in}
 use Rattle.scan_states.proofs.Items.{stays}
 use Rattle.scan_music.proofs.MusicLines.{line_high, lent_line, line_refused, line_counted, count_of}
-use borrow.Author.Rules.{rules}
 use Rattle.scan_music.proofs.music_line.Goals as goal
 
 pub returns-then-st : goal.returns-then-st

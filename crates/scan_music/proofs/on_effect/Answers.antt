@@ -1,5 +1,4 @@
 -- `scan_music::on_effect` meets its contract: a case for each answer so far.
-use borrow.Author.Rules.{rules}
 use Rattle.scan_music.specs.MusicLines.{counted_on}
 use Rattle.scan_music.proofs.on_effect.Goals as goal
 

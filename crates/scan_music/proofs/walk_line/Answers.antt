@@ -1,9 +1,8 @@
 -- `scan_music::walk_line` meets its contract: in each turn the cursor is lent to `next_effect` and comes back moved on.
 use Prim.Native.Nat.{zero-le}
-use mathlib.Core.Path.{refl, subst, sym}
+use mathlib.Core.Path.{refl}
 use native.Mathlib.Omega.{arith}
-use Rattle.token_cursors.specs.declared.Cursor.{Cursor}
-use Rattle.scan_music.proofs.MusicLines.{Walked, past, walked_less, walked_over, walked_on}
+use Rattle.scan_music.proofs.MusicLines.{past, walked_less, walked_over, walked_on}
 use Rattle.scan_music.proofs.walk_line.Goals as goal
 
 pub loop-edition-init : goal.loop-edition-init

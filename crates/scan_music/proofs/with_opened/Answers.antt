@@ -1,6 +1,4 @@
 -- `scan_music::with_opened` meets its contract.
-use mathlib.Core.Path.{refl}
-use borrow.Author.Rules.{rules}
 use Rattle.scan_music.proofs.with_opened.Goals as goal
 
 pub returns-else-opened : goal.returns-else-opened
