@@ -84,41 +84,58 @@ def toolchain():
         sys.exit('rt is missing: install the Rattle toolchain and put its command rt on PATH')
 
 
+def needs(text):
+    """The crates of a crates.txt, in its order, with what each depends on."""
+    found = {}
+    for line in text.split('\n'):
+        name, colon, rest = line.partition('#')[0].partition(':')
+        if colon:
+            found[name.split()[0]] = rest.split()
+    return found
+
+
+def check_over(repository, folder, name, uses, words=()):
+    """Checks the crate `name` in `folder`, outside the repository, over the libraries that it uses: the repository's, as rt built them in its crates
+    (crates/NAME/out), and the kit's. What the prover printed comes back. Holes are allowed, so that an unknown value or a goal can be asked for."""
+    kit, crates = toolchain(), os.path.join(os.path.abspath(repository), 'crates')
+    built = lambda library: os.path.join(crates, library, 'out', 'rlib', library + '.rlib')
+    root = 'src/main.rt' if os.path.exists(os.path.join(folder, 'src', 'main.rt')) else 'src/lib.rt'
+    command = [kit + '/bin/rattle', 'check', '--crate-name', name, root]
+    for library in ['std', *uses]:
+        if os.path.isdir(os.path.join(crates, library)):
+            if not os.path.isdir(built(library)):
+                sys.exit('no library of crate %s: run rt lib in crates/%s first' % (library, library))
+            command += ['--extern', '%s=%s' % (library, built(library))]
+        else:
+            command += ['--extern', '%s=%s/rlibs/%s.rlib' % (library, kit, library)]
+    for library in sorted(os.listdir(crates)):
+        if os.path.isdir(built(library)):
+            command += ['-L', 'dependency=' + os.path.dirname(built(library))]
+    command += ['-L', 'dependency=%s/rlibs' % kit, '--antt-project', kit + '/rattle/logic/antt-project.json', '--logic-built', kit + '/logic_built', *words]
+    return subprocess.run(command, cwd=folder, stdout=subprocess.PIPE, stderr=subprocess.STDOUT, text=True).stdout
+
+
 def check_scratch(repository, folder, definitions):
-    """Checks a crate of one file of definitions in `folder`, outside the repository, over the libraries that rt built in its crates (crates/NAME/out/rlib).
-    What the prover printed comes back. Holes are allowed, so that an unknown value can be asked for."""
-    kit, crates = toolchain(), os.path.join(repository, 'crates')
-    built = lambda name: os.path.join(crates, name, 'out', 'rlib', name + '.rlib')
-    named = [name for name in sorted(set(re.findall(r'^use Rattle\.(\w+)\.', definitions, re.M))) if os.path.isdir(os.path.join(crates, name))]
-    for name in named:
-        if not os.path.isdir(built(name)):
-            sys.exit('no library of crate %s: run rt lib in %s first' % (name, os.path.join(crates, name)))
-    for part in ('src', 'specs', 'incremental'):
+    """Checks a crate of one file of definitions in `folder`, which uses the crates of the repository that they import from."""
+    for part in ('src', 'specs'):
         os.makedirs(os.path.join(folder, part), exist_ok=True)
     open(os.path.join(folder, 'src', 'lib.rt'), 'w').close()
     with open(os.path.join(folder, 'specs', 'Lib.antt'), 'w') as file:
         file.write('pub mod E\n')
     with open(os.path.join(folder, 'specs', 'E.antt'), 'w') as file:
         file.write(definitions)
-    command = [kit + '/bin/rattle', 'check', '--crate-name', 'scratch', folder + '/src/lib.rt', '--extern', 'std=%s/rlibs/std.rlib' % kit]
-    for name in named:
-        command += ['--extern', '%s=%s' % (name, built(name))]
-    for name in sorted(os.listdir(crates)):
-        if os.path.isdir(built(name)):
-            command += ['-L', 'dependency=' + os.path.dirname(built(name))]
-    command += ['-L', 'dependency=%s/rlibs' % kit, '--antt-project', kit + '/rattle/logic/antt-project.json', '--logic-built', kit + '/logic_built',
-                '--jobs', '1', '--incremental', folder + '/incremental', '--allow-holes']
-    return subprocess.run(command, stdout=subprocess.PIPE, stderr=subprocess.STDOUT, text=True).stdout
+    named = sorted(set(re.findall(r'^use Rattle\.(\w+)\.', definitions, re.M)) - {'std'})
+    return check_over(repository, folder, 'scratch', named, ['--jobs', '1', '--allow-holes'])
 
 
 # ---- short output ---------------------------------------------------------------------------------------------------
 
-_LONG = re.compile(r'(Rattle·\w+·(proofs|specs)\.(proofs|specs)\.(declared\.)?|lib\.(ListN|Seq|Dec)\.|mir\.(Val|Syntax)\.|'
-                   r'Prim\.Native\.Nat\.|denote\.Ref\.|mathlib\.Core\.(List|Bool|Path)\.|borrow\.Table\.)')
+_LONG = re.compile(r'(Rattle\.\w+\.(proofs|specs)\.(declared\.)?|lib\.(ListN|Seq|Dec)\.|mir\.(Val|Syntax)\.|'
+                   r'Prim\.Native\.Nat\.|denote\.(Bor|Ref)\.|mathlib\.Core\.(List|Bool|Path|Logic)\.|borrow\.Table\.)')
 
 
 def short(line, cut):
     """A line of the prover with short names, at most `cut` characters long."""
     line = _LONG.sub('', line)
-    line = re.sub(r'(?: \.before){3,}', lambda m: ' .before×%d' % len(m.group(0).split()), line)
+    line = re.sub(r'(?:\.before){3,}', lambda m: '.before×%d' % m.group(0).count('.'), line)
     return line if len(line) <= cut else line[:cut] + ' ...'
