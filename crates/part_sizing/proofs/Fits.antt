@@ -1,6 +1,6 @@
 -- THE TABLES FIT: a byte of music brings a measure's bytes and makes a measure, or a note, its pitch, its lyric head and its stop, or a rest and those that it
 -- may get, or an accidental; none of these is wider than a measure. A byte of lyrics brings a lyric row.
-use Prim.Native.Nat.{ℕ, ◌+◌, ◌-◌, ◌*◌, ◌^◌, ◌≤◌, ◌<◌}
+use Prim.Native.Nat.{ℕ, ◌+◌, ◌*◌, ◌^◌, ◌≤◌, ◌<◌}
 use mathlib.Core.Path.{◌≡◌, refl, ap, ◌∙◌}
 use mathlib.Core.Bool.{Bool, true, false, cond, ◌&&◌, ◌||◌}
 use mathlib.Core.Logic.{◌⊎◌, inl, inr}

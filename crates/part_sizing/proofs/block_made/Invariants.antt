@@ -1,11 +1,8 @@
 -- `part_sizing::block_made` meets its contract. The invariant: with the bytes to come it is what the block makes.
 use Prim.Native.Nat.{◌-◌, ◌≤◌}
 use mathlib.Core.Path.{◌≡◌}
-use native.Mathlib.Omega.{arith}
-use borrow.Author.Rules.{rules}
 use Rattle.laws.specs.Bytes.{between}
 use Rattle.part_sizing.specs.Counting.{made_of, more, as_made}
-use Rattle.part_sizing.proofs.Counting.{block_start, block_under, block_next, block_over}
 use Rattle.part_sizing.proofs.block_made.Given as goal
 
 abbrev pub invariant-loop-i : goal.invariant-loop-i

@@ -1,14 +1,11 @@
 -- `part_sizing::made_by` meets its contract. The invariant: with the items to come it is what the part's music makes.
-use Prim.Native.Nat.{◌+◌, ◌-◌, ◌≤◌}
+use Prim.Native.Nat.{◌-◌, ◌≤◌}
 use mathlib.Core.Path.{◌≡◌}
-use native.Mathlib.Omega.{arith}
-use borrow.Author.Rules.{rules}
-use lib.ListN.{length, drop}
+use lib.ListN.{drop}
 use Rattle.reader.specs.Steps.{items_of}
 use Rattle.capacity.specs.Music.{music_of}
 use Rattle.scan_table.specs.Rows.{items_in}
 use Rattle.part_sizing.specs.Counting.{made_of, more}
-use Rattle.part_sizing.proofs.Counting.{items_start, items_few, items_more, items_over}
 use Rattle.part_sizing.proofs.made_by.Given as goal
 
 abbrev pub invariant-loop-i : goal.invariant-loop-i

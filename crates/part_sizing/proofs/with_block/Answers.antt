@@ -1,7 +1,6 @@
 -- `part_sizing::with_block` meets its contract.
 use mathlib.Core.Path.{refl}
 use native.Mathlib.Omega.{arith}
-use borrow.Author.Rules.{rules}
 use Rattle.part_sizing.proofs.with_block.Goals as goal
 
 pub overflow_add-result : goal.overflow_add-result

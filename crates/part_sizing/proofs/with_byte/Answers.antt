@@ -1,5 +1,4 @@
 -- `part_sizing::with_byte` meets its contract.
-use borrow.Author.Rules.{rules}
 use native.Mathlib.Omega.{arith}
 use Rattle.part_sizing.proofs.Counting.{byte_more}
 use Rattle.part_sizing.proofs.with_byte.Goals as goal

@@ -1,5 +1,4 @@
 -- `part_sizing::with_item` meets its contract.
-use borrow.Author.Rules.{rules}
 use Rattle.part_sizing.proofs.Counting.{other_kind, other_part, line_counted}
 use Rattle.part_sizing.proofs.with_item.Goals as goal
 

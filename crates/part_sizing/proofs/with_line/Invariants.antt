@@ -1,12 +1,9 @@
 -- `part_sizing::with_line` meets its contract. The invariant: with the bytes to come it is what the whole line makes.
 use Prim.Native.Nat.{◌-◌, ◌≤◌}
 use mathlib.Core.Path.{◌≡◌}
-use native.Mathlib.Omega.{arith}
-use borrow.Author.Rules.{rules}
 use lib.ListN.{length}
 use Rattle.laws.specs.Bytes.{between}
 use Rattle.part_sizing.specs.Counting.{more}
-use Rattle.part_sizing.proofs.Counting.{line_start, line_over, line_adds, line_next}
 use Rattle.part_sizing.proofs.with_line.Given as goal
 
 abbrev pub invariant-loop-i : goal.invariant-loop-i
