@@ -10,13 +10,13 @@ use Rattle.abc_text.proofs.finish.Goals as goal
 pub returns-then-not-h : goal.returns-then-not-h
 returns-then-not-h c =
     let a = c.args in
-    silent_parsed _ a.text.now a.scratch.now a.h c.requires.done _ _ _ _ _ (c.if-not-h.true) c.refuse.ensures
+    silent_parsed _ a.text.now a.scratch.now a.h c.requires.done _ _ _ _ _ (not_true _ c.if-not-h.true) c.refuse.ensures
 
 pub write_parts-w-requires : goal.write_parts-w-requires
 write_parts-w-requires c =
     let a = c.args in
     let p = c.requires in
-    rooms_left _ a.text.now a.scratch.now a.h p.0 p.1.0 p.1.1
+    rooms_left _ a.text.now a.scratch.now a.h p.done p.text_len_bound.0 p.text_len_bound.1
 
 pub seal-requires : goal.seal-requires
 seal-requires c = reached_in c.write_parts-w.ensures (search rules)
@@ -25,6 +25,6 @@ pub returns : goal.returns
 returns c =
     let a = c.args in
     rw c.wrote_answer.ensures
-    (written_parsed _ a.text.now a.scratch.now a.h c.requires.done _ _ _ _ _ (c.if-not-h.false)
+    (written_parsed _ a.text.now a.scratch.now a.h c.requires.done _ _ _ _ _ (not_false _ c.if-not-h.false)
     (filled (rw c.count_parts-count.ensures at c.write_parts-w.ensures) (search rules) c.seal.ensures)
     (cleared _ _ _ c.clear.ensures (search rules)))
