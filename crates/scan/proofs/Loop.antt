@@ -1,19 +1,18 @@
 -- The loop over the lines: what is done, put before the run of what is left, stays the run of the whole.
-use Prim.Native.Nat.{ℕ, suc, ◌+◌, ◌-◌, ◌*◌, ◌≤◌, ◌<◌}
+use Prim.Native.Nat.{ℕ, suc, ◌+◌, ◌-◌, ◌≤◌, ◌<◌}
 use mathlib.Core.Path.{◌≡◌, refl, sym, ap, subst, ◌∙◌}
 use mathlib.Core.Bool.{Bool, true, false, false≢true}
 use mathlib.Core.List.{List, [], ◌∷◌, ◌++◌, append-nil, append_assoc}
 use native.Mathlib.Omega.{arith}
-use lib.Dec.{ltb}
 use lib.ListN.{length, drop}
 use borrow.Author.Tests.{lt-ltb, le-ltb}
 use Rattle.laws.specs.Bytes.{between}
-use Rattle.laws.proofs.Parts.{length_between, part_cut}
+use Rattle.laws.proofs.Parts.{length_between}
 use Rattle.editions.specs.declared.Edition.{Edition}
 use Rattle.reader.specs.Text.{text_lines}
-use Rattle.reader.specs.Lines.{kind_of, refused}
+use Rattle.reader.specs.Lines.{kind_of}
 use Rattle.reader.specs.Steps.{TextLine, Step, refuse, on, first, run}
-use Rattle.reader.specs.Scan.{Item, Items, ScanState, Out, begin, act, step, scan}
+use Rattle.reader.specs.Scan.{ScanState, Out, begin, act, step, scan}
 use Rattle.reader.specs.Answer.{scratch_needed}
 use Rattle.text_lines.specs.Lines.{LineEnd, CleanEnd, kind_as, class_of}
 use Rattle.text_lines.specs.declared.Class.{Class}
@@ -27,7 +26,7 @@ use Rattle.scan_states.specs.declared.Step as code
 use Rattle.scan_states.specs.declared.Step.TheVariants.{On, Refused}
 use Rattle.scan_states.specs.States.{state_with, state_in, out_in, Follows, Stepped}
 use Rattle.scan_states.proofs.Items.{by_kind, refused_kind}
-use Rattle.scan.specs.Scanned.{Open, LinesFit, Line, scanned_as, Done, ScanIs}
+use Rattle.scan.specs.Scanned.{Open, LinesFit, Line, scanned_as, ScanIs}
 use Rattle.scan.proofs.Music.{music_told}
 
 -- RUNS

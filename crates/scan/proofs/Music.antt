@@ -1,21 +1,20 @@
 -- Some part has a place for verses exactly if there is a music line among the items.
-use Prim.Native.Nat.{ℕ, suc, ◌+◌, max, ◌<◌}
+use Prim.Native.Nat.{ℕ, suc, max}
 use mathlib.Core.Path.{◌≡◌, refl, sym, ap, subst, ◌∙◌}
-use mathlib.Core.Bool.{Bool, true, false, cond, ◌||◌}
+use mathlib.Core.Bool.{Bool, true, false, ◌||◌}
 use mathlib.Core.Option.{Option, none, some}
-use mathlib.Core.List.{List, [], ◌∷◌, ◌++◌}
+use mathlib.Core.List.{List, [], ◌∷◌}
 use native.Mathlib.Omega.{arith}
 use lib.Dec.{ltb, leb}
 use lib.ListN.{length}
 use borrow.Author.Tests.{lt-ltb}
-use Rattle.laws.specs.Lists.{any, elem}
+use Rattle.laws.specs.Lists.{elem}
 use Rattle.laws.proofs.Bools.{by_test, or_assoc}
 use Rattle.laws.proofs.Lists.{any_append}
 use Rattle.editions.specs.declared.Edition.{Edition}
-use Rattle.reader.specs.Text.{text_lines}
 use Rattle.reader.specs.Tokens.{Effect}
 use Rattle.reader.specs.Lines.{Kind, blank, refused, lyric, voice, key, meter, unit, tune, other, music, kind_of}
-use Rattle.reader.specs.Steps.{TextLine, Step, refuse, on, first, run}
+use Rattle.reader.specs.Steps.{TextLine, refuse, on, first, run}
 use Rattle.reader.specs.Scan.{Item, Items, ScanState, Out, begin, most_voices, most_lines, first_refusal, voices_before, play_on, voice_on, unit_on, act, step, scan}
 use Rattle.reader.specs.Answer.{is_music}
 use Rattle.scan.specs.Scanned.{has_music}

@@ -1,8 +1,8 @@
 -- Room: each row of the text gives one item at most, and one more where it names a new voice, of which there are 32; and each row has a byte. So
 -- the line table ends within scratch, whatever the text.
 use Prim.Native.Nat.{ℕ, suc, ◌+◌, ◌-◌, ◌*◌, ◌≤◌}
-use mathlib.Core.Path.{◌≡◌, refl, sym, ap, subst, ◌∙◌}
-use mathlib.Core.Bool.{Bool, true, false, cond}
+use mathlib.Core.Path.{◌≡◌, refl, subst}
+use mathlib.Core.Bool.{Bool, true, false}
 use mathlib.Core.Option.{Option, none, some}
 use mathlib.Core.List.{List, [], ◌∷◌, ◌++◌}
 use native.Mathlib.Omega.{arith}
@@ -15,7 +15,7 @@ use Rattle.editions.specs.declared.Edition.{Edition}
 use Rattle.reader.specs.Text.{push, text_lines}
 use Rattle.reader.specs.Tokens.{Effect}
 use Rattle.reader.specs.Lines.{Kind, blank, refused, lyric, voice, key, meter, unit, tune, other, music, kind_of}
-use Rattle.reader.specs.Steps.{TextLine, Step, refuse, on, first, run}
+use Rattle.reader.specs.Steps.{TextLine, refuse, on, first, run}
 use Rattle.reader.specs.Scan.{Items, ScanState, Out, begin, most_voices, most_lines, first_refusal, with_unnamed, voices_before, play_on, voice_on, unit_on, act, step, scan}
 use Rattle.reader.specs.Answer.{scratch_needed}
 use Rattle.scan_table.specs.Rows.{item_row_width, table_end}

@@ -1,6 +1,4 @@
 -- `scan::scan_answer` meets its contract.
-use mathlib.Core.Path.{refl}
-use borrow.Author.Rules.{rules}
 use Rattle.scan.proofs.scan_answer.Goals as goal
 
 pub returns-in-On : goal.returns-in-On

@@ -1,9 +1,7 @@
 -- `scan::scan_lines` meets its contract. The invariant: the items in scratch, before what is still to come of the rows, are the whole scan; and there
 -- is room for the next line.
 use borrow.Author.Rules.{rules}
-use Prim.Native.Nat.{◌-◌}
-use lib.ListN.{length}
-use Rattle.scan.proofs.Loop.{Head, head_start, head_open, head_refused, head_turn, head_done}
+use Rattle.scan.proofs.Loop.{head_start, head_open, head_refused, head_turn, head_done}
 use Rattle.scan.proofs.scan_lines.Goals as goal
 
 pub loop-at-init : goal.loop-at-init
@@ -19,7 +17,7 @@ step_line-s-requires c =
     let a = c.args in
     let l = c.loop-at in
     let e = c.line_end-to.ensures in
-    (head_open _ a.text.now a.scratch.now _ l.st l.at l.invariant c.requires.1, search rules)
+    record { fact = head_open _ a.text.now a.scratch.now _ l.st l.at l.invariant c.requires.1; from_le_to = search rules }
 
 pub shape_of-scratch-in_default : goal.shape_of-scratch-in_default
 shape_of-scratch-in_default c =

@@ -1,9 +1,8 @@
 -- `scan::scan_lines` meets its contract. The invariant: the items in scratch, before what is still to come of the rows, are the whole scan; and there
 -- is room for the next line.
-use borrow.Author.Rules.{rules}
 use Prim.Native.Nat.{◌-◌}
 use lib.ListN.{length}
-use Rattle.scan.proofs.Loop.{Head, head_start, head_open, head_refused, head_turn, head_done}
+use Rattle.scan.proofs.Loop.{Head}
 use Rattle.scan.proofs.scan_lines.Given as goal
 
 abbrev pub invariant-loop-at : goal.invariant-loop-at

@@ -22,7 +22,11 @@ pub act_line-requires : goal.act_line-requires
 act_line-requires c =
     let a = c.args in
     let e = c.clean_end-end.ensures in
-    (search rules, (search rules, c.line_class-class.ensures ∙ ap class_of (part_cut a.text.now a.from (c.clean_end-end.result - a.from))))
+    record {
+      ready = search rules;
+      from_le_end = search rules;
+      class_value = c.line_class-class.ensures ∙ ap class_of (part_cut a.text.now a.from (c.clean_end-end.result - a.from));
+    }
 
 pub returns : goal.returns
 returns c =

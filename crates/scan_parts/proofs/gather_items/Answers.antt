@@ -1,9 +1,8 @@
 -- `scan_parts::gather_items` meets its contract: so far those of the part among the first i items are gathered.
-use Prim.Native.Nat.{◌-◌}
 use mathlib.Core.Path.{◌∙◌}
 use native.Mathlib.Omega.{arith}
 use borrow.Author.Rules.{rules}
-use Rattle.scan_parts.proofs.Gathering.{Gathering, gathering_start, row_inside, item_inside, at_fits, end_fits, gathering_own, gathering_other, gathered}
+use Rattle.scan_parts.proofs.Gathering.{gathering_start, row_inside, item_inside, at_fits, end_fits, gathering_own, gathering_other, gathered}
 use Rattle.scan_parts.proofs.gather_items.Goals as goal
 
 pub loop-i-init : goal.loop-i-init
