@@ -15,6 +15,8 @@ LINE = re.compile(r"(?m)^use (\S+?)\.\{([^{}]*)\}$")
 
 def is_used(name, rest):
     name = name.split(" as ")[-1].strip()
+    if "◌" in name and name in rest:
+        return True
     parts = [p for p in name.split("◌") if p] if "◌" in name else [name]
     return all(re.search(r"(?<![^\s(){}.;,@\"«»\[\]|])" + re.escape(p) + r"(?![^\s(){}.;,@\"«»\[\]|])", rest) for p in parts)
 
