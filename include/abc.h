@@ -1,4 +1,4 @@
-/* The tune reader, for C. Link target/staticlib/libabc.a, which `rt staticlib abc` writes.
+/* The tune reader, for C. Link target/staticlib/libabc.a, which `tools/staticlib` writes.
  *
  * abc_parse reads a text into a store of the caller's, abc_parse_2_1 does so in the second edition, which is ABC 2.1's in some things; abc_played lists the measures of one part of either reading as they are played;
  * abc_is_whole tests bytes that were kept. Each call allocates nothing, keeps nothing, never fails otherwise than by its answer, and may be made from several threads at once with stores

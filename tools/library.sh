@@ -1,5 +1,5 @@
-# For scripts; needs $root and goes there. prove_library proves crate abc and writes target/staticlib/libabc.a, unless ABC_LIB names a folder whose libabc.a is taken
-# instead. build_library finds the Rust source first. build_compare builds the programs of tools/compare over the library.
+# For scripts; needs $root and goes there. prove_library proves crate abc_c and writes target/staticlib/libabc.a (tools/staticlib), unless ABC_LIB names a folder whose
+# libabc.a is taken instead. build_library finds the Rust source first. build_compare builds the programs of tools/compare over the library.
 prove_library() {
     cd "$root"
     if [ -n "${ABC_LIB-}" ]; then
@@ -10,9 +10,9 @@ prove_library() {
         exit 2
     fi
     mkdir -p target
-    if ! rt staticlib abc >target/staticlib.log 2>&1; then
+    if ! tools/staticlib >target/staticlib.log 2>&1; then
         tail -n 20 target/staticlib.log >&2
-        echo "Crate abc or one below it is not proved, so there is no library to run: see target/staticlib.log." >&2
+        echo "Crate abc_c or one below it is not proved, so there is no library to run: see target/staticlib.log." >&2
         exit 1
     fi
 }

@@ -7,14 +7,14 @@ import os
 import re
 
 NAMES = """keyInHeader graceOpen graceClose repeatStart repeatBoth repeatEnd voltaBegins voltaEnds voltaAlone noVolta unitLength perByte invisibleRest invisibleBarRest barRest
-braceOpen braceClose inC2 inE1 inE19A inE2 inE280 inE281 inE3 inE380 afterE0 afterED afterF0 afterF4 voiceIs measureWidth headBytes pitchBytes u16At headRow byVoice""".split()
+braceOpen braceClose inC2 inE1 inE19A inE2 inE280 inE281 inE3 inE380 afterE0 afterED afterF0 afterF4 voiceIs measureWidth headBytes pitchBytes u16At headRow byVoice ends_lF""".split()
 
 
 def spelled(name):
     return re.sub(r"(?<=[a-z0-9])[A-Z]+", lambda m: "_" + m[0].lower(), name)
 
 
-TABLE = {n: spelled(n) for n in NAMES} | {"Part-inOrder": "Part-in_order", "inE19A": "in_e19a"}
+TABLE = {n: spelled(n) for n in NAMES} | {"Part-inOrder": "Part-in_order", "inE19A": "in_e19a", "ends_lF": "ends_lf"}
 WORD = re.compile("(?<![\\w'-])(" + "|".join(sorted(TABLE, key=len, reverse=True)) + ")(?![\\w'-])")
 
 

@@ -1,6 +1,6 @@
 /* Reads a text from standard input and prints for each part the measures that a player walks, repeats and endings followed:
  *
- *     rt staticlib abc
+ *     tools/staticlib
  *     cc -O2 -Iinclude -o target/played bindings/c/played.c target/staticlib/libabc.a
  *     printf 'K:C\n|:A|[1B:|[2c|]\n' | target/played
  *     part 1 plays 4 measures: 1 2 1 3

@@ -1,6 +1,6 @@
 /* Reads a text from standard input and prints what a price list counts:
  *
- *     rt staticlib abc
+ *     tools/staticlib
  *     cc -O2 -Iinclude -o target/tally bindings/c/tally.c target/staticlib/libabc.a
  *     target/tally < examples/two-voices.abc
  *

@@ -1,4 +1,4 @@
-//! Links libabc.a, which `rt staticlib abc` writes, from the folder in ABC_LIB or from the repository's target/staticlib, and takes down what a quote bears: the
+//! Links libabc.a, which `tools/staticlib` writes, from the folder in ABC_LIB or from the repository's target/staticlib, and takes down what a quote bears: the
 //! commit of the sources and the toolchain's identity.
 use std::collections::BTreeSet;
 use std::path::{Path, PathBuf};
@@ -6,7 +6,7 @@ use std::process::Command;
 use std::time::SystemTime;
 
 /// What to run where there is no library. It has no `:`, which would end a library's name.
-const MISSING: &str = "run `rt staticlib abc` at the root of sindvaelo's repository, or set ABC_LIB to the folder that holds libabc.a";
+const MISSING: &str = "run `tools/staticlib` at the root of sindvaelo's repository, or set ABC_LIB to the folder that holds libabc.a";
 
 fn main() {
     println!("cargo:rustc-check-cfg=cfg(abc_version)");
@@ -36,7 +36,7 @@ fn main() {
             }
             if let Some(newer) = root.as_deref().and_then(|root| newer_source(root, &library)) {
                 stale = true;
-                println!("cargo:warning={} is older than {}: run `rt staticlib abc` at the repository's root", library.display(), newer.display());
+                println!("cargo:warning={} is older than {}: run `tools/staticlib` at the repository's root", library.display(), newer.display());
             }
         }
         Err(_) => {
@@ -74,8 +74,14 @@ fn commit(root: &Path) -> Option<String> {
     if let Some(branch) = git(&["symbolic-ref", "-q", "HEAD"]) {
         println!("cargo:rerun-if-changed={}", root.join(git(&["rev-parse", "--git-path", &branch])?).display());
     }
-    for part in ["crates", "include", "bindings/rust/src"] {
+    for part in ["crates.txt", "include", "bindings/rust/src"] {
         println!("cargo:rerun-if-changed={}", root.join(part).display());
+    }
+    // Of each crate what is written by hand: out/ beside it, which git ignores, changes with every check.
+    for entry in std::fs::read_dir(root.join("crates")).into_iter().flatten().filter_map(Result::ok) {
+        for part in ["src", "specs", "proofs"].map(|part| entry.path().join(part)).iter().filter(|part| part.is_dir()) {
+            println!("cargo:rerun-if-changed={}", part.display());
+        }
     }
     let mut commit = git(&["rev-parse", "HEAD"])?;
     if git(&["status", "--porcelain", "--", "crates.txt", "crates", "include", "bindings/rust"]).is_some() {
@@ -89,10 +95,10 @@ fn newer_source(root: &Path, library: &Path) -> Option<PathBuf> {
     let written = std::fs::metadata(library).ok()?.modified().ok()?;
     let listed = std::fs::read_to_string(root.join("crates.txt")).ok()?;
     let needs = |name: &str| -> Vec<String> {
-        let line = listed.lines().filter_map(|line| line.split('#').next()?.split_once(':')).find(|(other, _)| other.trim() == name);
+        let line = listed.lines().filter_map(|line| line.split('#').next()?.split_once(':')).find(|(other, _)| other.split_whitespace().next() == Some(name));
         line.map_or(Vec::new(), |(_, needs)| needs.split_whitespace().map(str::to_owned).collect())
     };
-    let (mut crates, mut left) = (BTreeSet::new(), vec!["abc".to_owned()]);
+    let (mut crates, mut left) = (BTreeSet::new(), vec!["abc_c".to_owned()]);
     while let Some(name) = left.pop() {
         if crates.insert(name.clone()) {
             left.extend(needs(&name));

@@ -11,8 +11,7 @@ from support import ROOT, TOOLS, load, read
 
 tally = load('tally')
 
-# In the place of rt. It writes down what it was asked for; `try` reports as rt try does that the text was found where nothing more was expected, 200 bytes at
-# a time; `check` leaves a program that prints the text.
+# In the place of rt. It writes down what it was asked for; `try` prints the text, as the sources run unproved would; `run` leaves a program that prints it.
 RT = r'''#!%s
 import os, sys
 with open(os.environ['ASKED'], 'a') as file:
@@ -21,34 +20,29 @@ answer = os.environ['ANSWER']
 if sys.argv[1] == 'version':
     print('kit')
 elif sys.argv[1] == 'try':
-    known = open('crates/tally/stdout').read() if os.path.exists('crates/tally/stdout') else ''
-    assert answer.startswith(known)
-    found = answer[len(known):]
-    shown = '"%%s"' %% found[:200].replace('\n', '\\n')
-    if len(found) > 200:
-        shown += ' (200 of the %%d bytes from there)' %% len(found)
-    if os.environ.get('SKIPS'):
-        print('skipped: the interpreter reached a call of a foreign function that it cannot make, so the native runs alone decide')
-    for way in 'abc' + os.environ.get('FOURTH', 'd'):
-        if way != 'x':
-            print('FAIL: way %%s\non standard output, at byte %%d, expected "", found %%s\nwhat the run said:\nstatus 0' %% (way, len(known), shown))
-    sys.exit(1)
-elif sys.argv[1] == 'check':
+    assert os.path.exists('src/lib.rt') and sys.stdin.buffer.read() is not None
+    if os.environ.get('DIFFERS'):
+        print('run=differs runners=2 proved=no', file=sys.stderr)
+        sys.exit(5)
+    sys.stdout.write(answer)
+    print('run=ended status=0 runners=2 proved=no', file=sys.stderr)
+elif sys.argv[1] == 'run':
+    print('rt: chose --jobs 2 for low', file=sys.stderr)
     if os.environ.get('FAILS'):
-        print('rt: low proved (2 s)\nrt: tally NOT PROVED (exit 1, 3 s)\nrt: FAILED: tally')
+        print('logic=not-proved\nrt: the library low did not build, so nothing above it was checked', file=sys.stderr)
         sys.exit(1)
-    os.makedirs('target/bin', exist_ok=True)
-    os.makedirs('target/stamp', exist_ok=True)
-    for name in ('low', 'tally'):
-        print('rt: %%s proved (2 s)' %% name)
-        open('target/stamp/' + name, 'w').close()
-    with open('target/bin/tally', 'w') as file:
+    print('rt: chose --jobs 2 for tally', file=sys.stderr, flush=True)
+    os.makedirs('out', exist_ok=True)
+    with open('out/tally', 'w') as file:
         file.write('#!/bin/sh\ncat >/dev/null\nprintf %%s "$ANSWER"\n')
-    os.chmod('target/bin/tally', 0o755)
+    os.chmod('out/tally', 0o755)
+    if not os.environ.get('CHANGED'):
+        open('out/tally.stamp', 'w').close()
+    print('refused 1 0')
 ''' % sys.executable
 
 COUNTS = 'parts 1\npart 1 measures 2 sounded 6 rests 1 syllables 3\n'
-UNPROVED = 'tally: by these sources, compiled and NOT proved (some seconds). tools/tally --proved FILE proves them first, once\n'
+UNPROVED = 'tally: by these sources, compiled and NOT proved (half a minute). tools/tally --proved FILE proves them first, once\n'
 PROVED = 'tally: by the proved program of these sources\n'
 
 
@@ -109,48 +103,49 @@ class Errors(Case):
         self.told('tally: rt is missing: install the Rattle toolchain and put its command rt on PATH\n', 'tune.abc', path=os.path.join(self.folder, 'crates'))
 
     def test_runs_that_differ(self):
-        out, told, status, calls = self.tally('tune.abc', FOURTH='x')
-        self.assertEqual((out, status, calls), ('', 2, ['try tally']))
+        out, told, status, calls = self.tally('tune.abc', DIFFERS='1')
+        self.assertEqual((out, status, calls), ('', 2, ['try']))
         self.assertTrue(told.startswith(UNPROVED) and told.endswith('tally: the sources cannot be compiled and run, or their runs differ: see above\n'), told)
 
     def test_not_proved(self):
         out, told, status, calls = self.tally('--proved', 'tune.abc', FAILS='1')
-        self.assertEqual((out, status, calls), ('', 2, ['check tally']))
-        self.assertTrue(told.startswith('tally: proving the program and the 1 crates below it first: about 14 minutes of processor time\n'
+        self.assertEqual((out, status, calls), ('', 2, ['run']))
+        self.assertTrue(told.startswith('tally: proving the program and the 1 crates below it first: it takes a while, once\n'
                                         'tally: proving: crate 1 of 2 (low)\n'), told)
-        self.assertTrue(told.endswith('rt: tally NOT PROVED (exit 1, 3 s)\nrt: FAILED: tally\ntally: the program is not proved: see above\n'), told)
+        self.assertTrue(told.endswith('logic=not-proved\nrt: the library low did not build, so nothing above it was checked\n'
+                                      'tally: the program is not proved: see above\n'), told)
+
+    def test_sources_that_change_meanwhile(self):
+        out, told, status, calls = self.tally('--proved', 'tune.abc', CHANGED='1')
+        self.assertEqual((out, status, calls), ('', 2, ['run']))
+        self.assertTrue(told.endswith('tally: the sources changed while they were proved: run it again\n'), told)
 
     def test_a_program_that_prints_nothing(self):
         self.tally('--proved', 'tune.abc')
         self.assertEqual(self.tally('tune.abc', answer=''), ('', PROVED + 'tally: the program printed no tally: it could not read its input\n', 2, []))
+        self.write('crates/low/src/lib.rt', '// changed\n')
+        self.assertEqual(self.tally('tune.abc', answer='')[:3], ('', UNPROVED + 'tally: the program printed no tally: it could not read its input\n', 2))
 
 
 class Programs(Case):
     def test_not_proved_at_first(self):
-        self.assertEqual(self.tally('tune.abc'), (COUNTS, UNPROVED, 0, ['try tally']))
-        self.assertEqual(self.tally(text=b'K:C\nA\n'), (COUNTS, UNPROVED, 0, ['try tally']))
-        self.assertEqual(self.tally('-', text=b'K:C\nA\n'), (COUNTS, UNPROVED, 0, ['try tally']))
+        self.assertEqual(self.tally('tune.abc'), (COUNTS, UNPROVED, 0, ['try']))
+        self.assertEqual(self.tally(text=b'K:C\nA\n'), (COUNTS, UNPROVED, 0, ['try']))
+        self.assertEqual(self.tally('-', text=b'K:C\nA\n'), (COUNTS, UNPROVED, 0, ['try']))
         self.assertFalse(os.path.exists(os.path.join(self.folder, 'target')))
 
-    def test_what_the_interpreter_cannot_run(self):
-        self.assertEqual(self.tally('tune.abc', FOURTH='x', SKIPS='1'), (COUNTS, UNPROVED, 0, ['try tally']))
-
-    def test_a_long_answer_in_turns(self):
-        answer = 'parts 12\n' + ''.join('part %d measures 1 sounded 1 rests 0 syllables 0\n' % part for part in range(1, 13))
-        self.assertEqual(self.tally('tune.abc', answer=answer), (answer, UNPROVED, 0, ['try tally'] * (len(answer) // 200 + 1)))
-
     def test_proved_on_demand_and_then_for_good(self):
-        proving = ('tally: proving the program and the 1 crates below it first: about 14 minutes of processor time\n'
+        proving = ('tally: proving the program and the 1 crates below it first: it takes a while, once\n'
                    'tally: proving: crate 1 of 2 (low)\ntally: proving: crate 2 of 2 (tally)\n')
-        self.assertEqual(self.tally('--proved', 'tune.abc'), (COUNTS, proving + PROVED, 0, ['check tally']))
+        self.assertEqual(self.tally('--proved', 'tune.abc'), (COUNTS, proving + PROVED, 0, ['run']))
         self.assertEqual(self.tally('tune.abc'), (COUNTS, PROVED, 0, []))
         # A crate that the program is not made of does not matter; one that it is made of does, and so does the program.
         self.write('crates/other/src/lib.rt', '// changed\n')
         self.assertEqual(self.tally('tune.abc'), (COUNTS, PROVED, 0, []))
         self.write('crates/low/src/lib.rt', '// changed\n')
-        later = os.path.getmtime(os.path.join(self.folder, 'target', 'stamp', 'low')) + 5
+        later = os.path.getmtime(os.path.join(self.folder, 'crates', 'tally', 'out', 'tally.stamp')) + 5
         os.utime(os.path.join(self.folder, 'crates', 'low', 'src', 'lib.rt'), (later, later))
-        self.assertEqual(self.tally('tune.abc'), (COUNTS, UNPROVED, 0, ['try tally']))
+        self.assertEqual(self.tally('tune.abc'), (COUNTS, UNPROVED, 0, ['try']))
         self.write('crates/low/src/lib.rt', '// low\n')
         self.assertEqual(self.tally('tune.abc'), (COUNTS, PROVED, 0, []))
 
@@ -158,14 +153,14 @@ class Programs(Case):
         self.tally('--proved', 'tune.abc')
         os.remove(os.path.join(self.folder, 'target', 'tally.proved'))
         _, told, status, calls = self.tally('tune.abc')
-        self.assertEqual((status, calls), (0, ['check tally']))
+        self.assertEqual((status, calls), (0, ['run']))
         self.assertTrue(told.endswith(PROVED))
 
 
 class Answers(Case):
     def test_a_refusal(self):
         self.assertEqual(self.tally('tune.abc', answer='refused 7 3\n'),
-                         ('refused 7 3\n', UNPROVED + 'tally: refused (7) at line 3: an X: line after the first K: line. Send one tune in a text\n', 1, ['try tally']))
+                         ('refused 7 3\n', UNPROVED + 'tally: refused (7) at line 3: an X: line after the first K: line. Send one tune in a text\n', 1, ['try']))
         self.assertEqual(self.tally('tune.abc', answer='refused 3 0\n')[:3],
                          ('refused 3 0\n', UNPROVED + 'tally: refused (3): not UTF-8. Convert the file to UTF-8\n', 1))
 

@@ -5,28 +5,31 @@ import sys
 import tempfile
 import unittest
 
-from support import TOOLS, load
-from common import short
+from support import ROOT, TOOLS, load
+from common import needs, short
 
 affected, bundle, dev, vectors, places, reasons = (load(name) for name in ('affected', 'bundle', 'dev', 'vectors', 'places', 'reasons'))
 
-OUTPUT = '''rt: scan proved (unchanged since it was last proved)
-crates/a/proofs/f/Proof.antt:3:5: goal ? in `returns`
-    c : lts.Then1
-  ⊢ Prim.Native.Nat._+_ (c .before .before .before .x) 1
+OUTPUT = '''rt: chose --jobs 2 for a
+./proofs/f/Answers.antt:3:1: `returns` is not admitted: has-holes
+./proofs/f/Answers.antt:3:5: goal ? in `returns`
+    c : goal.Then-b
+  ⊢ Prim.Native.Nat.◌+◌ (c.before.before.before.x) 1
     (computed from:
       something long)
 note: what antt said
   more of it
-help: write crates/a/proofs/g/Proof.antt with these lines
+help: write ./proofs/g/Invariants.antt with these lines, and check again: each hole asks for a measure
     use a.B
 
-    pub g-spec : ℕ
-help: write crates/a/proofs/h/Proof.antt with these lines
+    pub g_spec : ℕ
+help: write ./proofs/h/Answers.antt with these lines
     use a.C
 logic somewhere: libraries=16
+statements core: modules loaded=222 checked=0
 fn a::f: no proof
 logic=not-proved
+rt: rt lemma WORD.. finds a lemma by guessed names or words of the goal
 '''
 
 
@@ -48,9 +51,9 @@ class Bundle(unittest.TestCase):
                 run = subprocess.run([sys.executable, os.path.join(TOOLS, 'bundle'), crate], stdout=subprocess.PIPE, text=True)
                 self.assertEqual((run.returncode, run.stdout), (0, '3 definitions\n'))
             with open(crate + '/specs/All.antt') as file:
-                self.assertEqual(file.read(), bundle.HEAD + '''use Prim.Native.Nat.{ℕ}
-use Rattle·small·specs.specs.One.{first}
-use Rattle·small·specs.specs.Two.{first as Two-first, second}
+                self.assertEqual(file.read(), bundle.HEAD + '''use Rattle.std.specs.Prelude.{ℕ}
+use Rattle.small.specs.One.{first}
+use Rattle.small.specs.Two.{first as Two-first, second}
 
 unfoldable pub all : ℕ
 unfolding first Two-first second
@@ -58,6 +61,22 @@ all = 0
 ''')
             with open(crate + '/specs/Lib.antt') as file:
                 self.assertEqual(file.read(), 'pub mod One\npub mod Two\npub mod All\n')
+
+    def test_names_keep_their_order(self):
+        with tempfile.TemporaryDirectory() as folder:
+            crate = self.crate(folder)
+            write = lambda: subprocess.run([sys.executable, os.path.join(TOOLS, 'bundle'), crate], stdout=subprocess.DEVNULL, check=True)
+            write()
+            with open(crate + '/specs/One.antt', 'w') as file:
+                file.write('unfoldable pub new : ℕ\nnew = 1\n\nunfoldable pub first : ℕ\nfirst = 0\n')
+            write()
+            with open(crate + '/specs/All.antt') as file:
+                self.assertIn('use Rattle.small.specs.One.{first, new}\n', file.read())
+
+    def test_those_of_the_repository_are_as_written(self):
+        for crate, below in (('laws', ()), ('standard', ('laws',)), ('reader', ('laws', 'standard')), ('part_layout', ('laws', 'standard', 'reader'))):
+            with open(os.path.join(ROOT, 'crates', crate, 'specs', 'All.antt'), encoding='utf-8') as file:
+                self.assertEqual(file.read(), bundle.bundle(os.path.join(ROOT, 'crates', crate), below)[0], crate)
 
 
 class Affected(unittest.TestCase):
@@ -102,33 +121,55 @@ class Affected(unittest.TestCase):
             self.write(folder, 'crates/mid/src/lib.rt', '')
             # In the place of rt: a program that says what it was asked for.
             os.makedirs(os.path.join(folder, 'bin'))
-            self.write(folder, 'bin/rt', '#!/bin/sh\necho "$@" >>asked\n')
+            self.write(folder, 'bin/rt', '#!/bin/sh\necho "${PWD##*/}: $*" >>"$ASKED"\n[ "${PWD##*/}: $*" != "$FAILS: check" ]\n')
             os.chmod(os.path.join(folder, 'bin', 'rt'), 0o755)
-            run = subprocess.run([sys.executable, os.path.join(TOOLS, 'affected'), '--run'], cwd=folder, stdout=subprocess.DEVNULL,
-                                 env=dict(os.environ, PATH=os.path.join(folder, 'bin') + os.pathsep + os.environ['PATH']))
-            self.assertEqual(run.returncode, 0)
-            with open(os.path.join(folder, 'asked')) as file:
-                self.assertEqual(file.read(), 'check mid top\nmust-fail mid\n')
+            asked = os.path.join(folder, 'asked')
+            for fails, status, wanted in (('', 0, 'mid: check\ntop: check\n%s: must-fail mid\n' % os.path.basename(folder)), ('mid', 1, 'mid: check\n')):
+                open(asked, 'w').close()
+                run = subprocess.run([sys.executable, os.path.join(TOOLS, 'affected'), '--run'], cwd=folder, stdout=subprocess.DEVNULL,
+                                     env=dict(os.environ, ASKED=asked, FAILS=fails, PATH=os.path.join(folder, 'bin') + os.pathsep + os.environ['PATH']))
+                self.assertEqual(run.returncode, status)
+                with open(asked) as file:
+                    self.assertEqual(file.read(), wanted)
 
     def test_crates(self):
-        self.assertEqual(affected.needs('a:\n# x: y\nb: a  # c\n'), {'a': [], 'b': ['a']})
+        self.assertEqual(needs('a:\n# x: y\nb: a  # c\nd staticlib: b\n'), {'a': [], 'b': ['a'], 'd': ['b']})
 
 
 class Dev(unittest.TestCase):
     def test_offers(self):
-        self.assertEqual(dev.offers(OUTPUT), [('crates/a/proofs/g/Proof.antt', 'use a.B\n\npub g-spec : ℕ\n'),
-                                              ('crates/a/proofs/h/Proof.antt', 'use a.C\n')])
+        self.assertEqual(dev.offers(OUTPUT), [('./proofs/g/Invariants.antt', 'use a.B\n\npub g_spec : ℕ\n'),
+                                              ('./proofs/h/Answers.antt', 'use a.C\n')])
 
     def test_reports(self):
         found = [[line for line in report if line] for report in dev.reports(OUTPUT)]
         self.assertEqual([report[0] for report in found],
-                         ['rt: scan proved (unchanged since it was last proved)', 'crates/a/proofs/f/Proof.antt:3:5: goal ? in `returns`',
-                          'fn a::f: no proof', 'logic=not-proved'])
-        self.assertEqual(found[1][1:], ['    c : lts.Then1', '  ⊢ Prim.Native.Nat._+_ (c .before .before .before .x) 1'])
+                         ['./proofs/f/Answers.antt:3:5: goal ? in `returns`', 'fn a::f: no proof', 'logic=not-proved',
+                          'rt: rt lemma WORD.. finds a lemma by guessed names or words of the goal'])
+        self.assertEqual(found[0][1:], ['    c : goal.Then-b', '  ⊢ Prim.Native.Nat.◌+◌ (c.before.before.before.x) 1'])
 
     def test_short(self):
-        self.assertEqual(short('⊢ Prim.Native.Nat._+_ (c .before .before .before .x) 1', 99), '⊢ _+_ (c .before×3 .x) 1')
+        self.assertEqual(short('⊢ Prim.Native.Nat.◌+◌ (c.before.before.before.x) 1', 99), '⊢ ◌+◌ (c.before×3.x) 1')
+        self.assertEqual(short('Rattle.a.specs.declared.E.TheVariants.X', 99), 'E.TheVariants.X')
         self.assertEqual(short('abcdef', 3), 'abc ...')
+
+    def test_where_it_checks_and_what_it_writes(self):
+        with tempfile.TemporaryDirectory() as folder:
+            os.makedirs(os.path.join(folder, 'crates', 'a', 'proofs'))
+            open(os.path.join(folder, 'crates.txt'), 'w').close()
+            os.makedirs(os.path.join(folder, 'bin'))
+            # In the place of rt: a program that prints the output above where it is asked for, in the crate's folder.
+            with open(os.path.join(folder, 'bin', 'rt'), 'w') as file:
+                file.write('#!/bin/sh\n[ "${PWD##*/} $*" = "a check --allow-holes" ] && printf %s "$OUTPUT"\nexit 1\n')
+            os.chmod(os.path.join(folder, 'bin', 'rt'), 0o755)
+            run = subprocess.run([sys.executable, os.path.join(TOOLS, 'dev'), 'a', '--write', '--allow-holes'], cwd=folder, stdout=subprocess.PIPE, text=True,
+                                 env=dict(os.environ, OUTPUT=OUTPUT, PATH=os.path.join(folder, 'bin') + os.pathsep + os.environ['PATH']))
+            self.assertEqual(run.returncode, 1)
+            self.assertIn('wrote crates/a/proofs/g/Invariants.antt\n', run.stdout)
+            with open(os.path.join(folder, 'crates', 'a', 'proofs', 'h', 'Answers.antt')) as file:
+                self.assertEqual(file.read(), 'use a.C\n')
+            with open(os.path.join(folder, 'target', 'dev-a.txt')) as file:
+                self.assertEqual(file.read(), OUTPUT)
 
 
 class Vectors(unittest.TestCase):
@@ -144,19 +185,40 @@ class Vectors(unittest.TestCase):
 
 
 class Places(unittest.TestCase):
-    TEXT = '''      pub record Entry : Type 0 where
-        pub args : Args
-        pub pre : Pre
-      pub record After-byte-at : Type 0 where
-        pub byte-at : Told
-        pub before : Entry
-      Need-returns = (c : After-byte-at) → T
+    OFFERED = '''use a.B
+
+-- src/lib.rt:7:9
+pub add-x : goal.add-x
+add-x c = ?
+
+-- src/lib.rt:4:1
+pub returns : goal.returns
+returns c = ?
+'''
+    PRINTED = '''./proofs/f/Answers.antt:3:1: `add-x` is not admitted: has-holes
+./proofs/f/Answers.antt:4:9: goal ? in `add-x`
+    c : goal.After-g
+  names you can use, by step:
+    c.args: .x
+note: finished
+./proofs/f/Answers.antt:8:9: goal ? in `returns`
+    c : goal.After-h
+  names you can use, by step:
+    as in `add-x` above, as far as c.args
+fn a::f: has holes
 '''
 
+    def test_asked(self):
+        self.assertEqual(places.asked(self.OFFERED), (self.OFFERED, 2))
+        head, first, second = self.OFFERED.rstrip('\n').split('\n\n')
+        self.assertEqual(places.asked(self.OFFERED, 'returns'), ('\n\n'.join((head, second, first)) + '\n', 1))
+        self.assertEqual(places.asked(self.OFFERED, 'other')[1], 0)
+
     def test_places(self):
-        self.assertEqual(places.places(self.TEXT), ['returns  (c : tie.After-byte-at)', '    c .byte-at  {result, ensures, last, kept}',
-                                                    '    c .before .args', '    c .before .pre'])
-        self.assertEqual(places.places(self.TEXT, 'other'), [])
+        self.assertEqual(places.places(self.PRINTED), ['add-x', '    c : goal.After-g', '  names you can use, by step:', '    c.args: .x',
+                                                       'returns', '    c : goal.After-h', '  names you can use, by step:', '    as in `add-x` above, as far as c.args'])
+        self.assertEqual(places.places(self.PRINTED, 'returns')[0], 'returns')
+        self.assertEqual(places.places(self.PRINTED, 'other'), [])
 
 
 class Help(unittest.TestCase):
@@ -176,31 +238,26 @@ class Help(unittest.TestCase):
 
 
 class Reasons(unittest.TestCase):
-    FACT = '''crates/a/proofs/f/Proof.antt:3:5: error: `g` was not admitted (it has holes), so this cannot be checked
-crates/a/proofs/f/Proof.antt:9:5: error: `returns`: the two values are 1
-  and 2
-logic=not-proved
-'''
-    SHAPE = '''crates/a/proofs/f/Proof.antt:3:5: error: `add-x`: module `a.Tie` has no `Need-add-x` that can be named from here
-crates/a/proofs/f/Proof.antt:9:5: error: the two values are 1 and 2
-'''
+    FACT = 'rt: must-fail a/lost.edit: refused, as it must be: ./proofs/f/Answers.antt:9:5: error: `returns`: the two values are 1 and 2\n'
+    SHAPE = ('rt: must-fail a/renamed.edit: refused, as it must be: ./proofs/f/Answers.antt:3:5: error: `g`: module `Rattle.a.specs.M` has no `x` that can be named from here\n'
+             'rt: must-fail a/only.edit: refused, as it must be (only because a proof file names what the edit took away, so this says little): proofs/g.antt:1:1: error: x\n')
+    WRONG = 'rt: must-fail a/kept.edit: NOT REFUSED: the crate is still proved with this edit\nrt: must-fail a/bad.edit: BAD EDIT: it changes nothing\n'
 
     def test_reason(self):
-        self.assertEqual(reasons.reason(self.FACT), (None, 'proofs/f/Proof.antt:9 `returns`: the two values are 1 and 2'))
-        self.assertEqual(reasons.reason(self.SHAPE)[0], 'a need has no name')
-        self.assertEqual(reasons.reason('rt: proved')[0], 'no error in the log')
+        words = lambda line: line.partition('.edit: ')[2].rstrip('\n')
+        self.assertEqual(reasons.reason(words(self.FACT)), (None, './proofs/f/Answers.antt:9:5: error: `returns`: the two values are 1 and 2'))
+        self.assertEqual([reasons.reason(words(line))[0] for line in (self.SHAPE + self.WRONG).splitlines()], ['a name is gone', 'a name is gone', 'not refused', 'bad edit'])
 
     def test_run(self):
-        with tempfile.TemporaryDirectory() as folder:
-            run = lambda: subprocess.run([sys.executable, os.path.join(TOOLS, 'reasons'), folder], stdout=subprocess.PIPE, stderr=subprocess.PIPE, text=True)
-            self.assertEqual(run().returncode, 2)
-            for name, text in (('lost', self.FACT), ('renamed', self.SHAPE)):
-                os.makedirs(os.path.join(folder, 'a', name))
-                with open(os.path.join(folder, 'a', name, '.log'), 'w') as file:
-                    file.write(text)
-            self.assertEqual(run().returncode, 1)
-            self.assertIn('a/renamed: a need has no name', run().stdout)
-            self.assertNotIn('a/lost', run().stdout)
+        run = lambda text, *more: subprocess.run([sys.executable, os.path.join(TOOLS, 'reasons'), *more], input=text, stdout=subprocess.PIPE, stderr=subprocess.PIPE, text=True)
+        self.assertEqual(run('rt: ok\n').returncode, 2)
+        self.assertEqual(run(self.FACT).returncode, 0)
+        self.assertIn('a/lost.edit: a fact: ', run(self.FACT, '--all').stdout)
+        found = run(self.FACT + self.SHAPE + self.WRONG)
+        self.assertEqual(found.returncode, 1)
+        self.assertIn('a/renamed.edit: a name is gone: ', found.stdout)
+        self.assertIn('5 edits, 4 not refused for a fact', found.stdout)
+        self.assertNotIn('a/lost', found.stdout)
 
 
 if __name__ == '__main__':

@@ -13,7 +13,7 @@ use Rattle.reader.specs.Text.{text_lines}
 use Rattle.reader.specs.Lines.{is_k}
 use Rattle.reader.specs.Steps.{TextLine}
 use Rattle.reader.specs.Scan.{scan}
-use Rattle.blocks.specs.Blocks.{closed, ends_lF, up_to_k, header, opening, blocks, rebuilt}
+use Rattle.blocks.specs.Blocks.{closed, ends_lf, up_to_k, header, opening, blocks, rebuilt}
 use Rattle.blocks.specs.Demand.{voice_of, Moved, named, SetsNeither, state_of, state_at_blocks, lines_at, LyricsBehind, Hypotheses}
 use Rattle.blocks.proofs.Lists.{numbered_named}
 use Rattle.blocks.proofs.TextLines.{Closed, concat_lines}
@@ -21,12 +21,12 @@ use Rattle.blocks.proofs.Words.{moved_is_perm, moved_own, moved_closed}
 use Rattle.blocks.proofs.Demand.{again, owned}
 
 -- a text of closed lines, one at least, ends in a line feed
-ends_app : (r t : List ℕ) → ends_lF t ≡ true → ends_lF (r ++ t) ≡ true
+ends_app : (r t : List ℕ) → ends_lf t ≡ true → ends_lf (r ++ t) ≡ true
 ends_app [] t h = h
 ends_app (c ∷ r) t h =
-    by_test (is_nil (r ++ t)) (λ e. absurd (false≢true (sym (ap ends_lF (is_nil_true (r ++ t) e)) ∙ ends_app r t h))) (λ e. rw e (ends_app r t h))
+    by_test (is_nil (r ++ t)) (λ e. absurd (false≢true (sym (ap ends_lf (is_nil_true (r ++ t) e)) ∙ ends_app r t h))) (λ e. rw e (ends_app r t h))
 
-closed_ends : (r : List ℕ) → closed r ≡ true → ends_lF r ≡ true
+closed_ends : (r : List ℕ) → closed r ≡ true → ends_lf r ≡ true
 closed_ends [] h = absurd (false≢true h)
 closed_ends (c ∷ r) h =
     by_test (eqb c 10) (λ e. rw (is_nil_true r (rw e at h)) e)
@@ -34,13 +34,13 @@ closed_ends (c ∷ r) h =
     let k : closed r ≡ true = rw e at h in
     by_test (is_nil r) (λ n. absurd (false≢true (sym (ap closed (is_nil_true r n)) ∙ k))) (λ n. rw n (closed_ends r k)))
 
-lines_end : (r : TextLine) (rs : List TextLine) → All Closed (r ∷ rs) → ends_lF (concat (r ∷ rs)) ≡ true
-lines_end r [] c = subst (λ (l : List ℕ). ends_lF l ≡ true) (sym (append-nil r)) (closed_ends r c.0)
+lines_end : (r : TextLine) (rs : List TextLine) → All Closed (r ∷ rs) → ends_lf (concat (r ∷ rs)) ≡ true
+lines_end r [] c = subst (λ (l : List ℕ). ends_lf l ≡ true) (sym (append-nil r)) (closed_ends r c.0)
 lines_end r (q ∷ rs) c = ends_app r (concat (q ∷ rs)) (lines_end q rs c.1)
 
 -- the first line stays, so the moved text has one
-still_ends : (text : List ℕ) (rest : List TextLine) (rs : List TextLine) → text_lines text ≡ rs → ends_lF text ≡ true → All Closed (up_to_k rs ++ rest) → ends_lF (concat (up_to_k rs ++ rest)) ≡ true
-still_ends text rest [] e h c = absurd (false≢true (sym (ap ends_lF (sym (concat_lines text) ∙ ap concat e)) ∙ h))
+still_ends : (text : List ℕ) (rest : List TextLine) (rs : List TextLine) → text_lines text ≡ rs → ends_lf text ≡ true → All Closed (up_to_k rs ++ rest) → ends_lf (concat (up_to_k rs ++ rest)) ≡ true
+still_ends text rest [] e h c = absurd (false≢true (sym (ap ends_lf (sym (concat_lines text) ∙ ap concat e)) ∙ h))
 still_ends text rest (r ∷ rs) e h c = lines_end r (cond (is_k r) [] (up_to_k rs) ++ rest) c
 
 -- A VOICE'S LINES BY NAME: the lyric condition goes by the numbers of the parts; the lines of the part that v has are those before the first block, if v is then being read,

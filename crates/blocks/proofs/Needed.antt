@@ -19,7 +19,7 @@ use Rattle.reader.specs.Steps.{TextLine}
 use Rattle.reader.specs.Part.{Part}
 use Rattle.reader.specs.Answer.{Verdict, refusal, reading, parse_abc}
 use Rattle.reader.specs.All.{all}
-use Rattle.blocks.specs.Blocks.{blocks, rebuilt, ends_lF}
+use Rattle.blocks.specs.Blocks.{blocks, rebuilt, ends_lf}
 use Rattle.blocks.specs.Kinds.{unit_after}
 use Rattle.blocks.specs.Demand.{Accepted, Moved, voice_of, state_at_blocks, blocks_at, LyricsBehind, part_in, only_part, Hypotheses}
 use Rattle.blocks.proofs.Instance.{reader}
@@ -59,7 +59,7 @@ lyric_first_swaps : (ed : Edition) → Swaps (reader ed) lyric_first_blocks lyri
 unfolding all
 lyric_first_swaps ed = swap refl
 
-pub lyric_first_else : (ed : Edition) → Accepted (parse_abc ed lyric_first 200 10000) × (ends_lF lyric_first ≡ true) × Known lyric_first × QuietL ed lyric_first × QuietM ed lyric_first × Moved (blocks lyric_first) lyric_first_moved
+pub lyric_first_else : (ed : Edition) → Accepted (parse_abc ed lyric_first 200 10000) × (ends_lf lyric_first ≡ true) × Known lyric_first × QuietL ed lyric_first × QuietM ed lyric_first × Moved (blocks lyric_first) lyric_first_moved
 unfolding all
 lyric_first_else First = (tt, refl, known_test lyric_first refl, quiet_l_test First lyric_first refl, quiet_m_test First lyric_first refl, moved_to First lyric_first lyric_first_blocks lyric_first_moved lyric_first_are (lyric_first_swaps First))
 lyric_first_else Second = (tt, refl, known_test lyric_first refl, quiet_l_test Second lyric_first refl, quiet_m_test Second lyric_first refl, moved_to Second lyric_first lyric_first_blocks lyric_first_moved lyric_first_are (lyric_first_swaps Second))
@@ -93,7 +93,7 @@ by_block_each ed p =
     All-filter (λ b. eqb (index_of (voice_of b) (state_at_blocks ed by_block).env.voices) p) (LyricsBehind ed) by_block_blocks
     (test_lyrics ed _ refl, (test_lyrics ed _ refl, (test_lyrics ed _ refl, tt)))
 
-pub by_block_else : (ed : Edition) → Accepted (parse_abc ed by_block 200 10000) × (ends_lF by_block ≡ true) × Known by_block × QuietL ed by_block × QuietM ed by_block × ((p : ℕ) → All (LyricsBehind ed) (blocks_at ed by_block p)) × Moved (blocks by_block) by_block_moved
+pub by_block_else : (ed : Edition) → Accepted (parse_abc ed by_block 200 10000) × (ends_lf by_block ≡ true) × Known by_block × QuietL ed by_block × QuietM ed by_block × ((p : ℕ) → All (LyricsBehind ed) (blocks_at ed by_block p)) × Moved (blocks by_block) by_block_moved
 unfolding all
 by_block_else First = (tt, refl, known_test by_block refl, quiet_l_test First by_block refl, quiet_m_test First by_block refl, by_block_each First, moved_to First by_block by_block_blocks by_block_moved by_block_are (by_block_swaps First))
 by_block_else Second = (tt, refl, known_test by_block refl, quiet_l_test Second by_block refl, quiet_m_test Second by_block refl, by_block_each Second, moved_to Second by_block by_block_blocks by_block_moved by_block_are (by_block_swaps Second))
@@ -121,7 +121,7 @@ sets_L_swaps : (ed : Edition) → Swaps (reader ed) sets_L_blocks sets_L_moved
 unfolding all
 sets_L_swaps ed = swap refl
 
-pub sets_L_else : (ed : Edition) → Accepted (parse_abc ed sets_L 200 10000) × (ends_lF sets_L ≡ true) × Known sets_L × QuietM ed sets_L × Behind ed sets_L × Moved (blocks sets_L) sets_L_moved
+pub sets_L_else : (ed : Edition) → Accepted (parse_abc ed sets_L 200 10000) × (ends_lf sets_L ≡ true) × Known sets_L × QuietM ed sets_L × Behind ed sets_L × Moved (blocks sets_L) sets_L_moved
 unfolding all
 sets_L_else First = (tt, refl, known_test sets_L refl, quiet_m_test First sets_L refl, behind_test First 2 sets_L refl, moved_to First sets_L sets_L_blocks sets_L_moved sets_L_are (sets_L_swaps First))
 sets_L_else Second = (tt, refl, known_test sets_L refl, quiet_m_test Second sets_L refl, behind_test Second 2 sets_L refl, moved_to Second sets_L sets_L_blocks sets_L_moved sets_L_are (sets_L_swaps Second))
@@ -149,7 +149,7 @@ sets_inline_swaps : (ed : Edition) → Swaps (reader ed) sets_inline_blocks sets
 unfolding all
 sets_inline_swaps ed = swap refl
 
-pub sets_inline_else : (ed : Edition) → Accepted (parse_abc ed sets_inline 200 10000) × (ends_lF sets_inline ≡ true) × Known sets_inline × QuietM ed sets_inline × Behind ed sets_inline × Moved (blocks sets_inline) sets_inline_moved
+pub sets_inline_else : (ed : Edition) → Accepted (parse_abc ed sets_inline 200 10000) × (ends_lf sets_inline ≡ true) × Known sets_inline × QuietM ed sets_inline × Behind ed sets_inline × Moved (blocks sets_inline) sets_inline_moved
 unfolding all
 sets_inline_else First = (tt, refl, known_test sets_inline refl, quiet_m_test First sets_inline refl, behind_test First 2 sets_inline refl, moved_to First sets_inline sets_inline_blocks sets_inline_moved sets_inline_are (sets_inline_swaps First))
 sets_inline_else Second = (tt, refl, known_test sets_inline refl, quiet_m_test Second sets_inline refl, behind_test Second 2 sets_inline refl, moved_to Second sets_inline sets_inline_blocks sets_inline_moved sets_inline_are (sets_inline_swaps Second))
@@ -177,7 +177,7 @@ at_eight_swaps : (ed : Edition) → Swaps (reader ed) at_eight_blocks at_eight_m
 unfolding all
 at_eight_swaps ed = swap refl
 
-pub at_eight_else : (ed : Edition) → Accepted (parse_abc ed at_eight 200 10000) × (ends_lF at_eight ≡ true) × Known at_eight × QuietM ed at_eight × Behind ed at_eight × All (All (λ r. unit_after (kind_of ed r) 8 ≡ 8)) (blocks at_eight) × Moved (blocks at_eight) at_eight_moved
+pub at_eight_else : (ed : Edition) → Accepted (parse_abc ed at_eight 200 10000) × (ends_lf at_eight ≡ true) × Known at_eight × QuietM ed at_eight × Behind ed at_eight × All (All (λ r. unit_after (kind_of ed r) 8 ≡ 8)) (blocks at_eight) × Moved (blocks at_eight) at_eight_moved
 unfolding all
 at_eight_else First = (tt, refl, known_test at_eight refl, quiet_m_test First at_eight refl, behind_test First 2 at_eight refl, ((refl, (refl, tt)), ((refl, (refl, tt)), tt)), moved_to First at_eight at_eight_blocks at_eight_moved at_eight_are (at_eight_swaps First))
 at_eight_else Second = (tt, refl, known_test at_eight refl, quiet_m_test Second at_eight refl, behind_test Second 2 at_eight refl, ((refl, (refl, tt)), ((refl, (refl, tt)), tt)), moved_to Second at_eight at_eight_blocks at_eight_moved at_eight_are (at_eight_swaps Second))
@@ -205,7 +205,7 @@ sets_M_swaps : (ed : Edition) → Swaps (reader ed) sets_M_blocks sets_M_moved
 unfolding all
 sets_M_swaps ed = swap refl
 
-pub sets_M_else : (ed : Edition) → Accepted (parse_abc ed sets_M 200 10000) × (ends_lF sets_M ≡ true) × Known sets_M × QuietL ed sets_M × Behind ed sets_M × Moved (blocks sets_M) sets_M_moved
+pub sets_M_else : (ed : Edition) → Accepted (parse_abc ed sets_M 200 10000) × (ends_lf sets_M ≡ true) × Known sets_M × QuietL ed sets_M × Behind ed sets_M × Moved (blocks sets_M) sets_M_moved
 unfolding all
 sets_M_else First = (tt, refl, known_test sets_M refl, quiet_l_test First sets_M refl, behind_test First 2 sets_M refl, moved_to First sets_M sets_M_blocks sets_M_moved sets_M_are (sets_M_swaps First))
 sets_M_else Second = (tt, refl, known_test sets_M refl, quiet_l_test Second sets_M refl, behind_test Second 2 sets_M refl, moved_to Second sets_M sets_M_blocks sets_M_moved sets_M_are (sets_M_swaps Second))
@@ -234,7 +234,7 @@ unnamed_swaps : (ed : Edition) → Swaps (reader ed) unnamed_blocks unnamed_move
 unfolding all
 unnamed_swaps ed = swap refl
 
-pub unnamed_else : (ed : Edition) → Accepted (parse_abc ed unnamed 200 10000) × (ends_lF unnamed ≡ true) × QuietL ed unnamed × QuietM ed unnamed × Behind ed unnamed × Moved (blocks unnamed) unnamed_moved
+pub unnamed_else : (ed : Edition) → Accepted (parse_abc ed unnamed 200 10000) × (ends_lf unnamed ≡ true) × QuietL ed unnamed × QuietM ed unnamed × Behind ed unnamed × Moved (blocks unnamed) unnamed_moved
 unfolding all
 unnamed_else First = (tt, refl, quiet_l_test First unnamed refl, quiet_m_test First unnamed refl, behind_test First 2 unnamed refl, moved_to First unnamed unnamed_blocks unnamed_moved unnamed_are (unnamed_swaps First))
 unnamed_else Second = (tt, refl, quiet_l_test Second unnamed refl, quiet_m_test Second unnamed refl, behind_test Second 2 unnamed refl, moved_to Second unnamed unnamed_blocks unnamed_moved unnamed_are (unnamed_swaps Second))
@@ -290,7 +290,7 @@ refused_swaps : (ed : Edition) → Swaps (reader ed) refused_blocks refused_move
 unfolding all
 refused_swaps ed = swap refl
 
-pub refused_else : (ed : Edition) → (ends_lF refused ≡ true) × Known refused × QuietL ed refused × QuietM ed refused × Behind ed refused × Moved (blocks refused) refused_moved
+pub refused_else : (ed : Edition) → (ends_lf refused ≡ true) × Known refused × QuietL ed refused × QuietM ed refused × Behind ed refused × Moved (blocks refused) refused_moved
 unfolding all
 refused_else First = (refl, known_test refused refl, quiet_l_test First refused refl, quiet_m_test First refused refl, behind_test First 2 refused refl, moved_to First refused refused_blocks refused_moved refused_are (refused_swaps First))
 refused_else Second = (refl, known_test refused refl, quiet_l_test Second refused refl, quiet_m_test Second refused refl, behind_test Second 2 refused refl, moved_to Second refused refused_blocks refused_moved refused_are (refused_swaps Second))

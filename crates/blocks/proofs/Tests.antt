@@ -15,7 +15,7 @@ use Rattle.editions.specs.declared.Edition.{Edition}
 use Rattle.reader.specs.Lines.{kind_of}
 use Rattle.reader.specs.Steps.{TextLine}
 use Rattle.reader.specs.Answer.{parse_abc}
-use Rattle.blocks.specs.Blocks.{ends_lF, header, opening, blocks}
+use Rattle.blocks.specs.Blocks.{ends_lf, header, opening, blocks}
 use Rattle.blocks.specs.Kinds.{unit_after, meter_after}
 use Rattle.blocks.specs.Demand.{Accepted, voice_of, named, SetsNeither, state_at_blocks, blocks_at, lines_at, LyricsBehind, Hypotheses}
 use Rattle.blocks.proofs.Instance.{reader}
@@ -107,6 +107,6 @@ both_set_neither ed (b ∷ bs) l m = (lines_set_neither b l.0 m.0, both_set_neit
     lines_set_neither [] l m = tt
     lines_set_neither (r ∷ rs) l m = ((l.0, m.0), lines_set_neither rs l.1 m.1)
 
-pub meant_test : (ed : Edition) (n : ℕ) (t : List ℕ) (rl sl : ℕ) → Accepted (parse_abc ed t rl sl) → ends_lF t ≡ true → known? t ≡ true → quiet_l? ed t ≡ true → quiet_m? ed t ≡ true → behind_below? ed n t ≡ true → Hypotheses ed t rl sl
+pub meant_test : (ed : Edition) (n : ℕ) (t : List ℕ) (rl sl : ℕ) → Accepted (parse_abc ed t rl sl) → ends_lf t ≡ true → known? t ≡ true → quiet_l? ed t ≡ true → quiet_m? ed t ≡ true → behind_below? ed n t ≡ true → Hypotheses ed t rl sl
 meant_test ed n t rl sl a e k l m b =
     record { accepted = a; ended = e; known = known_test t k; sets_neither = both_set_neither ed (blocks t) (quiet_l_test ed t l) (quiet_m_test ed t m); sung = behind_test ed n t b }

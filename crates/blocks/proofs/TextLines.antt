@@ -10,7 +10,7 @@ use Rattle.laws.proofs.Lists.{is_nil_true}
 use Rattle.reader.specs.Text.{push, text_lines}
 use Rattle.reader.specs.Lines.{is_v, is_k}
 use Rattle.reader.specs.Steps.{TextLine}
-use Rattle.blocks.specs.Blocks.{closed, ends_lF, up_to_k, after_k, until_v, blocks_of, header, opening, blocks, rebuilt}
+use Rattle.blocks.specs.Blocks.{closed, ends_lf, up_to_k, after_k, until_v, blocks_of, header, opening, blocks, rebuilt}
 
 -- A TEXT is its lines, one after the other
 push_concat : (c : ℕ) (rs : List TextLine) → concat (push c rs) ≡ c ∷ concat rs
@@ -50,7 +50,7 @@ push_closed : (c d : ℕ) (t : List ℕ) (rs : List TextLine) → eqb c 10 ≡ f
 push_closed c d t [] e h p = absurd (nil≢cons h)
 push_closed c d t (r ∷ rs) e h p = (rw e p.0, p.1)
 
-pub lines_closed : (t : List ℕ) → ends_lF t ≡ true → All Closed (text_lines t)
+pub lines_closed : (t : List ℕ) → ends_lf t ≡ true → All Closed (text_lines t)
 unfolding text_lines
 lines_closed [] h = tt
 lines_closed (c ∷ []) h = let e : eqb c 10 ≡ true = h in rw (e, text_lines) (rw e refl, tt)

@@ -16,7 +16,7 @@ use Rattle.reader.specs.Text as text
 use Rattle.reader.specs.Text.{White, white, in_c2, in_e1, in_e19a, in_e2, in_e280, in_e281, in_e3, in_e380, white_step, is_all_white, is_blank, text_lines, cut, trim, clean}
 use Rattle.reader.specs.Lines.{is_k}
 use Rattle.reader.specs.Steps.{TextLine}
-use Rattle.blocks.specs.Blocks.{ends_lF, up_to_k, after_k, until_v, blocks_of, header, opening, blocks, rebuilt}
+use Rattle.blocks.specs.Blocks.{ends_lf, up_to_k, after_k, until_v, blocks_of, header, opening, blocks, rebuilt}
 use Rattle.blocks.specs.Demand.{Moved, LyricsBehind}
 use Rattle.blocks.proofs.Instance.{reader}
 use Rattle.blocks.proofs.Moves as moves
@@ -177,7 +177,7 @@ no_K (r ∷ rs) h = by_test (is_k r) (λ e. absurd (both_true (is_k r) e (first 
     first e = absurd (both_true (any is_k (r ∷ rs)) (rw e) h)
 
 -- the lines of the moved text all end in line feeds
-pub moved_closed : (ed : Edition) (text : List ℕ) → ends_lF text ≡ true → (bs : List (List TextLine)) → Moved (blocks text) bs → All Closed (header text ++ (opening text ++ concat bs))
+pub moved_closed : (ed : Edition) (text : List ℕ) → ends_lf text ≡ true → (bs : List (List TextLine)) → Moved (blocks text) bs → All Closed (header text ++ (opening text ++ concat bs))
 moved_closed ed text lf bs mv =
     All-append Closed (header text) (opening text ++ concat bs) (All-left Closed (header text) (opening text ++ concat (blocks text)) whole)
     (All-append Closed (opening text) (concat bs) (All-left Closed (opening text) (concat (blocks text)) tail)
@@ -191,7 +191,7 @@ moved_closed ed text lf bs mv =
     tail = All-right Closed (header text) (opening text ++ concat (blocks text)) whole
 
 -- so it is of every text that ends in a line feed and every order of its blocks: the moved blocks are the moved text's own, and what stands before them is as it was
-pub moved_own : (ed : Edition) (text : List ℕ) → ends_lF text ≡ true → (bs : List (List TextLine)) → Moved (blocks text) bs
+pub moved_own : (ed : Edition) (text : List ℕ) → ends_lf text ≡ true → (bs : List (List TextLine)) → Moved (blocks text) bs
     → (header (rebuilt text bs) ≡ header text) × (opening (rebuilt text bs) ≡ opening text) × (blocks (rebuilt text bs) ≡ bs)
 moved_own ed text lf bs mv = by_test (any is_k (text_lines text)) with_K without_K
   where

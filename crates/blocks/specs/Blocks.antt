@@ -12,9 +12,9 @@ closed [] = false
 closed (c ∷ cs) = cond (eqb c 10) (is_nil cs) (closed cs)
 
 -- "ends in a line feed"
-abbrev pub ends_lF : List ℕ → Bool
-ends_lF [] = false
-ends_lF (c ∷ cs) = cond (is_nil cs) (eqb c 10) (ends_lF cs)
+abbrev pub ends_lf : List ℕ → Bool
+ends_lf [] = false
+ends_lf (c ∷ cs) = cond (is_nil cs) (eqb c 10) (ends_lf cs)
 
 -- the lines up to "the first K: line", with it; and the lines after it
 abbrev pub up_to_k : List TextLine → List TextLine

@@ -14,7 +14,7 @@ use Rattle.reader.specs.Steps.{TextLine, refuse, on}
 use Rattle.reader.specs.Scan.{ScanState, begin, scan, Out}
 use Rattle.reader.specs.Part.{Part}
 use Rattle.reader.specs.Answer.{Verdict, refusal, reading, Outcome, parse_abc}
-use Rattle.blocks.specs.Blocks.{ends_lF, header, opening, blocks, rebuilt}
+use Rattle.blocks.specs.Blocks.{ends_lf, header, opening, blocks, rebuilt}
 use Rattle.blocks.specs.Kinds.{is_music_line, unit_after, meter_after}
 
 -- "Accepted means answered with a reading"
@@ -97,7 +97,7 @@ pub record Hypotheses (ed : Edition) (text : List ℕ) (rl sl : ℕ) : Type 0 wh
   -- "the text is accepted"
   pub accepted : Accepted (parse_abc ed text rl sl)
   -- "and ends in a line feed"
-  pub ended : ends_lF text ≡ true
+  pub ended : ends_lf text ≡ true
   -- "every voice with a block is named before that K: line"
   pub known : All (λ b. named (voice_of b) (header text) ≡ true) (blocks text)
   -- "no block sets L or M .., inline included"

@@ -7,7 +7,7 @@ use Rattle.laws.specs.Lists.{All, filter, concat, eq_text, elem, index_of}
 use Rattle.reader.specs.Text.{text_lines}
 use Rattle.reader.specs.Lines.{is_v, is_k, is_l, is_m, is_lyric}
 use Rattle.reader.specs.Steps.{TextLine, Step, refuse, on, run, items_of, tag}
-use Rattle.blocks.specs.Blocks.{closed, ends_lF, header, opening, blocks, rebuilt}
+use Rattle.blocks.specs.Blocks.{closed, ends_lf, header, opening, blocks, rebuilt}
 
 pub record Reader : Type 1 where
   pub State : Type 0
@@ -140,7 +140,7 @@ module _ (R : Reader) where
 
   pub record Hypotheses (text : List ℕ) (rl sl : ℕ) : Type 0 where
     pub accepted : R.Accepted (answer text rl sl)
-    pub ended : ends_lF text ≡ true
+    pub ended : ends_lf text ≡ true
     pub known : All (λ b. named (ident_of b) (header text) ≡ true) (blocks text)
     pub sets_neither : All (All SetsNeither) (blocks text) ⊎ All Brings (blocks text)
     -- in a part with music each lyric line has a music line before it
