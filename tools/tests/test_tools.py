@@ -5,7 +5,7 @@ import sys
 import tempfile
 import unittest
 
-from support import ROOT, TOOLS, load
+from support import ROOT, TOOLS, load, read
 from common import needs, short
 
 affected, bundle, dev, vectors, places, reasons = (load(name) for name in ('affected', 'bundle', 'dev', 'vectors', 'places', 'reasons'))
@@ -219,6 +219,34 @@ fn a::f: has holes
                                                        'returns', '    c : goal.After-h', '  names you can use, by step:', '    as in `add-x` above, as far as c.args'])
         self.assertEqual(places.places(self.PRINTED, 'returns')[0], 'returns')
         self.assertEqual(places.places(self.PRINTED, 'other'), [])
+
+
+class Gate(unittest.TestCase):
+    """.ci/run in a small repository, with a program in the place of rt."""
+
+    def gate(self, said, status=0, fails=False):
+        """The status, the last line printed, and what rt was asked for."""
+        with tempfile.TemporaryDirectory() as folder:
+            for path, text, mode in (('.ci/run', read('.ci', 'run'), 0o755), ('tools/tests/test_a.py', 'import unittest\n\n\nclass A(unittest.TestCase):\n    def test(self):\n        self.assertFalse(%r)\n' % fails, 0o644),
+                                     ('bin/rt', '#!/bin/sh\necho "$*" >>"$ASKED"\n[ "$*" = version ] && exec echo kit\nprintf %%s "$SAID"\nexit %d\n' % status, 0o755)):
+                os.makedirs(os.path.dirname(os.path.join(folder, path)), exist_ok=True)
+                with open(os.path.join(folder, path), 'w') as file:
+                    file.write(text)
+                os.chmod(os.path.join(folder, path), mode)
+            asked = os.path.join(folder, 'asked')
+            run = subprocess.run([os.path.join(folder, '.ci', 'run')], cwd=folder, stdout=subprocess.PIPE, stderr=subprocess.DEVNULL, text=True,
+                                 env=dict(os.environ, ASKED=asked, SAID=said, PATH=os.path.join(folder, 'bin') + os.pathsep + os.environ['PATH']))
+            with open(asked) as file:
+                return run.returncode, run.stdout.splitlines()[-1], file.read().split('\n')[:-1]
+
+    def test_what_it_asks_and_says(self):
+        ok = 'rt: ok; handles allowed: none; must-fail edits: 6 refused%s; every proof and must-fail edit was done in this run\n7 passed, 0 failed\n'
+        self.assertEqual(self.gate(ok % ''), (0, '7 passed, 0 failed', ['version', 'ci']))
+        self.assertEqual(self.gate(ok % ', 1 of them only by a limit'), (0, '7 passed, 0 failed', ['version', 'ci']))
+        self.assertEqual(self.gate(ok % ', 2 bad'), (1, '7 passed, 0 failed', ['version', 'ci']))
+        self.assertEqual(self.gate('rt: FAILED: a\n6 passed, 1 failed\n', 1), (1, '6 passed, 1 failed', ['version', 'ci']))
+        self.assertEqual(self.gate('0 passed, 1 failed\n', 2), (2, '0 passed, 1 failed', ['version', 'ci']))
+        self.assertEqual(self.gate(ok % '', fails=True), (1, 'kit', ['version']))
 
 
 class Help(unittest.TestCase):
