@@ -1,5 +1,4 @@
 -- `part_body::on_token` meets its contract: an arm for each token.
-use borrow.Author.Rules.{rules}
 use Rattle.part_sounds.proofs.Deferring.{once_appended_none, once_appended_rest}
 use Rattle.part_body.specs.Body.{Ready, SimulatesToken}
 use Rattle.part_body.proofs.Tokens.{simulates_nothing}

@@ -1,10 +1,7 @@
 -- `part_body::parse_body_line` meets its contract. The invariant: from where the line began to here, and what is left of the line does the rest.
-use Prim.Native.Nat.{◌-◌}
 use mathlib.Core.Path.{◌∙◌}
 use native.Mathlib.Omega.{arith}
-use lib.ListN.{length}
-use borrow.Author.Rules.{rules}
-use Rattle.part_body.proofs.Lines.{Going, rest_none, begun, line_simulates, going_start, going_ready, going_past, going_turn}
+use Rattle.part_body.proofs.Lines.{rest_none, begun, line_simulates, going_start, going_ready, going_past, going_turn}
 use Rattle.part_body.proofs.parse_body_line.Goals as goal
 
 pub begin_line-x-requires : goal.begin_line-x-requires
