@@ -9,7 +9,7 @@ use lib.Dec.{eqb}
 use lib.ListN.{length, take, drop}
 use borrow.Author.Tests.{eq-eqb, ne_eqb, eqb-true, eqb-false}
 use Rattle.laws.specs.Lists.{foldl, filter}
-use Rattle.laws.specs.Bytes.{part, between, splice, le32, rows}
+use Rattle.laws.specs.Bytes.{between, splice, le32, rows}
 use Rattle.laws.proofs.Bools.{by_test, and_no_left, and_no_right, and_both, cond_true, cond_false}
 use Rattle.laws.proofs.Lists.{foldl_append, map_append, filter_yes, filter_no, drop_next}
 use Rattle.laws.proofs.Parts.{part_front, part_back}

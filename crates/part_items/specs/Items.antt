@@ -1,7 +1,6 @@
 -- ITEMS TAKEN: what each leaves of scratch and registers, and what all of a part's items make.
-use Rattle.std.specs.Prelude.{ℕ, ◌+◌, ◌*◌, ◌≤◌, ◌≡◌, Bool, false, cond, List, [], ◌∷◌, ◌++◌, reverse, length}
+use Rattle.std.specs.Prelude.{ℕ, ◌+◌, ◌≤◌, ◌≡◌, Bool, false, cond, List, [], ◌∷◌, ◌++◌, reverse, length}
 use Rattle.laws.specs.Lists.{foldl}
-use Rattle.laws.specs.Bytes.{splice, le32}
 use Rattle.standard.specs.Keys.{Key}
 use Rattle.standard.specs.Lyrics.{next_verse}
 use Rattle.editions.specs.declared.Edition.{Edition}
@@ -69,12 +68,12 @@ abbrev pub versed : Registers → Bool → Registers
 versed r placed = with_verse r (cond placed (next_verse r.verses.verse) r.verses.verse)
 
 -- item i, if it is the part's
-abbrev pub field_own : List ℕ → ℕ → List ℕ → ℕ → List Item
-field_own text p s i = items_of p (item_in text (item_at s i) ∷ [])
+abbrev pub own_at : List ℕ → ℕ → List ℕ → ℕ → List Item
+own_at text p s i = items_of p (item_in text (item_at s i) ∷ [])
 
 -- ITEM i CAN BE TAKEN: a part is represented, there is room, and the row stands before the tables
 pub record Ready (text : List ℕ) (t : Tables) (p i : ℕ) (s : List ℕ) (r : Registers) : Type 0 where
-  pub room : RoomForBytes t r.counts (length s) (music_of (field_own text p s i))
+  pub room : RoomForBytes t r.counts (length s) (music_of (own_at text p s i))
   pub waits : RepresentedBetween t s r
   pub before : row_from i + item_row_width ≤ t.heads
 
@@ -84,9 +83,9 @@ pub record Taken (ed : Edition) (text : List ℕ) (t : Tables) (header : Key) (p
   pub own_row : Only (row_from i) (row_from i + item_row_width) s middle
   pub tables : Only t.heads t.end middle s'
   pub same_item : item_in text (item_at middle i) ≡ item_in text (item_at s i)
-  pub grows : GrowsBy r.counts r'.counts (music_of (field_own text p s i))
-  pub holds : (l : LogState) → Between l → Represents t s r [] l → Represents t s' r' [] (foldl (on_item ed header) l (field_own text p s i))
-  pub lines : (l : LogState) → Represents t s r [] l → reverse (foldl (on_item ed header) l (field_own text p s i)).verses.lines ≡ reverse l.verses.lines ++ line_of text p (item_at middle i)
+  pub grows : GrowsBy r.counts r'.counts (music_of (own_at text p s i))
+  pub holds : (l : LogState) → Between l → Represents t s r [] l → Represents t s' r' [] (foldl (on_item ed header) l (own_at text p s i))
+  pub lines : (l : LogState) → Represents t s r [] l → reverse (foldl (on_item ed header) l (own_at text p s i)).verses.lines ≡ reverse l.verses.lines ++ line_of text p (item_at middle i)
 
 -- a part after those of the first n items that are its own
 abbrev pub after : Edition → Key → List ℕ → List ℕ → ℕ → ℕ → LogState

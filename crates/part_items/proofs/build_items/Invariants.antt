@@ -1,9 +1,7 @@
 -- `part_items::build_items` meets its contract.
 use Prim.Native.Nat.{◌-◌}
 use Rattle.field_keys.specs.Passed.{key_as}
-use Rattle.part_items.proofs.Turns.{Going, going_start, going_ready, going_next, going_end}
-use native.Mathlib.Omega.{arith}
-use borrow.Author.Rules.{rules}
+use Rattle.part_items.proofs.Turns.{Going}
 use Rattle.part_items.proofs.build_items.Given as goal
 
 abbrev pub invariant-loop-i : goal.invariant-loop-i

@@ -1,8 +1,6 @@
 -- `part_items::first_key` meets its contract, by the edition.
-use mathlib.Core.Path.{refl}
 use Rattle.standard.specs.Keys.{plain_key}
 use Rattle.reader.specs.Part.{first_key}
-use borrow.Author.Rules.{rules}
 use Rattle.part_items.proofs.first_key.Goals as goal
 
 pub returns-then-in_header : goal.returns-then-in_header

@@ -1,6 +1,5 @@
 -- `part_items::next_verse` meets its contract.
 use Rattle.standard.specs.Lyrics.{next_verse}
-use borrow.Author.Rules.{rules}
 use native.Mathlib.Omega.{arith}
 use Rattle.part_items.proofs.next_verse.Goals as goal
 

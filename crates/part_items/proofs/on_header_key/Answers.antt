@@ -1,7 +1,6 @@
 -- `part_items::on_header_key` meets its contract.
 use Rattle.field_keys.specs.Passed.{key_as}
 use Rattle.part_items.proofs.Each.{simulates_item_as, key_in_header_simulates}
-use borrow.Author.Rules.{rules}
 use Rattle.part_items.proofs.on_header_key.Goals as goal
 
 pub returns : goal.returns

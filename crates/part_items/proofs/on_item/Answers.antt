@@ -4,7 +4,6 @@ use Rattle.standard.specs.Keys.{Key}
 use Rattle.laws.proofs.Parts.{part_cut}
 use Rattle.field_keys.specs.Passed.{key_as}
 use Rattle.part_items.proofs.Turns.{plain_room, taken_voice_declared, taken_reset, taken_key_in_header, taken_key_change, taken_meter_change, taken_lyric_line, music_line_room, taken_music_line}
-use borrow.Author.Rules.{rules}
 use Rattle.part_items.proofs.on_item.Goals as goal
 
 pub returns-then-kind-eq-VOICE_DECLARED : goal.returns-then-kind-eq-VOICE_DECLARED

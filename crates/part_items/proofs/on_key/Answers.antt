@@ -1,7 +1,6 @@
 -- `part_items::on_key` meets its contract.
 use Rattle.field_keys.specs.Passed.{key_as}
 use Rattle.part_items.proofs.Each.{simulates_item_as, key_none, key_some}
-use borrow.Author.Rules.{rules}
 use native.Mathlib.Omega.{arith}
 use Rattle.part_items.proofs.on_key.Goals as goal
 

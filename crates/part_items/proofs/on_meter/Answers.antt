@@ -1,6 +1,5 @@
 -- `part_items::on_meter` meets its contract.
 use Rattle.part_items.proofs.Each.{meter_none, meter_some}
-use borrow.Author.Rules.{rules}
 use native.Mathlib.Omega.{arith}
 use Rattle.part_items.proofs.on_meter.Goals as goal
 

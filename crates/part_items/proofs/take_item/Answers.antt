@@ -4,7 +4,6 @@ use mathlib.Core.Path.{sym, subst}
 use Rattle.field_keys.specs.Passed.{key_as}
 use Rattle.part_items.specs.Items.{Ready}
 use Rattle.part_items.proofs.Turns.{taken_as, taken_other}
-use borrow.Author.Rules.{rules}
 use Rattle.part_items.proofs.take_item.Goals as goal
 
 pub returns-then-row-part : goal.returns-then-row-part
