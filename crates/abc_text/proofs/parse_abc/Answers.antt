@@ -22,16 +22,16 @@ pub returns-in-Refused-scan_lines : goal.returns-in-Refused-scan_lines
 returns-in-Refused-scan_lines c =
     let a = c.args in
     let q =
-        called
-        (call_scanned _ a.text.now _ _ _ c.test_text.ensures _ _ _ c.in-Passes.is
-        (refused_scanned _ a.text.now _ _ _ _ _ (scan_refused _ c.scan_lines.ensures c.in-Refused-scan_lines.is) (search rules) c.refuse-in-Refused-scan_lines.ensures)) in
+    called
+    (call_scanned _ a.text.now _ _ _ c.test_text.ensures _ _ _ c.in-Passes.is
+    (refused_scanned _ a.text.now _ _ _ _ _ (scan_refused _ c.scan_lines.ensures c.in-Refused-scan_lines.is) (search rules) c.refuse-in-Refused-scan_lines.ensures)) in
     record { result_value = q.0; reading_after = q.1.0; scratch_after = q.1.1 }
 
 pub returns-in-Done : goal.returns-in-Done
 returns-in-Done c =
     let a = c.args in
     let q =
-        called
-        (call_scanned _ a.text.now _ _ _ c.test_text.ensures _ _ _ c.in-Passes.is
-        (finished _ a.text.now _ _ _ (search rules) c.finish.ensures)) in
+    called
+    (call_scanned _ a.text.now _ _ _ c.test_text.ensures _ _ _ c.in-Passes.is
+    (finished _ a.text.now _ _ _ (search rules) c.finish.ensures)) in
     record { result_value = q.0; reading_after = q.1.0; scratch_after = q.1.1 }
