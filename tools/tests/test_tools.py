@@ -221,6 +221,31 @@ fn a::f: has holes
         self.assertEqual(places.places(self.PRINTED, 'other'), [])
 
 
+class StaticLibrary(unittest.TestCase):
+    """tools/staticlib in a small repository, with a program in the place of rt."""
+
+    def made(self, status):
+        with tempfile.TemporaryDirectory() as folder:
+            for path, text in (('tools/staticlib', read('tools', 'staticlib')),
+                               ('bin/rt', '#!/bin/sh\n[ "${PWD##*/} $*" = "abc_c lib" ] || exit 3\nmkdir -p out\necho archive >out/libabc_c.a\nexit %d\n' % status)):
+                os.makedirs(os.path.dirname(os.path.join(folder, path)))
+                with open(os.path.join(folder, path), 'w') as file:
+                    file.write(text)
+                os.chmod(os.path.join(folder, path), 0o755)
+            os.makedirs(os.path.join(folder, 'crates', 'abc_c'))
+            run = subprocess.run([os.path.join(folder, 'tools', 'staticlib')], stdout=subprocess.DEVNULL,
+                                 env=dict(os.environ, PATH=os.path.join(folder, 'bin') + os.pathsep + os.environ['PATH']))
+            library = os.path.join(folder, 'target', 'staticlib', 'libabc.a')
+            if not os.path.exists(library):
+                return run.returncode, None
+            with open(library) as file:
+                return run.returncode, file.read()
+
+    def test_what_it_writes(self):
+        self.assertEqual(self.made(0), (0, 'archive\n'))
+        self.assertEqual(self.made(1), (1, None))
+
+
 class Gate(unittest.TestCase):
     """.ci/run in a small repository, with a program in the place of rt."""
 
