@@ -1,7 +1,6 @@
 -- `abc_parts::read_part` meets its contract.
 use Rattle.abc_parts.proofs.Reading.{part_read}
 use Rattle.field_keys.specs.Passed.{key_as}
-use borrow.Author.Rules.{rules}
 use Rattle.abc_parts.proofs.read_part.Goals as goal
 
 pub returns : goal.returns

@@ -1,6 +1,5 @@
 -- `abc_parts::sing_part` meets its contract.
 use mathlib.Core.Path.{refl}
-use borrow.Author.Rules.{rules}
 use Rattle.editions.specs.declared.Edition.TheVariants.{First, Second}
 use Rattle.abc_parts.proofs.Singing.{put_first, put_second, put_fits, part_sung}
 use Rattle.abc_parts.specs.Parts.{stops_at}

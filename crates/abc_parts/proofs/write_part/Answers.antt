@@ -1,7 +1,6 @@
 -- `abc_parts::write_part` meets its contract.
 use Rattle.abc_parts.proofs.Reading.{stops_room, part_stands, part_wrote, sung_items, sung_length}
 use Rattle.field_keys.specs.Passed.{key_as}
-use borrow.Author.Rules.{rules}
 use Rattle.abc_parts.proofs.write_part.Goals as goal
 
 pub sing_part-sheet-requires : goal.sing_part-sheet-requires
