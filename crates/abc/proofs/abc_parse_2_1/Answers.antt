@@ -11,4 +11,4 @@ pack-requires c = short_as _ _ _ _ _ c.parse_abc.ensures.result_value
 pub returns : goal.returns
 returns c =
     let p = c.parse_abc.ensures in
-    (c.pack.ensures.value ∙ ap packed p.0, (c.pack.ensures.result_value ∙ p.0, (p.1.0, p.1.1)))
+    record { value = c.pack.ensures.value ∙ ap packed p.result_value; result_value = c.pack.ensures.result_value ∙ p.result_value; reading_after = p.reading_after; scratch_after = p.scratch_after }

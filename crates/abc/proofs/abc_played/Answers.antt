@@ -11,4 +11,4 @@ pack-requires c = short_list_as _ _ _ _ c.played_measures.ensures.result_value
 pub returns : goal.returns
 returns c =
     let p = c.played_measures.ensures in
-    (c.pack.ensures.value ∙ ap packed p.0, (c.pack.ensures.result_value ∙ p.0, p.1))
+    record { value = c.pack.ensures.value ∙ ap packed p.result_value; result_value = c.pack.ensures.result_value ∙ p.result_value; list_after = p.list_after }

@@ -13,7 +13,7 @@ pub returns-in-Read : goal.returns-in-Read
 unfolding packed
 returns-in-Read c =
     let e = c.in-Read.is in
-    (sym (ap (λ (a : code.Answer). packed (answer_as a)) e), read_back _ (subst (λ (a : code.Answer). Short (answer_as a)) e c.requires) ∙ sym (ap answer_as e))
+    record { value = sym (ap (λ (a : code.Answer). packed (answer_as a)) e); result_value = read_back _ (subst (λ (a : code.Answer). Short (answer_as a)) e c.requires) ∙ sym (ap answer_as e) }
 
 pub returns-in-Refused : goal.returns-in-Refused
 unfolding packed
@@ -21,4 +21,4 @@ returns-in-Refused c =
     let e = c.in-Refused.is in
     let n : c.in-Refused.n < 256 = search rules in
     let l : c.in-Refused.l < 4294967296 = search rules in
-    (sym (ap (λ (a : code.Answer). packed (answer_as a)) e), refused_back _ _ n l ∙ sym (ap answer_as e))
+    record { value = sym (ap (λ (a : code.Answer). packed (answer_as a)) e); result_value = refused_back _ _ n l ∙ sym (ap answer_as e) }
