@@ -1,4 +1,5 @@
 -- `scan_voices::named_voice` meets its contract: each way out is a case of the definition.
+use native.Mathlib.Omega.{arith}
 use Rattle.laws.specs.Bytes.{between}
 use mathlib.Core.List.{[]}
 use Rattle.scan_voices.proofs.Voices.{known_middle, too_many, new_middle, on_known, on_new}
@@ -41,7 +42,7 @@ returns-then-mid-2 c =
     let a = c.args in
     let t = a.text.now in
     rw (c.refuse-then-mid-2.ensures, c.if-mid-2.true)
-    (new_middle t a.scratch.now a.st _ _ (c.with_unnamed-n.ensures t) (between t a.a a.b) _ c.find_voice-i.ensures c.if-i-n.false c.if-n-ge32.false _)
+    (new_middle t a.scratch.now a.st _ _ (c.with_unnamed-n.ensures t) (between t a.a a.b) _ c.find_voice-i.ensures c.if-i-n.false (omega arith) _)
 
 pub returns : goal.returns
 returns c =
