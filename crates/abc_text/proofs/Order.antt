@@ -1,28 +1,26 @@
 -- Demand 3 of calls: the theorem of crate blocks, at the contract of `parse_abc`.
 use Prim.Native.Nat.{ℕ, ◌-◌, max}
 use mathlib.Core.Path.{◌≡◌, refl, sym, ap, ◌∙◌}
-use mathlib.Core.Bool.{Bool, true}
 use mathlib.Core.Option.{some}
 use mathlib.Core.List.{List, ◌++◌}
 use native.Mathlib.Omega.{arith}
 use lib.ListN.{length, get_elem?}
-use Rattle.laws.specs.Lists.{elem, index_of}
+use Rattle.laws.specs.Lists.{index_of}
 use Rattle.laws.specs.Bytes.{zeros}
 use Rattle.editions.specs.declared.Edition.{Edition}
-use Rattle.reader.specs.Steps.{TextLine}
 use Rattle.reader.specs.Part.{Part}
 use Rattle.reader.specs.Answer as answers
 use Rattle.reader.specs.Answer.{Verdict, refusal, reading, Outcome, Answer, read, refused, encode, refused_with, written, parse_abc, answer_of}
 use Rattle.bounds.proofs.Reading.{outcome_cases}
-use Rattle.blocks.specs.Blocks.{blocks, rebuilt}
-use Rattle.blocks.specs.Demand.{IsReading, Accepted, Hypotheses, Moved, voices, only_part, only_voice, part_in, part_of}
+use Rattle.blocks.specs.Blocks.{rebuilt}
+use Rattle.blocks.specs.Demand.{IsReading, Accepted, voices, only_part, only_voice, part_in, part_of}
 use Rattle.blocks.proofs.Demand.{demand_3, by_name}
 use Rattle.blocks.proofs.Lists.{get_elem?_some}
 use Rattle.blocks.proofs.Parts.{parts_count, part_there}
 use Rattle.reading_answers.specs.declared.Answer as code
 use Rattle.reading_answers.specs.declared.Answer.TheVariants as A
 use Rattle.reading_answers.specs.Answers.{answer_as}
-use Rattle.abc_text.specs.Calls.{Call, In-any-order, Holds, Each-part, Each-alone}
+use Rattle.abc_text.specs.Calls.{In-any-order, Holds, Each-part, Each-alone}
 
 -- an answer is told by its meaning
 back : Answer → code.Answer

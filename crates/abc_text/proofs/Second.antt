@@ -1,8 +1,8 @@
 -- After the scan: what the second half leaves is what the definition has.
-use Prim.Native.Nat.{ℕ, ◌-◌, ◌≤◌, max}
-use mathlib.Core.Path.{◌≡◌, refl, sym, ap, subst, ◌∙◌}
-use mathlib.Core.Bool.{Bool, true, false, cond}
-use mathlib.Core.List.{List, ◌++◌}
+use Prim.Native.Nat.{ℕ, max}
+use mathlib.Core.Path.{◌≡◌, sym, ap, subst, ◌∙◌}
+use mathlib.Core.Bool.{true, false, cond}
+use mathlib.Core.List.{List}
 use lib.Dec.{leb}
 use lib.ListN.{length}
 use Rattle.laws.specs.Lists.{sum}
@@ -10,23 +10,21 @@ use Rattle.laws.specs.Bytes.{zeros}
 use Rattle.laws.proofs.Bools.{by_test}
 use Rattle.editions.specs.declared.Edition.{Edition}
 use Rattle.reader.specs.Text.{text_lines}
-use Rattle.reader.specs.Steps.{items_of, refuse, on}
-use Rattle.reader.specs.Scan.{Items, ScanState, Out, scan}
+use Rattle.reader.specs.Steps.{items_of}
+use Rattle.reader.specs.Scan.{Items, scan}
 use Rattle.reader.specs.Part.{Part}
-use Rattle.reader.specs.Answer.{Outcome, refused_with, parts, encode, measure_count, written, ended, finish, scanned, answer_of}
+use Rattle.reader.specs.Answer.{refused_with, parts, encode, measure_count, written, ended, finish, scanned, answer_of}
 use Rattle.store_sections.specs.declared.Wrote.{Wrote}
-use Rattle.store_sections.specs.declared.Wrote.TheVariants.{To, NoRoom}
 use Rattle.store_sections.specs.Writes.{Filled}
-use Rattle.scan_table.specs.Rows.{voices_in, items_in}
+use Rattle.scan_table.specs.Rows.{items_in}
 use Rattle.scan_table.proofs.Rows.{length_voices}
 use Rattle.field_keys.specs.Passed.{key_as}
 use Rattle.scan.specs.declared.Shared.{Shared}
 use Rattle.scan.specs.Scanned.{Done}
-use Rattle.abc_answers.specs.Parts.{bytes_of, has_music}
+use Rattle.abc_answers.specs.Parts.{bytes_of}
 use Rattle.abc_answers.proofs.Owners.{items_owned}
 use Rattle.abc_answers.proofs.Whole.{encode_same, measures_told}
 use Rattle.reading_answers.specs.declared.Answer as code
-use Rattle.reading_answers.specs.declared.Answer.TheVariants as A
 use Rattle.reading_answers.specs.Answers.{answer_as}
 use Rattle.abc_text.specs.Answers.{wrote_as, Parsed}
 

@@ -1,16 +1,12 @@
 -- `abc_text::append_parts` meets its contract: so far the parts below `part` are written, and the items in scratch are what they were.
 use Prim.Native.Nat.{◌-◌, ◌≤◌}
-use mathlib.Core.Path.{◌≡◌, refl}
-use native.Mathlib.Omega.{arith}
-use borrow.Author.Rules.{rules}
+use mathlib.Core.Path.{◌≡◌}
 use lib.ListN.{length}
 use Rattle.store_sections.specs.Writes.{WroteIs}
 use Rattle.store_sections.specs.declared.Wrote.TheVariants.{To}
-use Rattle.store_sections.proofs.Writes.{told, in_store, start}
 use Rattle.field_keys.specs.Passed.{key_as}
 use Rattle.scan_table.specs.Rows.{items_in}
 use Rattle.abc_answers.specs.Parts.{parts_of}
-use Rattle.abc_text.proofs.Room.{second_fits, own_inside, own_items, own_room, own_kept, parts_none, one_part, no_part}
 use Rattle.abc_text.proofs.append_parts.Given as goal
 
 abbrev pub invariant-loop-part : goal.invariant-loop-part

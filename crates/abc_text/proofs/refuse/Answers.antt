@@ -1,5 +1,4 @@
 -- `abc_text::refuse` meets its contract: nothing is left in either store.
-use borrow.Author.Rules.{rules}
 use Rattle.abc_text.proofs.Tests.{refused_parsed}
 use Rattle.abc_text.proofs.refuse.Goals as goal
 

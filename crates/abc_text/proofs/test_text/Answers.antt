@@ -1,8 +1,6 @@
 -- `abc_text::test_text` meets its contract, test by test.
 use mathlib.Core.Path.{sym, ◌∙◌}
-use borrow.Author.Rules.{rules}
 use Rattle.reader.specs.Answer.{scratch_needed}
-use Rattle.laws.proofs.Bools.{not_true, not_false}
 use Rattle.abc_text.proofs.Tests.{too_long, not_utf8, all_blank, no_scratch, passes}
 use Rattle.abc_text.proofs.test_text.Goals as goal
 

@@ -1,6 +1,5 @@
 -- `abc_text::write_parts` meets its contract: the count, and the parts where it ended.
 use native.Mathlib.Omega.{arith}
-use borrow.Author.Rules.{rules}
 use Rattle.store_sections.proofs.Writes.{told, in_store, next_to, next_none, none}
 use Rattle.abc_answers.specs.Parts.{bytes_of}
 use Rattle.abc_text.proofs.write_parts.Goals as goal

@@ -1,6 +1,5 @@
 -- `abc_text::wrote_answer` meets its contract, case by case.
 use mathlib.Core.Path.{sym, ap}
-use borrow.Author.Rules.{rules}
 use Rattle.abc_text.specs.Answers.{wrote_as}
 use Rattle.abc_text.proofs.wrote_answer.Goals as goal
 
