@@ -33,8 +33,17 @@ def main():
                     if new != text:
                         with open(p, "w", encoding="utf-8") as it:
                             it.write(new)
+    # the table of names, which tools/turn_edits.py reads, follows
+    rows = {}
+    with open("docs/spelled-names.tsv", encoding="utf-8") as it:
+        for line in it:
+            old, new = line.rstrip("\n").split("\t")
+            rows[old] = TABLE.get(new, new)
+    for old, new in TABLE.items():
+        rows.setdefault(old, new)
+    with open("docs/spelled-names.tsv", "w", encoding="utf-8") as it:
+        it.writelines(f"{old}\t{new}\n" for old, new in sorted(rows.items()))
     print(changed, "files changed")
-    print(*(f"{a}\t{b}" for a, b in TABLE.items()), sep="\n")
 
 
 main()
