@@ -5,6 +5,13 @@ ghost use Rattle.std.specs.Prelude.{◌≡◌, ◌||◌, get_or};
 ghost use Rattle.standard.specs.Bytes.{is_digit};
 ghost use Rattle.reader.specs.Text.{within, is_space};
 
+// What was read at a position of a line, and the position after it.
+#[derive(Clone, Copy)]
+pub struct Read<T> {
+    pub value: T,
+    pub next: usize,
+}
+
 // The byte at a position, 0 past the end.
 pub fn byte_at(line: &[u8], at: usize) -> u8
     ensures { result ≡ get_or line.now at 0 }
