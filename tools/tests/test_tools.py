@@ -290,6 +290,70 @@ class Help(unittest.TestCase):
         self.assertIn('Set ACORDE_SRC', run.stderr)
 
 
+class Forms(unittest.TestCase):
+    """tools/forms on a crate with a place of each form, and on one with none."""
+    OLD = '''
+enum Found {
+    Nothing,
+    At(u32),
+}
+
+const KIND: u8 = 3;
+
+fn refuse(n: u8) -> Answer {
+    Answer::Refused(14, 0)
+}
+
+fn first(line: &[u8], a: usize, b: usize) -> usize
+    requires { (a ≤ b) × (b ≤ length line.now) }
+{
+    let mut i = a;
+    while i < b {
+        i += 1;
+    }
+    i
+}
+
+fn second(line: &[u8], a: usize, b: usize) -> usize
+    requires { (a ≤ b) × (b ≤ length line.now) }
+{
+    let mut i = a;
+    while i < b {
+        i += 1;
+    }
+    i
+}
+
+fn third(line: &[u8], a: usize, b: usize, led: bool) -> u8
+    requires { (a ≤ b) × (b ≤ length line.now) }
+{
+    if led { 1 } else { 0 }
+}
+'''
+    NEW = '''
+fn first(line: &[u8]) -> Option<usize> {
+    for i in 0..line.len() {
+        if line[i] == b' ' {
+            return Some(i);
+        }
+    }
+    None
+}
+'''
+
+    def counts(self, text):
+        with tempfile.TemporaryDirectory() as folder:
+            os.makedirs(os.path.join(folder, 'crates', 'a', 'src'))
+            with open(os.path.join(folder, 'crates', 'a', 'src', 'lib.rt'), 'w') as file:
+                file.write(text)
+            run = subprocess.run([os.path.join(TOOLS, 'forms'), '--counts', folder], stdout=subprocess.PIPE, text=True)
+        return [int(line.rpartition(': ')[2]) for line in run.stdout.splitlines()]
+
+    def test_counts(self):
+        self.assertEqual(self.counts(self.OLD), [1, 0, 1, 1, 1, 2, 0, 1, 3, 3])
+        self.assertEqual(self.counts(self.NEW), [0] * 10)
+
+
 class Reasons(unittest.TestCase):
     FACT = 'rt: must-fail a/lost.edit: refused, as it must be: ./proofs/f/Answers.antt:9:5: error: `returns`: the two values are 1 and 2\n'
     SHAPE = ('rt: must-fail a/renamed.edit: refused, as it must be: ./proofs/f/Answers.antt:3:5: error: `g`: module `Rattle.a.specs.M` has no `x` that can be named from here\n'
