@@ -1,7 +1,7 @@
 // Spans of a lyric line: where a word begins and ends, its hyphens and the pieces between them.
 #![tactic(auto)]
 
-ghost use Rattle.std.specs.Prelude.{◌≤◌, ◌<◌, ◌≡◌, length};
+ghost use Rattle.std.specs.Prelude.{◌≤◌, ◌<◌, ◌≡◌, ℕ, Bool, length};
 ghost use Rattle.laws.specs.Bytes.{between};
 ghost use Rattle.laws.specs.Spans.{end_in};
 ghost use Rattle.reader.specs.Pieces.{white_at};
@@ -28,8 +28,7 @@ pub fn word_start(text: &[u8], at: usize, end: usize) -> usize
     requires { (at ≤ end) × (end ≤ length text.now) }
     ensures { WordStart text.now at end result }
 {
-    let mut i = at;
-    while i < end {
+    for i in at..end {
         let b = text[i];
         if 127 < b {
             return past_white(text, i, end);
@@ -37,28 +36,15 @@ pub fn word_start(text: &[u8], at: usize, end: usize) -> usize
         if !text_bytes::is_space(b) {
             return i;
         }
-        i += 1;
     }
-    i
+    end
 }
 
 // A byte with which white space may begin.
 fn may_be_white(b: u8) -> bool
     ensures { result ≡ may_be_white b }
 {
-    if text_bytes::is_space(b) {
-        return true;
-    }
-    if b == 0xc2 {
-        return true;
-    }
-    if b == 0xe1 {
-        return true;
-    }
-    if b == 0xe2 {
-        return true;
-    }
-    b == 0xe3
+    text_bytes::is_space(b) || b == 0xc2 || b == 0xe1 || b == 0xe2 || b == 0xe3
 }
 
 // The end of the word that begins at `at`.
@@ -66,19 +52,26 @@ pub fn word_end(text: &[u8], at: usize, end: usize) -> usize
     requires { (at < end) × (end ≤ length text.now) × (white_at (between text.now at end) ≡ 0) }
     ensures { WordEnd text.now at end result }
 {
-    let mut i = at;
-    while i < end {
-        if !may_be_white(text[i]) {
-            i += 1;
-            continue;
-        }
-        let w = text_white::white_at(text, i, end);
-        if 0 < w {
+    for i in at..end {
+        if may_be_white(text[i]) && 0 < text_white::white_at(text, i, end) {
             return i;
         }
-        i += 1;
     }
-    i
+    end
+}
+
+// The first byte at or behind `at` that does not pass, or `end`.
+fn run_end<F: Fn(u8) -> bool>(text: &[u8], at: usize, end: usize, passes: F) -> usize
+    requires place { (at ≤ end) × (end ≤ length text.now) }
+    requires callable { F.IsAlwaysCallable passes }
+    ensures { (p : ℕ → Bool) → ((b : ℕ) (r : Bool) → F.post passes b r → r ≡ p b) → result ≡ end_in p text.now at end }
+{
+    for i in at..end {
+        if !passes(text[i]) {
+            return i;
+        }
+    }
+    end
 }
 
 // The first byte at or behind `at` that is no hyphen, or `end`.
@@ -86,14 +79,7 @@ pub fn hyphens_end(text: &[u8], at: usize, end: usize) -> usize
     requires { (at ≤ end) × (end ≤ length text.now) }
     ensures { result ≡ end_in is_hyphen text.now at end }
 {
-    let mut i = at;
-    while i < end {
-        if text[i] != b'-' {
-            return i;
-        }
-        i += 1;
-    }
-    i
+    run_end(text, at, end, |b| b == b'-')
 }
 
 // The first hyphen at or behind `at`, or `end`.
@@ -101,24 +87,14 @@ pub fn piece_end(text: &[u8], at: usize, end: usize) -> usize
     requires { (at ≤ end) × (end ≤ length text.now) }
     ensures { result ≡ end_in no_hyphen text.now at end }
 {
-    let mut i = at;
-    while i < end {
-        if text[i] == b'-' {
-            return i;
-        }
-        i += 1;
-    }
-    i
+    run_end(text, at, end, |b| b != b'-')
 }
 
 // A byte of a word that begins no white space and is no hyphen, whatever stands behind it.
 fn is_plain(b: u8) -> bool
     ensures { result ≡ is_plain b }
 {
-    if b == b'-' {
-        return false;
-    }
-    text_bytes::is_within(b'!', b'~', b)
+    b != b'-' && text_bytes::is_within(b'!', b'~', b)
 }
 
 // Where the next word begins behind one that ends at `at`, or `end`: mostly behind one space.
@@ -126,19 +102,10 @@ pub fn next_start(text: &[u8], at: usize, end: usize) -> usize
     requires { (at ≤ end) × (end ≤ length text.now) }
     ensures { WordStart text.now at end result }
 {
-    if at == end {
-        return end;
+    if at + 1 < end && text[at] == b' ' && is_plain(text[at + 1]) {
+        return at + 1;
     }
-    if end - at < 2 {
-        return word_start(text, at, end);
-    }
-    if text[at] != b' ' {
-        return word_start(text, at, end);
-    }
-    if !is_plain(text[at + 1]) {
-        return word_start(text, at, end);
-    }
-    at + 1
+    word_start(text, at, end)
 }
 
 // The first byte at or behind `at` that is not plain, or `end`.
@@ -146,12 +113,5 @@ pub fn plain_end(text: &[u8], at: usize, end: usize) -> usize
     requires { (at ≤ end) × (end ≤ length text.now) }
     ensures { result ≡ end_in is_plain text.now at end }
 {
-    let mut i = at;
-    while i < end {
-        if !is_plain(text[i]) {
-            return i;
-        }
-        i += 1;
-    }
-    i
+    run_end(text, at, end, is_plain)
 }
