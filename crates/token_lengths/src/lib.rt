@@ -5,7 +5,7 @@ ghost use Rattle.std.specs.Prelude.{◌≡◌, ◌+◌, min};
 ghost use Rattle.token_lengths.specs.Values.{broken_length, as_value};
 
 // A length as read: a written value, 0 (longa) to 9 (128th), with its dots; or the whole bar, with its dots.
-#[derive(Clone, Copy)]
+#[derive(Clone, Copy, Debug, PartialEq, Eq)]
 pub enum Length {
     Written(u8, u8),
     WholeBar(u8),
@@ -15,13 +15,7 @@ pub enum Length {
 fn sum_up_to(top: u8, a: u8, b: u8) -> u8
     ensures { result ≡ min top (a + b) }
 {
-    if top <= a {
-        return top;
-    }
-    if top - a <= b {
-        return top;
-    }
-    a + b
+    a.saturating_add(b).min(top)
 }
 
 // One note of a broken pair: `count` dots more, three at most, or halved as often, down to the 128th.
