@@ -1,20 +1,19 @@
 -- What is found tells what the definition gives.
-use Prim.Native.Nat.{ℕ}
-use mathlib.Core.Path.{◌≡◌, refl, ap}
+use mathlib.Core.Path.{◌≡◌, refl, sym}
 use mathlib.Core.Option.{Option, none, some}
+use Prim.Native.Nat.{ℕ}
 use native.Mathlib.Omega.{arith}
 use Rattle.standard.specs.Lengths.{Value}
-use Rattle.token_lengths.specs.Values.{written}
-use Rattle.token_values.specs.declared.Found.TheVariants as found
+use Rattle.token_lengths.specs.declared.Length.{Length}
+use Rattle.token_lengths.specs.Values.{length_as}
+use Rattle.std.specs.Prelude as code
 use Rattle.token_values.specs.Found.{found_as}
 
-pub found_none : (x : Option Value) → found_as x ≡ found.Nothing → x ≡ none
+pub found_none : (x : Option Value) → found_as x ≡ code.None → x ≡ none
 found_none none e = refl
 found_none (some w) e = let no : ◌≡◌ {A = ℕ} 0 1 = cc in absurd (omega arith)
 
-pub found_some : (x : Option Value) (v d : ℕ) → found_as x ≡ found.Value v d → x ≡ some (written v d)
-found_some none v d e = let no : ◌≡◌ {A = ℕ} 0 1 = cc in absurd (omega arith)
-found_some (some w) v d e =
-    let p : w.value ≡ v = cc in
-    let q : w.dots ≡ d = cc in
-    ap some (λ i. record { value = p i; dots = q i })
+-- what is found is the definition's, as a length
+pub found_length : (x : Option Value) (l : Length) (w : Value) → found_as x ≡ code.Some l → ((v : Value) → x ≡ some v → w ≡ v) → l ≡ length_as w
+found_length none l w e f = let no : ◌≡◌ {A = ℕ} 0 1 = cc in absurd (omega arith)
+found_length (some v) l w e f = let p : length_as v ≡ l = cc in rw (f v refl) (sym p)

@@ -1,21 +1,15 @@
 -- The sizes of the forty values: what `size` computes, and its bounds.
 use Prim.Native.Nat.{ℕ, ◌+◌, ◌-◌, ◌*◌, ◌/◌, ◌%◌, ◌^◌, ◌<◌, ◌≤◌, min}
-use mathlib.Core.Path.{◌≡◌, refl, subst⁻¹}
-use native.Mathlib.Nat.{one-le-mul, pow-suc, mul-le-mul, mul-le-mul_left, mul-le-mul_right, mul-lt-mul_of_pos_right, le_of_lt, lt_of_le_of_lt, min-eq_left, min-eq_right}
+use mathlib.Core.Path.{◌≡◌, refl}
+use native.Mathlib.Nat.{one-le-mul, pow-suc, mul-le-mul, mul-le-mul_right, min-eq_left, min-eq_right}
 use native.Mathlib.Decide.{dec_le}
 use native.Mathlib.Omega.{arith}
 use lib.Dec.{leb, ltb, eqb}
-use lib.Pow.{pow_pos, pow-add}
+use lib.Pow.{pow_pos}
 use borrow.Author.Tests.{lt-leb, leb-true, ltb-true, eqb-true}
 use Rattle.laws.proofs.Finite.{below₂}
 use Rattle.standard.specs.Lengths.{Value, ticks}
 use Rattle.token_lengths.specs.Values.{written}
-
--- the product of two numbers of k bits has at most k + k
-pub product_bits : (k : ℕ) {a b : ℕ} → a < 2 ^ k → b < 2 ^ k → a * b < 2 ^ (k + k)
-product_bits k {a} {b} ha hb =
-    subst⁻¹ (λ (n : ℕ). a * b < n) (pow-add 2 k k)
-    (lt_of_le_of_lt (mul-le-mul_left a (le_of_lt hb)) (mul-lt-mul_of_pos_right ha (pow_pos k)))
 
 -- `2 << dots` and `4096 >> (value + dots)` as the logic has them
 abbrev pub shifted : ℕ → ℕ

@@ -2,18 +2,18 @@
 use Rattle.std.specs.Prelude.{ℕ, ◌*◌, true, false, List, [], ◌∷◌, eqb}
 use Rattle.std.proofs.Math.Option.{Option, none, some}
 use Rattle.standard.specs.Lengths.{Fraction, Value, ticks}
-use Rattle.token_lengths.specs.Values.{written}
-use Rattle.token_values.specs.declared.Found.{Found}
-use Rattle.token_values.specs.declared.Found.TheVariants as found
+use Rattle.token_lengths.specs.declared.Length.{Length}
+use Rattle.token_lengths.specs.Values.{written, length_as}
+use Rattle.std.specs.Prelude as code
 
 -- num / parts of a whole note
 abbrev pub fraction : ℕ → ℕ → Fraction
 fraction num parts = record { over = num; under = parts }
 
 -- a written value, or none
-abbrev pub found_as : Option Value → Found
-found_as none = found.Nothing
-found_as (some w) = found.Value w.value w.dots
+abbrev pub found_as : Option Value → code.Option Length
+found_as none = code.None
+found_as (some w) = code.Some (length_as w)
 
 -- the first of the values that is exactly a / b 1024ths of a whole note
 unfoldable pub first_exact : List Value → ℕ → ℕ → Option Value

@@ -10,31 +10,8 @@ ghost use Rattle.token_values.specs.Found.{fraction, found_as, frequent_of};
 
 use token_lengths::Length;
 
-// A written value and its dots, or none.
-#[derive(Clone, Copy)]
-enum Found {
-    Nothing,
-    Value(u8, u8),
-}
-
-fn at_least_one(x: u32) -> u32
-    ensures { result ≡ max x 1 }
-{
-    if x == 0 { 1 } else { x }
-}
-
-fn product(a: u32, b: u32) -> u64
-    ensures { result ≡ a * b }
-{
-    (a as u64) * (b as u64)
-}
-
-// Past 2^43 every value is above every length of 32 bits: the bound keeps the products below in 64 bits.
-fn bounded(x: u64) -> u64
-    ensures { result ≡ min x (2 ^ 43) }
-{
-    if x < 8796093022208 { x } else { 8796093022208 }
-}
+// Past 2^43 parts every value is above every length of 32 bits: the bound keeps the products below in 64 bits.
+const MOST_PARTS: u64 = 1 << 43;
 
 // The size of a value with its dots, in 1024ths of a whole note.
 fn size(value: u8, dots: u8) -> u64
@@ -45,46 +22,42 @@ fn size(value: u8, dots: u8) -> u64
 }
 
 // What no search decides: denominator 0 gives a longa with 3 dots, 0/0 a plain longa, length 0 a plain quarter.
-fn limit_value(num: u32, parts: u64) -> Found
+fn limit_value(num: u32, parts: u64) -> Option<Length>
     ensures { result ≡ found_as (limit_of (fraction num parts)) }
 {
-    if parts == 0 {
-        if num == 0 {
-            return Found::Value(0, 0);
-        }
-        return Found::Value(0, 3);
+    match (num, parts) {
+        (0, 0) => Some(Length::Written(0, 0)),
+        (_, 0) => Some(Length::Written(0, 3)),
+        (0, _) => Some(Length::Written(4, 0)),
+        _ => None,
     }
-    if num == 0 {
-        return Found::Value(4, 0);
-    }
-    Found::Nothing
 }
 
 // The values from a half to a sixteenth that are most frequent, where the length is that value exactly: told without the search, which answers the same.
-fn frequent_value(num: u32, parts: u64) -> Found
+fn frequent_value(num: u32, parts: u64) -> Option<Length>
     requires { parts ≤ 2 ^ 43 }
     ensures { result ≡ found_as (frequent_of (fraction num parts)) }
 {
     let length = (num as u64) * 1024;
     if 128 * parts == length {
-        return Found::Value(5, 0);
+        return Some(Length::Written(5, 0));
     }
     if 256 * parts == length {
-        return Found::Value(4, 0);
+        return Some(Length::Written(4, 0));
     }
     if 64 * parts == length {
-        return Found::Value(6, 0);
+        return Some(Length::Written(6, 0));
     }
     if 512 * parts == length {
-        return Found::Value(3, 0);
+        return Some(Length::Written(3, 0));
     }
     if 192 * parts == length {
-        return Found::Value(5, 1);
+        return Some(Length::Written(5, 1));
     }
     if 384 * parts == length {
-        return Found::Value(4, 1);
+        return Some(Length::Written(4, 1));
     }
-    Found::Nothing
+    None
 }
 
 // The ten values from the eighth outward, the longer of two equally far first.
@@ -125,14 +98,14 @@ fn search_value(num: u32, parts: u64) -> Length
     ensures { result ≡ length_as (search_in outward (fraction num parts)) }
 {
     let length = (num as u64) * 1024;
-    let mut met = Found::Nothing;
+    let mut met = None;
     let mut below = 0u8;
     'search: for k in 0u8..10 {
         let value = outward_value(k);
         for dots in 0u8..4 {
             let scaled = size(value, dots) * parts;
             if scaled == length {
-                met = Found::Value(value, dots);
+                met = Some(Length::Written(value, dots));
                 break 'search;
             }
             if scaled < length {
@@ -140,22 +113,22 @@ fn search_value(num: u32, parts: u64) -> Length
             }
         }
     }
-    let Found::Value(value, dots) = met else {
+    let Some(length) = met else {
         return longest_of(below);
     };
-    Length::Written(value, dots)
+    length
 }
 
 // The written value of num / den of the unit, which is 1 / unit_den of a whole note.
 pub fn abc_note_value(unit_den: u32, num: u32, den: u32) -> Length
     ensures { result ≡ length_as (written_as (length_fraction unit_den num den)) }
 {
-    let parts = bounded(product(den, at_least_one(unit_den)));
-    let Found::Value(value, dots) = limit_value(num, parts) else {
-        let Found::Value(value, dots) = frequent_value(num, parts) else {
-            return search_value(num, parts);
-        };
-        return Length::Written(value, dots);
-    };
-    Length::Written(value, dots)
+    let parts = (u64::from(den) * u64::from(unit_den.max(1))).min(MOST_PARTS);
+    if let Some(length) = limit_value(num, parts) {
+        return length;
+    }
+    if let Some(length) = frequent_value(num, parts) {
+        return length;
+    }
+    search_value(num, parts)
 }

@@ -3,14 +3,13 @@ use Prim.Native.Nat.{ℕ, zero, suc}
 use mathlib.Core.Path.{◌≡◌, refl, ap}
 use mathlib.Core.Option.{none, some}
 use native.Mathlib.Omega.{arith}
-use Rattle.reader.specs.Lengths.{quarter_note, longa}
 use Rattle.reader.specs.Search.{limit_of}
 use Rattle.token_lengths.specs.Values.{written}
 use Rattle.token_values.specs.Found.{fraction, found_as}
 use Rattle.token_values.proofs.limit_value.Goals as goal
 
 -- no parts, and no length either
-neither : (num parts : ℕ) → parts ≡ 0 → num ≡ 0 → some longa ≡ limit_of (fraction num parts)
+neither : (num parts : ℕ) → parts ≡ 0 → num ≡ 0 → some (written 0 0) ≡ limit_of (fraction num parts)
 unfolding limit_of
 neither zero zero p n = refl
 neither (suc k) parts p n = absurd (omega arith)
@@ -22,7 +21,7 @@ no_parts zero parts p n = absurd (n refl)
 no_parts (suc k) zero p n = refl
 no_parts (suc k) (suc j) p n = absurd (omega arith)
 
-no_length : (num parts : ℕ) → (parts ≡ 0 → ⊥) → num ≡ 0 → some quarter_note ≡ limit_of (fraction num parts)
+no_length : (num parts : ℕ) → (parts ≡ 0 → ⊥) → num ≡ 0 → some (written 4 0) ≡ limit_of (fraction num parts)
 unfolding limit_of
 no_length num zero p n = absurd (p refl)
 no_length zero (suc j) p n = refl
@@ -34,14 +33,14 @@ some_of_both num zero p n = absurd (p refl)
 some_of_both zero (suc j) p n = absurd (n refl)
 some_of_both (suc k) (suc j) p n = refl
 
-pub returns-then-num-eq0 : goal.returns-then-num-eq0
-returns-then-num-eq0 c = ap found_as (neither _ _ c.if-parts-eq0.true c.if-num-eq0.true)
+pub returns-in-0-eq0 : goal.returns-in-0-eq0
+returns-in-0-eq0 c = let h = c.in-0-eq0 in ap found_as (neither _ _ h.is-1 h.is-0)
 
-pub returns-then-parts-eq0 : goal.returns-then-parts-eq0
-returns-then-parts-eq0 c = ap found_as (no_parts _ _ c.if-parts-eq0.true c.if-num-eq0.false)
+pub returns-in-0-default : goal.returns-in-0-default
+returns-in-0-default c = let h = c.in-0-default in ap found_as (no_length _ _ h.is-1.1 h.is-0)
 
-pub returns-then-num-eq0-2 : goal.returns-then-num-eq0-2
-returns-then-num-eq0-2 c = ap found_as (no_length _ _ c.if-parts-eq0.false c.if-num-eq0-2.true)
+pub returns-in_default-eq0 : goal.returns-in_default-eq0
+returns-in_default-eq0 c = let h = c.in_default-eq0 in ap found_as (no_parts _ _ h.is-1 h.is-0.1)
 
-pub returns : goal.returns
-returns c = ap found_as (some_of_both _ _ c.if-parts-eq0.false c.if-num-eq0-2.false)
+pub returns-in_default : goal.returns-in_default
+returns-in_default c = let h = c.in_default in ap found_as (some_of_both _ _ h.is-1.1 h.is-0.1)

@@ -9,9 +9,9 @@ use Rattle.reader.specs.Lengths.{quarter_note, written_as}
 use Rattle.reader.specs.Search.{search_in, outward}
 use Rattle.reader.proofs.ValueLaws.{written_met}
 use Rattle.reader.proofs.Searches.{outward_as_written}
-use Rattle.token_lengths.specs.Values.{written, length_as}
-use Rattle.token_values.specs.declared.Found.{Found}
-use Rattle.token_values.specs.declared.Found.TheVariants as found
+use Rattle.token_lengths.specs.Values.{length_as}
+use Rattle.token_lengths.specs.declared.Length.{Length}
+use Rattle.std.specs.Prelude as code
 use Rattle.token_values.specs.Found.{fraction}
 use Rattle.token_values.proofs.Searches.{nth_lt, counting_start, count_le, count_over, count_below, count_above, written_count}
 use Rattle.token_values.proofs.Sizes.{size_le}
@@ -19,9 +19,9 @@ use Rattle.token_values.proofs.search_value.Goals as goal
 use Rattle.token_values.proofs.search_value.Goals.{then-scaled-length-2, else-scaled-length-2, else-search-test, then-search-test+then-loop-dots-test+then-scaled-length}
 
 -- WHAT THE SEARCH LEAVES: a value that meets the length, or how many are below it
-abbrev Ended : ℕ → ℕ → Found → ℕ → Type 0
-Ended num parts found.Nothing n = (n ≤ 40) × (written_as (fraction num parts) ≡ get_or forty (40 - n) quarter_note)
-Ended num parts (found.Value v d) n = written_as (fraction num parts) ≡ written v d
+abbrev Ended : ℕ → ℕ → code.Option Length → ℕ → Type 0
+Ended num parts code.None n = (n ≤ 40) × (written_as (fraction num parts) ≡ get_or forty (40 - n) quarter_note)
+Ended num parts (code.Some l) n = length_as (written_as (fraction num parts)) ≡ l
 
 pub search-init : goal.search-init
 search-init c = (omega arith, refl, counting_start _ _)
@@ -82,9 +82,9 @@ longest_of-requires c =
       | then-search-test+then-loop-dots-test+then-scaled-length w ↦ let hk : c.search.k < 10 = omega (arith, w.search-test.true) in
           let hd : w.loop-dots.dots < 4 = omega (arith, w.loop-dots-test.true) in
           let hv : w.outward_value-value.result < 10 = rw w.outward_value-value.ensures (nth_lt _ hk) in
-          rw w.met-is (written_met (fraction c.args.num c.args.parts) _ _ c.requires.0 hv hd (rw w.size.ensures at w.if-scaled-length.true))
+          rw w.met-is (ap length_as (written_met (fraction c.args.num c.args.parts) _ _ c.requires.0 hv hd (rw w.size.ensures at w.if-scaled-length.true)))
     ] in
-    let none_met : Ended c.args.num c.args.parts found.Nothing c.search-test.below = rw c.in_default.is at left in
+    let none_met : Ended c.args.num c.args.parts code.None c.search-test.below = rw c.in_default.is at left in
     none_met.0
 
 pub returns-in_default : goal.returns-in_default
@@ -97,9 +97,9 @@ returns-in_default c =
       | then-search-test+then-loop-dots-test+then-scaled-length w ↦ let hk : c.search.k < 10 = omega (arith, w.search-test.true) in
           let hd : w.loop-dots.dots < 4 = omega (arith, w.loop-dots-test.true) in
           let hv : w.outward_value-value.result < 10 = rw w.outward_value-value.ensures (nth_lt _ hk) in
-          rw w.met-is (written_met (fraction c.args.num c.args.parts) _ _ c.requires.0 hv hd (rw w.size.ensures at w.if-scaled-length.true))
+          rw w.met-is (ap length_as (written_met (fraction c.args.num c.args.parts) _ _ c.requires.0 hv hd (rw w.size.ensures at w.if-scaled-length.true)))
     ] in
-    let none_met : Ended c.args.num c.args.parts found.Nothing c.search-test.below = rw c.in_default.is at left in
+    let none_met : Ended c.args.num c.args.parts code.None c.search-test.below = rw c.in_default.is at left in
     c.longest_of.ensures ∙ ap length_as (sym none_met.1 ∙ sym answers)
 
 pub returns : goal.returns
@@ -111,7 +111,7 @@ returns c =
       | then-search-test+then-loop-dots-test+then-scaled-length w ↦ let hk : c.search.k < 10 = omega (arith, w.search-test.true) in
           let hd : w.loop-dots.dots < 4 = omega (arith, w.loop-dots-test.true) in
           let hv : w.outward_value-value.result < 10 = rw w.outward_value-value.ensures (nth_lt _ hk) in
-          rw w.met-is (written_met (fraction c.args.num c.args.parts) _ _ c.requires.0 hv hd (rw w.size.ensures at w.if-scaled-length.true))
+          rw w.met-is (ap length_as (written_met (fraction c.args.num c.args.parts) _ _ c.requires.0 hv hd (rw w.size.ensures at w.if-scaled-length.true)))
     ] in
     let answers : search_in outward (fraction c.args.num c.args.parts) ≡ written_as (fraction c.args.num c.args.parts) = outward_as_written (fraction c.args.num c.args.parts) (omega (arith, c.requires.0)) in
-    ap length_as (sym (rw c.in-Value.is at left) ∙ sym answers)
+    sym (rw c.in-Some.is at left) ∙ ap length_as (sym answers)

@@ -1,18 +1,12 @@
 -- `token_values::search_value` meets its contract. Within both loops nothing has met the length, and the count is `Counting`, at 4 × k and at 4 × k + dots.
 use mathlib.Core.Path.{◌≡◌}
-use Prim.Native.Nat.{◌+◌, ◌-◌, ◌*◌, ◌≤◌}
-use Rattle.token_values.specs.declared.Found.TheVariants as found
+use Prim.Native.Nat.{◌+◌, ◌*◌, ◌≤◌}
+use Rattle.std.specs.Prelude as code
 use Rattle.token_values.proofs.Searches.{Counting}
 use Rattle.token_values.proofs.search_value.Given as goal
 
 abbrev pub invariant-loop-dots : goal.invariant-loop-dots
-invariant-loop-dots l = (l.dots ≤ 4) × (l.met ≡ found.Nothing) × Counting l.length l.parts (4 * l.k + l.dots) l.below
-
-abbrev pub decreases-loop-dots : goal.decreases-loop-dots
-decreases-loop-dots l = 4 - l.dots
+invariant-loop-dots l = (l.dots ≤ 4) × (l.met ≡ code.None) × Counting l.length l.parts (4 * l.k + l.dots) l.below
 
 abbrev pub invariant-search : goal.invariant-search
-invariant-search l = (l.k ≤ 10) × (l.met ≡ found.Nothing) × Counting l.length l.parts (4 * l.k) l.below
-
-abbrev pub decreases-search : goal.decreases-search
-decreases-search l = 10 - l.k
+invariant-search l = (l.k ≤ 10) × (l.met ≡ code.None) × Counting l.length l.parts (4 * l.k) l.below
