@@ -1,5 +1,5 @@
 -- Laws of the elements of one kind at the front of a list: how many there are, which, and where they end; by position too, as a loop goes.
-use Prim.Native.Nat.{ℕ, zero, suc, ◌+◌, ◌-◌, ◌≤◌, ◌<◌, min, zero-le, suc-le-suc}
+use Prim.Native.Nat.{ℕ, zero, suc, ◌+◌, ◌-◌, ◌≤◌, ◌<◌, min, max, zero-le, suc-le-suc}
 use mathlib.Core.Path.{◌≡◌, refl, sym, ap, ◌∙◌}
 use mathlib.Core.Bool.{Bool, true, false, false≢true}
 use mathlib.Core.List.{List, [], ◌∷◌, ◌++◌}
@@ -135,6 +135,14 @@ module _ {ℓ} {A : Type ℓ} (p : A → Bool) where
     -- nor past the list
     pub end_le : i ≤ length s → end_of p s i ≤ length s
     end_le h = omega (arith, count_while_le (drop i s), length-drop i s)
+
+    -- not before the list's end: there, or at a position past it
+    pub end_most : length s ≤ end_of p s i → end_of p s i ≡ max i (length s)
+    end_most h = go (dec_lt (length s) i)
+      where
+        go : Dec (length s < i) → end_of p s i ≡ max i (length s)
+        go (yes l) = omega (arith, end_past (omega arith))
+        go (no l) = omega (arith, end_le (omega arith))
 
     -- up to the end each element passes
     pub end_passes : (k : ℕ) (d : A) → i ≤ k → k < end_of p s i → p (get_or s k d) ≡ true

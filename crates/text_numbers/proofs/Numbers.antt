@@ -1,36 +1,39 @@
 -- The digits of a run, taken one after the other, write what `written` says of the whole run; and that is the standard's `digits`.
-use Prim.Native.Nat.{ℕ, ◌+◌, ◌-◌, ◌*◌, ◌≤◌, ◌<◌}
+use Prim.Native.Nat.{ℕ, max, ◌+◌, ◌-◌, ◌*◌, ◌≤◌, ◌<◌}
 use mathlib.Core.Path.{◌≡◌, refl, sym, ◌∙◌}
 use mathlib.Core.Bool.{Bool, true, false, cond}
 use mathlib.Core.Option.{none}
 use mathlib.Core.List.{List, [], ◌∷◌}
 use native.Mathlib.Omega.{arith}
 use lib.Dec.{leb, eqb}
-use lib.ListN.{length, get_or, take, drop, length-drop}
+use lib.ListN.{length, get_or, get_or-eq_default, take, drop, length-drop}
 use lib.Seq.{take_all}
 use borrow.Author.Tests.{lt-leb, leb-true, leb-false, eq-eqb, ne_eqb}
 use Rattle.laws.specs.Lists.{all, count_while}
 use Rattle.laws.specs.Spans.{run, end_of}
 use Rattle.laws.proofs.Bools.{by_test}
-use Rattle.laws.proofs.Spans.{run_within, run_on, run_off, end_on, end_off, run_passes, count_while_all, count_while_whole, count_while_le}
+use Rattle.laws.proofs.Spans.{run_within, run_on, run_off, end_on, end_off, run_passes, end_most, count_while_all, count_while_whole, count_while_le}
 use Rattle.standard.specs.Bytes.{is_digit, decimal, digits}
-use Rattle.text_numbers.specs.declared.Digits.{Digits}
-use Rattle.text_numbers.specs.declared.Digits.TheVariants.{Nothing, Value, Past}
+use Rattle.std.specs.Prelude.{Result, Ok, Err}
+use Rattle.text_bytes.specs.declared.Read.{Read}
+use Rattle.std.specs.Result.{result_ok}
+use Rattle.text_bytes.specs.Options.{option}
+use Rattle.text_numbers.specs.declared.NumberError.{NumberError}
+use Rattle.text_numbers.specs.declared.NumberError.TheVariants.{Empty, TooLarge}
 use Rattle.reader.specs.Pieces.{numeral}
 use Rattle.reader.proofs.Digits.{decimal_grows, digits_other}
-use Rattle.text_numbers.specs.declared.Read.{Read}
-use Rattle.text_numbers.specs.Digits.{most, up_to, written, with_digit, at_most, option, number_at}
+use Rattle.text_numbers.specs.Digits.{most, up_to, written, with_digit, at_most, number_at}
 
 -- THE LOOP
 -- the digits of a list, after what was read before
-pub fold : Digits → List ℕ → Digits
+pub fold : Result ℕ NumberError → List ℕ → Result ℕ NumberError
 fold n [] = n
 fold n (c ∷ s) = fold (with_digit n c) s
 
-fold_past : (s : List ℕ) → fold Past s ≡ Past
+fold_too_large : (s : List ℕ) → fold (Err TooLarge) s ≡ Err TooLarge
 unfolding fold with_digit
-fold_past [] = refl
-fold_past (c ∷ s) = fold_past s
+fold_too_large [] = refl
+fold_too_large (c ∷ s) = fold_too_large s
 
 -- a number so far, or one past 64 bits, goes on as the number does
 fold_up_to : (n : ℕ) (s : List ℕ) → fold (up_to most n) s ≡ up_to most (decimal n s)
@@ -39,26 +42,26 @@ fold_up_to n [] = refl
 fold_up_to n (c ∷ s) = go (leb n most) refl (fold_up_to (n * 10 + (c - 48)) s)
   where
     go : (x : Bool) → leb n most ≡ x → fold (up_to most (n * 10 + (c - 48))) s ≡ up_to most (decimal (n * 10 + (c - 48)) s)
-        → fold (with_digit (cond x (Value n) Past) c) s ≡ up_to most (decimal (n * 10 + (c - 48)) s)
+        → fold (with_digit (cond x (Ok n) (Err TooLarge)) c) s ≡ up_to most (decimal (n * 10 + (c - 48)) s)
     go true e r = r
     go false e r =
         let far : most < decimal (n * 10 + (c - 48)) s = omega (arith, leb-false n most e, decimal_grows (n * 10 + (c - 48)) s) in
-        rw (lt-leb _ _ far) (fold_past s)
+        rw (lt-leb _ _ far) (fold_too_large s)
 
-fold_all : (s : List ℕ) → fold Nothing s ≡ written most s
+fold_all : (s : List ℕ) → fold (Err Empty) s ≡ written most s
 unfolding fold with_digit written decimal
 fold_all [] = refl
 fold_all (c ∷ s) = fold_up_to (0 * 10 + (c - 48)) s
 
 -- the loop of `read_digits` at i, with n so far: the digits from i on end where those from `at` on end, and with n they write what those write
-pub record Reading (line : List ℕ) (at : ℕ) (n : Digits) (i : ℕ) : Type 0 where
+pub record Reading (line : List ℕ) (at : ℕ) (n : Result ℕ NumberError) (i : ℕ) : Type 0 where
   pub end : end_of is_digit line i ≡ end_of is_digit line at
-  pub same : fold n (run is_digit (drop i line)) ≡ fold Nothing (run is_digit (drop at line))
+  pub same : fold n (run is_digit (drop i line)) ≡ fold (Err Empty) (run is_digit (drop at line))
 
-pub reading_start : (line : List ℕ) (at : ℕ) → Reading line at Nothing at
+pub reading_start : (line : List ℕ) (at : ℕ) → Reading line at (Err Empty) at
 reading_start line at = record { end = refl; same = refl }
 
-module _ (line : List ℕ) (at : ℕ) (n : Digits) (i : ℕ) (r : Reading line at n i) where
+module _ (line : List ℕ) (at : ℕ) (n : Result ℕ NumberError) (i : ℕ) (r : Reading line at n i) where
   pub reading_on : is_digit (get_or line i 0) ≡ true → Reading line at (with_digit n (get_or line i 0)) (i + 1)
   unfolding fold
   reading_on d = record {
@@ -73,6 +76,15 @@ module _ (line : List ℕ) (at : ℕ) (n : Digits) (i : ℕ) (r : Reading line a
   unfolding fold
   reading_over d = sym (fold_all (run is_digit (drop at line))) ∙ sym (rw (run_off is_digit refl line i d) at r.same)
 
+  -- at the end of the line, or past it
+  pub reading_past : length line ≤ i → number_at most line at ≡ record { value = n; next = max at (length line) }
+  unfolding number_at
+  reading_past h =
+      let off : is_digit (get_or line i 0) ≡ false = rw (get_or-eq_default line 0 {n = i} h) in
+      let e : end_of is_digit line at ≡ i = reading_end off in
+      let k : end_of is_digit line at ≡ max at (length line) = end_most is_digit line at (omega arith) in
+      rw (reading_over off, k)
+
 -- A LOWER BOUND
 -- what is written up to a bound of 64 bits
 pub at_most_written : (top : ℕ) (s : List ℕ) → top ≤ most → at_most top (written most s) ≡ written top s
@@ -85,38 +97,38 @@ at_most_written top (c ∷ s) h = go (decimal 0 (c ∷ s))
 
 -- the same of a number at a position
 pub at_most_at : (top : ℕ) (s : List ℕ) (at : ℕ) → top ≤ most
-    → record { digits = at_most top (number_at most s at).digits; next = (number_at most s at).next } ≡ number_at top s at
+    → record { value = at_most top (number_at most s at).value; next = (number_at most s at).next } ≡ number_at top s at
 unfolding number_at
 at_most_at top s at h = rw (at_most_written top (run is_digit (drop at s)) h)
 
 -- a number that is not past the bound
-pub value_le : (top : ℕ) (s : List ℕ) (v : ℕ) → written top s ≡ Value v → v ≤ top
+pub value_le : (top : ℕ) (s : List ℕ) (v : ℕ) → written top s ≡ Ok v → v ≤ top
 unfolding written
 value_le top [] v e = absurd (no e)
   where
-    no : Nothing ≡ Value v → ⊥
+    no : Err Empty ≡ Ok v → ⊥
     no p = let z : ◌≡◌ {A = ℕ} 0 1 = cc in omega arith
 value_le top (c ∷ s) v e = go (decimal 0 (c ∷ s)) e
   where
-    go : (n : ℕ) → up_to top n ≡ Value v → v ≤ top
-    go n p = by_test (leb n top) (λ q. let k : Value n ≡ Value v = rw q at p in let m : n ≡ v = cc in omega (arith, leb-true n top q))
-        (λ q. let k : Past ≡ Value v = rw q at p in let z : ◌≡◌ {A = ℕ} 0 1 = cc in absurd (omega arith))
+    go : (n : ℕ) → up_to top n ≡ Ok v → v ≤ top
+    go n p = by_test (leb n top) (λ q. let k : Ok n ≡ Ok v = rw q at p in let m : n ≡ v = cc in omega (arith, leb-true n top q))
+        (λ q. let k : Err TooLarge ≡ Ok v = rw q at p in let z : ◌≡◌ {A = ℕ} 0 1 = cc in absurd (omega arith))
 
 -- THE STANDARD'S NUMBER
 -- of a text that is all digits
-pub option_digits : (top : ℕ) (s : List ℕ) → all is_digit s ≡ true → option (written top s) ≡ digits top s
+pub option_digits : (top : ℕ) (s : List ℕ) → all is_digit s ≡ true → option (result_ok (written top s)) ≡ digits top s
 unfolding written digits
 option_digits top [] h = refl
 option_digits top (c ∷ s) h =
     by_test (leb (decimal 0 (c ∷ s)) top) (λ e. rw (e, h, digits)) (λ e. rw (e, h, digits))
 
 -- of the digits at the front
-pub option_run : (top : ℕ) (s : List ℕ) → option (written top (run is_digit s)) ≡ digits top (run is_digit s)
+pub option_run : (top : ℕ) (s : List ℕ) → option (result_ok (written top (run is_digit s))) ≡ digits top (run is_digit s)
 option_run top s = option_digits top (run is_digit s) (run_passes is_digit s)
 
 -- what `read_number` answers: the standard's number of the digits at a position, and where they end
-module _ (top : ℕ) (line : List ℕ) (at : ℕ) (r : Read) (e : r ≡ number_at top line at) where
-  pub read_option : option r.digits ≡ digits top (run is_digit (drop at line))
+module _ (top : ℕ) (line : List ℕ) (at : ℕ) (r : Read (Result ℕ NumberError)) (e : r ≡ number_at top line at) where
+  pub read_option : option (result_ok r.value) ≡ digits top (run is_digit (drop at line))
   unfolding number_at
   read_option = rw e (option_run top (drop at line))
 
@@ -124,19 +136,19 @@ module _ (top : ℕ) (line : List ℕ) (at : ℕ) (r : Read) (e : r ≡ number_a
   unfolding number_at
   read_next = rw e
 
-  pub read_le : (v : ℕ) → r.digits ≡ Value v → v ≤ top
+  pub read_le : (v : ℕ) → r.value ≡ Ok v → v ≤ top
   unfolding number_at
   read_le v x = value_le top (run is_digit (drop at line)) v (rw e at x)
 
 -- A WHOLE TEXT
-module _ (top : ℕ) (s : List ℕ) (r : Read) (e : r ≡ number_at top s 0) where
+module _ (top : ℕ) (s : List ℕ) (r : Read (Result ℕ NumberError)) (e : r ≡ number_at top s 0) where
   -- the digits end before the text does
   pub whole_short : r.next < length s → digits top s ≡ none
   unfolding number_at
   whole_short h = digits_other top s (by_test (all is_digit s) (λ a. absurd (omega (arith, count_while_all is_digit s a, rw e at h))) (λ n. n))
 
   -- they are the text
-  pub whole_all : length s ≤ r.next → option r.digits ≡ digits top s
+  pub whole_all : length s ≤ r.next → option (result_ok r.value) ≡ digits top s
   unfolding number_at
   whole_all h =
       let n : count_while is_digit s ≡ length s = omega (arith, count_while_le is_digit s, rw e at h) in

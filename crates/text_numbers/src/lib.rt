@@ -4,100 +4,93 @@
 ghost use Rattle.std.specs.Prelude.{◌≡◌, true, ◌+◌, ◌-◌, ◌*◌, get_or};
 ghost use Rattle.standard.specs.Bytes.{is_digit, digits};
 ghost use Rattle.reader.specs.Pieces.{numeral};
-ghost use Rattle.text_numbers.specs.Digits.{with_digit, at_most, number_at, option, most};
+ghost use Rattle.text_bytes.specs.Options.{option};
+ghost use Rattle.text_numbers.specs.Digits.{with_digit, at_most, number_at, most};
 
-// What a run of digits writes: no digit, a number, or one past the bound.
-#[derive(Clone, Copy)]
-pub enum Digits {
-    Nothing,
-    Value(u64),
-    Past,
-}
+use text_bytes::Read;
 
-#[derive(Clone, Copy)]
-pub struct Read {
-    pub digits: Digits,
-    pub next: usize,
+// Why a run of digits is no number: there is none, or it is past the bound.
+#[derive(Clone, Copy, Debug, PartialEq, Eq)]
+pub enum NumberError {
+    Empty,
+    TooLarge,
 }
 
 // One digit more, up to 64 bits.
-fn with_digit(n: Digits, b: u8) -> Digits
+fn with_digit(number: Result<u64, NumberError>, b: u8) -> Result<u64, NumberError>
     requires { is_digit b ≡ true }
-    ensures { result ≡ with_digit n b }
+    ensures { result ≡ with_digit number b }
 {
-    let d = (b - 48) as u64;
-    match n {
-        Digits::Nothing => Digits::Value(d),
-        Digits::Past => Digits::Past,
-        Digits::Value(v) => {
-            if 1844674407370955161 < v {
-                return Digits::Past;
+    let digit = u64::from(b - b'0');
+    match number {
+        Err(NumberError::Empty) => Ok(digit),
+        Err(NumberError::TooLarge) => number,
+        Ok(n) => {
+            if 1844674407370955161 < n {
+                return Err(NumberError::TooLarge);
             }
-            if 18446744073709551615 - d < v * 10 {
-                return Digits::Past;
+            if 18446744073709551615 - digit < n * 10 {
+                return Err(NumberError::TooLarge);
             }
-            Digits::Value(v * 10 + d)
+            Ok(n * 10 + digit)
         }
     }
 }
 
 // The digits at `at` as a number of up to 64 bits, and the position after them.
-fn read_digits(line: &[u8], at: usize) -> Read
+fn read_digits(line: &[u8], at: usize) -> Read<Result<u64, NumberError>>
     ensures { result ≡ number_at most line.now at }
 {
-    let mut n = Digits::Nothing;
-    let mut i = at;
-    while text_bytes::is_digit(text_bytes::byte_at(line, i)) {
-        n = with_digit(n, text_bytes::byte_at(line, i));
-        i += 1;
+    let mut number = Err(NumberError::Empty);
+    for i in at..line.len() {
+        if !text_bytes::is_digit(line[i]) {
+            return Read {
+                value: number,
+                next: i,
+            };
+        }
+        number = with_digit(number, line[i]);
     }
-    Read { digits: n, next: i }
+    Read {
+        value: number,
+        next: at.max(line.len()),
+    }
 }
 
-// A number above `top` is past it.
-fn at_most(n: Digits, top: u64) -> Digits
-    ensures { result ≡ at_most top n }
+// A number above `top` is too large.
+fn at_most(number: Result<u64, NumberError>, top: u64) -> Result<u64, NumberError>
+    ensures { result ≡ at_most top number }
 {
-    match n {
-        Digits::Nothing => Digits::Nothing,
-        Digits::Past => Digits::Past,
-        Digits::Value(v) => {
-            if v <= top {
-                return Digits::Value(v);
-            }
-            Digits::Past
-        }
+    match number {
+        Ok(n) if top < n => Err(NumberError::TooLarge),
+        _ => number,
     }
 }
 
 // The digits at `at` as a number of up to `top`, and the position after them.
-pub fn read_number(line: &[u8], at: usize, top: u64) -> Read
+pub fn read_number(line: &[u8], at: usize, top: u64) -> Read<Result<u64, NumberError>>
     ensures { result ≡ number_at top line.now at }
 {
     let read = read_digits(line, at);
-    let n = read.digits;
-    let next = read.next;
     Read {
-        digits: at_most(n, top),
-        next,
+        value: at_most(read.value, top),
+        next: read.next,
     }
 }
 
 // The number of up to `top` that the text is, all of it digits.
-fn whole_number(text: &[u8], top: u64) -> Digits
+fn whole_number(text: &[u8], top: u64) -> Option<u64>
     ensures { option result ≡ digits top text.now }
 {
     let read = read_number(text, 0, top);
-    let n = read.digits;
-    let next = read.next;
-    if next < text.len() {
-        return Digits::Nothing;
+    if read.next < text.len() {
+        return None;
     }
-    n
+    read.value.ok()
 }
 
 // The same with a plus sign allowed before it, as Rust's `parse` takes one.
-pub fn parse_number(text: &[u8], top: u64) -> Digits
+pub fn parse_number(text: &[u8], top: u64) -> Option<u64>
     ensures { option result ≡ numeral top text.now }
 {
     if text_bytes::byte_at(text, 0) == b'+' {

@@ -1,11 +1,6 @@
--- `text_numbers::read_digits` meets its contract. The loop's invariant is `Reading`; the measure is what is left of the line.
-use Prim.Native.Nat.{◌-◌}
-use lib.ListN.{length}
+-- `text_numbers::read_digits` meets its contract. The loop's invariant is `Reading`.
 use Rattle.text_numbers.proofs.Numbers.{Reading}
 use Rattle.text_numbers.proofs.read_digits.Given as goal
 
-abbrev pub invariant-loop-n : goal.invariant-loop-n
-invariant-loop-n l = Reading l.line l.at l.n l.i
-
-abbrev pub decreases-loop-n : goal.decreases-loop-n
-decreases-loop-n l = length l.line - l.i
+abbrev pub invariant-loop-i : goal.invariant-loop-i
+invariant-loop-i l = Reading l.line l.at l.number l.i

@@ -1,40 +1,42 @@
--- `text_numbers::with_digit` meets its contract: each `return` has the variant and the tests that led there.
+-- `text_numbers::with_digit` meets its contract: each answer has the variant and the tests that led there.
 use Prim.Native.Nat.{◌+◌, ◌-◌, ◌*◌, ◌≤◌, ◌<◌}
 use native.Mathlib.Nat.{zero-add}
 use native.Mathlib.Omega.{arith}
 use borrow.Author.Tests.{le-leb, lt-leb}
+use mathlib.Core.Path.{◌≡◌, ap, ◌∙◌}
+use Rattle.std.specs.Prelude.{Err}
+use Rattle.text_numbers.specs.declared.NumberError.TheVariants.{Empty, TooLarge}
 use Rattle.text_numbers.specs.Digits.{with_digit, most}
-use Rattle.reader.proofs.Digits.{digit_low}
 use Rattle.text_numbers.proofs.with_digit.Goals as goal
 
-pub overflow_sub-d : goal.overflow_sub-d
-overflow_sub-d c = digit_low _ c.requires
-
-pub returns-then-v-gt1844674407370955161 : goal.returns-then-v-gt1844674407370955161
+pub returns-then-n-gt1844674407370955161 : goal.returns-then-n-gt1844674407370955161
 unfolding with_digit
-returns-then-v-gt1844674407370955161 c =
-    let far : most < c.in-Value.v * 10 + (c.args.b - 48) = omega arith in
-    rw (c.in-Value.is, lt-leb _ _ far)
+returns-then-n-gt1844674407370955161 c =
+    let far : most < c.in-Ok.n * 10 + (c.args.b - 48) = omega arith in
+    rw (c.in-Ok.is, lt-leb _ _ far)
 
-pub returns-then-d-v : goal.returns-then-d-v
+pub returns-then-digit-n : goal.returns-then-digit-n
 unfolding with_digit
-returns-then-d-v c =
-    let far : most < c.in-Value.v * 10 + (c.args.b - 48) = omega arith in
-    rw (c.in-Value.is, lt-leb _ _ far)
+returns-then-digit-n c =
+    let far : most < c.in-Ok.n * 10 + (c.args.b - 48) = omega arith in
+    rw (c.in-Ok.is, lt-leb _ _ far)
 
-pub returns-in-Nothing : goal.returns-in-Nothing
+pub returns-in-Err-Empty : goal.returns-in-Err-Empty
 unfolding with_digit
-returns-in-Nothing c =
+returns-in-Err-Empty c =
     let a = c.args in
     let near : a.b - 48 ≤ most = omega (arith, c.ranges.b) in
-    rw (c.in-Nothing.is, zero-add, le-leb _ _ near)
+    let none : c.args.number ≡ Err Empty = c.in-Err-Empty.is ∙ ap Err (rw c.in-Err-Empty.is at c.in-Err-Empty.field-0-is) in
+    rw (none, c.from-digit.ensures, zero-add, le-leb _ _ near)
 
-pub returns-in-Past : goal.returns-in-Past
+pub returns-in-Err-TooLarge : goal.returns-in-Err-TooLarge
 unfolding with_digit
-returns-in-Past c = rw c.in-Past.is
+returns-in-Err-TooLarge c =
+    let past : c.args.number ≡ Err TooLarge = c.in-Err-TooLarge.is ∙ ap Err (rw c.in-Err-TooLarge.is at c.in-Err-TooLarge.field-0-is) in
+    rw past
 
-pub returns-else-d-v : goal.returns-else-d-v
+pub returns-else-digit-n : goal.returns-else-digit-n
 unfolding with_digit
-returns-else-d-v c =
-    let near : c.in-Value.v * 10 + (c.args.b - 48) ≤ most = omega (arith, c.ranges.b) in
-    rw (c.in-Value.is, le-leb _ _ near)
+returns-else-digit-n c =
+    let near : c.in-Ok.n * 10 + (c.args.b - 48) ≤ most = omega (arith, c.ranges.b) in
+    rw (c.in-Ok.is, c.from-digit.ensures, le-leb _ _ near)
