@@ -1,24 +1,18 @@
 -- `text_names::is_named` meets its contract: a text as long as the name begins with it where it is the name.
 use mathlib.Core.Path.{◌≡◌, sym, ◌∙◌}
-use native.Mathlib.Omega.{arith}
-use lib.ListN.{length}
-use Rattle.laws.specs.Bytes.{between}
-use Rattle.laws.proofs.Lists.{eq_text_length}
 use mathlib.Core.List.{map}
+use native.Mathlib.Omega.{arith}
+use lib.ListN.{length, length-map}
+use borrow.Author.Tests.{ne_eqb}
+use Rattle.laws.proofs.Lists.{eq_text_length}
 use Rattle.standard.specs.Bytes.{lower}
-use Rattle.text_names.proofs.Texts.{starts_whole, length_lower}
+use Rattle.text_names.proofs.Texts.{starts_whole}
 use Rattle.text_names.proofs.is_named.Goals as goal
 
-pub returns-then-e-i : goal.returns-then-e-i
-returns-then-e-i c =
-    let text = map lower (between c.args.line.now c.args.i c.args.e) in
-    let name = c.args.name.now in
-    let n : length name ≡ length text → ⊥ = λ e. omega (arith, length_lower c.args.line.now c.args.i c.args.e c.requires.1) in
-    sym (eq_text_length name text n)
+pub returns-then-text-name : goal.returns-then-text-name
+returns-then-text-name c = c.says.ensures ∙ starts_whole c.args.name.now (map lower c.args.text.now) (omega (arith, length-map c.args.text.now lower))
 
-pub returns : goal.returns
-returns c =
-    let text = map lower (between c.args.line.now c.args.i c.args.e) in
-    let name = c.args.name.now in
-    let same : length text ≡ length name = omega (arith, length_lower c.args.line.now c.args.i c.args.e c.requires.1) in
-    c.says.ensures ∙ starts_whole name text same
+pub returns-else-text-name : goal.returns-else-text-name
+returns-else-text-name c =
+    let n : length c.args.name.now ≡ length (map lower c.args.text.now) → ⊥ = λ e. omega (arith, length-map c.args.text.now lower) in
+    ne_eqb _ _ c.if-text-name.false ∙ sym (eq_text_length c.args.name.now (map lower c.args.text.now) n)
