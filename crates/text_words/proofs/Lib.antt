@@ -1,4 +1,3 @@
-pub mod Stands
 pub mod Trims
-pub mod Finds
-pub mod WordLaws
+pub mod Words
+pub mod Parts

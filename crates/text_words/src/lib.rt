@@ -1,116 +1,81 @@
-// Words, trimming and separators in a part of a line. Fields are ASCII, so white space is ASCII's. A part is given by two positions: the bytes from the first up to the second.
+// Words of a text, and a text without white space around it. Fields are ASCII, so white space is ASCII's.
 #![tactic(auto)]
 
-ghost use Rattle.std.specs.Prelude.{◌≡◌, ◌&&◌, ◌≤◌, ◌-◌, length};
-ghost use Rattle.laws.specs.Spans.{end_in};
-ghost use Rattle.reader.specs.Text.{is_space};
-ghost use Rattle.text_words.specs.Words.{not_space, not_byte, stands_at, stands_before, trimmed_end, Trimmed};
+ghost use Rattle.std.specs.Prelude.{◌≡◌, ◌≤◌, MatchOption, [], length};
+ghost use Rattle.laws.specs.Lists.{count_while};
+ghost use Rattle.reader.specs.Pieces.{trim_start, trim_end, trimmed, field_words};
+ghost use Rattle.text_words.specs.Words.{not_space, FirstWord, Unsplit, SplitAround};
 
-// A part of a line, from `start` up to `end`.
-#[derive(Clone, Copy)]
+// A part of a text, from `start` up to `end`.
+#[derive(Clone, Copy, Debug, PartialEq, Eq)]
 pub struct Part {
     pub start: usize,
     pub end: usize,
 }
 
-// White space stands at `i`, before `b`.
-fn space_at(line: &[u8], i: usize, b: usize) -> bool
-    requires { b ≤ length line.now }
-    ensures { result ≡ stands_at is_space line.now i b }
+// The text without white space at its front.
+fn trim_start(text: &[u8]) -> &[u8]
+    ensures { result.now ≡ trim_start text.now }
 {
-    if i < b {
-        text_bytes::is_space(line[i])
-    } else {
-        false
+    let mut rest = text;
+    while let Some((first, behind)) = rest.split_first() {
+        if !text_bytes::is_space(*first) {
+            return rest;
+        }
+        rest = behind;
+    }
+    rest
+}
+
+// The text without white space at its end.
+fn trim_end(text: &[u8]) -> &[u8]
+    ensures { result.now ≡ trim_end text.now }
+{
+    let mut front = text;
+    while let Some((last, before)) = front.split_last() {
+        if !text_bytes::is_space(*last) {
+            return front;
+        }
+        front = before;
+    }
+    front
+}
+
+// The text without white space at either end.
+pub fn trim(text: &[u8]) -> &[u8]
+    ensures { result.now ≡ trimmed text.now }
+{
+    trim_end(trim_start(text))
+}
+
+// Where the word at the front of the text ends.
+fn word_end(text: &[u8]) -> usize
+    ensures within { result ≤ length text.now }
+    ensures end { result ≡ count_while not_space text.now }
+{
+    match text.iter().position(|&c| text_bytes::is_space(c)) {
+        Some(end) => end,
+        None => text.len(),
     }
 }
 
-// A byte of a word stands at `i`, before `b`.
-fn word_at(line: &[u8], i: usize, b: usize) -> bool
-    requires { b ≤ length line.now }
-    ensures { result ≡ stands_at not_space line.now i b }
+// The first word of the text, and what stands behind it.
+pub fn split_word(text: &[u8]) -> Option<(&[u8], &[u8])>
+    ensures { MatchOption result (field_words text.now ≡ []) (λ word. FirstWord text.now word.0.now word.1.now) }
 {
-    if i < b {
-        !text_bytes::is_space(line[i])
-    } else {
-        false
+    let words = trim_start(text);
+    if words.is_empty() {
+        return None;
     }
+    Some(words.split_at(word_end(words)))
 }
 
-// A byte other than `c` stands at `i`, before `b`.
-fn other_at(line: &[u8], i: usize, b: usize, c: u8) -> bool
-    requires { b ≤ length line.now }
-    ensures { result ≡ stands_at (not_byte c) line.now i b }
+// What stands before the first `byte` of the text, and what after it.
+pub fn split_once(text: &[u8], byte: u8) -> Option<(&[u8], &[u8])>
+    ensures { MatchOption result (Unsplit byte text.now) (λ parts. SplitAround byte text.now parts.0.now parts.1.now) }
 {
-    if i < b { line[i] != c } else { false }
-}
-
-// White space stands right before `e`, not before `a`.
-fn space_before(line: &[u8], a: usize, e: usize) -> bool
-    requires { e ≤ length line.now }
-    ensures { result ≡ stands_before is_space line.now a e }
-{
-    if a < e {
-        text_bytes::is_space(line[e - 1])
-    } else {
-        false
+    match text.iter().position(|&c| c == byte) {
+        Some(at) => Some((&text[..at], &text[at + 1..])),
+        None => None,
     }
-}
-
-// Where the next word starts, from `a` on; `b` if there is none.
-pub fn word_start(line: &[u8], a: usize, b: usize) -> usize
-    requires { b ≤ length line.now }
-    ensures { result ≡ end_in is_space line.now a b }
-{
-    let mut i = a;
-    while space_at(line, i, b) {
-        i += 1;
-    }
-    i
-}
-
-// Where the word at `a` ends.
-pub fn word_end(line: &[u8], a: usize, b: usize) -> usize
-    requires { b ≤ length line.now }
-    ensures { result ≡ end_in not_space line.now a b }
-{
-    let mut j = a;
-    while word_at(line, j, b) {
-        j += 1;
-    }
-    j
-}
-
-// Where the byte `c` stands first, from `a` on; `b` if it does not.
-pub fn find_byte(line: &[u8], a: usize, b: usize, c: u8) -> usize
-    requires { b ≤ length line.now }
-    ensures { result ≡ end_in (not_byte c) line.now a b }
-{
-    let mut k = a;
-    while other_at(line, k, b, c) {
-        k += 1;
-    }
-    k
-}
-
-// Where the part ends without white space at its end.
-fn trim_end(line: &[u8], a: usize, b: usize) -> usize
-    requires { (a ≤ b) × (b ≤ length line.now) }
-    ensures { result ≡ trimmed_end line.now a b }
-{
-    let mut e = b;
-    while space_before(line, a, e) {
-        e -= 1;
-    }
-    e
-}
-
-// The part without white space at either end.
-pub fn trim(line: &[u8], a: usize, b: usize) -> Part
-    requires { (a ≤ b) × (b ≤ length line.now) }
-    ensures { Trimmed line.now a b result }
-{
-    let start = word_start(line, a, b);
-    let end = trim_end(line, start, b);
-    Part { start, end }
 }

@@ -1,28 +1,18 @@
--- `text_words::trim_end` meets its contract. The loop's invariant: the text up to e has the end of the whole.
-use Prim.Native.Nat.{◌<◌}
-use mathlib.Core.Path.{refl, sym, ◌∙◌}
-use native.Mathlib.Omega.{arith}
-use Rattle.text_words.proofs.Trims.{trims_lt, trimming_on, trimming_off}
+-- `text_words::trim_end` meets its contract, by the last byte of what is left.
+use mathlib.Core.Path.{sym, ap, ◌∙◌}
+use Rattle.reader.specs.Pieces.{trim_end}
+use Rattle.text_words.proofs.Trims.{trim_end_space, trim_end_word, trim_end_over}
 use Rattle.text_words.proofs.trim_end.Goals as goal
 
-pub loop-e-init : goal.loop-e-init
-loop-e-init c = record { low = omega arith; high = omega arith; same = refl }
+pub returns-then-not-is_space : goal.returns-then-not-is_space
+returns-then-not-is_space c =
+    let e = c.in-Some.ensures.cases.0 in
+    e ∙ sym (trim_end_word _ _ (sym c.is_space.ensures ∙ c.if-not-is_space.true)) ∙ ap trim_end (sym e) ∙ c.loop-last.invariant
 
-pub space_before-requires : goal.space_before-requires
-space_before-requires c = omega (arith, c.loop-e.invariant.high, c.requires.1)
-
-pub overflow_sub-e : goal.overflow_sub-e
-overflow_sub-e c =
-    let within : c.args.a < c.loop-e.e = trims_lt c.args.line.now c.args.a c.loop-e.e (sym c.space_before.ensures ∙ c.loop-e-test.true) in
-    omega (arith, within)
-
-pub loop-e-smaller : goal.loop-e-smaller
-loop-e-smaller c =
-    let within : c.args.a < c.loop-e.e = trims_lt c.args.line.now c.args.a c.loop-e.e (sym c.space_before.ensures ∙ c.loop-e-test.true) in
-    omega (arith, within)
-
-pub loop-e-preserved : goal.loop-e-preserved
-loop-e-preserved c = trimming_on _ _ _ _ c.requires.1 c.loop-e.invariant (sym c.space_before.ensures ∙ c.loop-e-test.true)
+pub loop-last-preserved : goal.loop-last-preserved
+loop-last-preserved c =
+    let e = c.in-Some.ensures.cases.0 in
+    sym (trim_end_space _ _ (sym c.is_space.ensures ∙ c.if-not-is_space.false)) ∙ ap trim_end (sym e) ∙ c.loop-last.invariant
 
 pub returns : goal.returns
-returns c = trimming_off _ _ _ _ c.requires.1 c.loop-e.invariant (sym c.space_before.ensures ∙ c.loop-e-test.false)
+returns c = trim_end_over _ _ c.in_default.ensures.cases c.loop-last.invariant

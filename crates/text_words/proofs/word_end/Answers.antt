@@ -1,29 +1,24 @@
--- `text_words::word_end` meets its contract. The loop's invariant: the bytes of the kind end, from j on, where they end from a on.
-use Prim.Native.Nat.{◌<◌}
-use mathlib.Core.Path.{refl, sym, ◌∙◌}
+-- `text_words::word_end` meets its contract: each byte before the end is one of the word, and white space stands there, or nothing.
+use Prim.Native.Nat.{ℕ, ◌<◌}
+use mathlib.Core.Path.{◌≡◌, sym, ap}
+use mathlib.Core.Bool.{true, false, not}
 use native.Mathlib.Omega.{arith}
+use borrow.Author.Rules.{rules}
+use lib.ListN.{length, get_or}
+use Rattle.laws.proofs.Spans.{count_while_is}
+use Rattle.reader.specs.Text.{is_space}
 use Rattle.text_words.specs.Words.{not_space}
-use Rattle.text_words.proofs.Stands.{stands_lt, stands_on, stands_off}
 use Rattle.text_words.proofs.word_end.Goals as goal
 
-pub loop-j-init : goal.loop-j-init
-loop-j-init c = refl
+pub returns-in-Some-clause-end : goal.returns-in-Some-clause-end
+returns-in-Some-clause-end c =
+    let t = c.args.text.now in
+    let at : is_space (get_or t c.in-Some.end 0) ≡ true = search rules in
+    let before : (i : ℕ) → i < c.in-Some.end → is_space (get_or t i 0) ≡ false = search rules in
+    sym (count_while_is not_space t c.in-Some.end 0 (search rules) (λ i h. ap not (before i h)) (λ h. ap not at))
 
-pub word_at-requires : goal.word_at-requires
-word_at-requires c = c.requires
-
-pub overflow_add-j : goal.overflow_add-j
-overflow_add-j c =
-    let within : c.loop-j.j < c.args.b = stands_lt not_space c.args.line.now c.loop-j.j c.args.b (sym c.word_at.ensures ∙ c.loop-j-test.true) in
-    omega (arith, within)
-
-pub loop-j-smaller : goal.loop-j-smaller
-loop-j-smaller c =
-    let within : c.loop-j.j < c.args.b = stands_lt not_space c.args.line.now c.loop-j.j c.args.b (sym c.word_at.ensures ∙ c.loop-j-test.true) in
-    omega (arith, within)
-
-pub loop-j-preserved : goal.loop-j-preserved
-loop-j-preserved c = sym (stands_on not_space c.args.line.now c.loop-j.j c.args.b c.requires (sym c.word_at.ensures ∙ c.loop-j-test.true)) ∙ c.loop-j.invariant
-
-pub returns : goal.returns
-returns c = sym (stands_off not_space c.args.line.now c.loop-j.j c.args.b c.requires (sym c.word_at.ensures ∙ c.loop-j-test.false)) ∙ c.loop-j.invariant
+pub returns-in-None-clause-end : goal.returns-in-None-clause-end
+returns-in-None-clause-end c =
+    let t = c.args.text.now in
+    let none : (i : ℕ) → i < length t → is_space (get_or t i 0) ≡ false = search rules in
+    sym (count_while_is not_space t (length t) 0 (omega arith) (λ i h. ap not (none i h)) (λ h. absurd (omega arith)))
