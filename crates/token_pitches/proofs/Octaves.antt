@@ -13,14 +13,13 @@ use Rattle.laws.specs.Spans.{end_of}
 use Rattle.laws.proofs.Bools.{and_no_left, and_no_right, and_both}
 use Rattle.laws.proofs.Spans.{end_off}
 use Rattle.reader.specs.Pitches.{Octave, octave_from}
-use Rattle.token_pitches.specs.Pitches.{octave_for}
-use Rattle.token_pitches.specs.declared.Octave.TheVariants.{At, Out}
+use Rattle.token_pitches.specs.Pitches.{octave_for, octave_at, octave_out}
 
-pub fine : (at : ℕ) (o : Octave) → o.fine ≡ true → octave_for at o ≡ At o.octave (at + o.used)
+pub fine : (at : ℕ) (o : Octave) → o.fine ≡ true → octave_for at o ≡ octave_at o.octave (at + o.used)
 unfolding octave_for
 fine at o e = rw (e, octave_for)
 
-pub refused : (at : ℕ) (o : Octave) → o.fine ≡ false → octave_for at o ≡ Out
+pub refused : (at : ℕ) (o : Octave) → o.fine ≡ false → octave_for at o ≡ octave_out
 unfolding octave_for
 refused at o e = rw (e, octave_for)
 
@@ -41,29 +40,29 @@ module _ (line : List ℕ) (at start down up : ℕ) (e : down ≡ end_of (λ c. 
   fine_by = rw (rises, commas)
 
   -- too low
-  pub marks_low : start < down - at → Out ≡ octave_for at (octave_from start (drop at line))
+  pub marks_low : start < down - at → octave_out ≡ octave_for at (octave_from start (drop at line))
   marks_low h = sym (refused at (octave_from start (drop at line)) (fine_by ∙ and_no_left _ _ (lt-leb _ _ h)))
 
   -- too high
-  pub marks_high : down - at ≤ start → 255 - (start - (down - at)) < up - down → start ≤ 255 → Out ≡ octave_for at (octave_from start (drop at line))
+  pub marks_high : down - at ≤ start → 255 - (start - (down - at)) < up - down → start ≤ 255 → octave_out ≡ octave_for at (octave_from start (drop at line))
   marks_high h k l =
       let m : 255 < start - (down - at) + (up - down) = omega arith in
       sym (refused at (octave_from start (drop at line)) (fine_by ∙ and_no_right (leb (down - at) start) _ (lt-leb _ _ m)))
 
   -- what is read
-  read_as_lem : At (octave_from start (drop at line)).octave (at + (octave_from start (drop at line)).used) ≡ At (start - (down - at) + (up - down)) (at + (down - at + (up - down)))
+  read_as_lem : octave_at (octave_from start (drop at line)).octave (at + (octave_from start (drop at line)).used) ≡ octave_at (start - (down - at) + (up - down)) (at + (down - at + (up - down)))
   unfolding octave_from
   read_as_lem = rw (rises, commas)
 
   -- within
-  pub marks_at : down - at ≤ start → up - down ≤ 255 - (start - (down - at)) → start ≤ 255 → At (start - (down - at) + (up - down)) up ≡ octave_for at (octave_from start (drop at line))
+  pub marks_at : down - at ≤ start → up - down ≤ 255 - (start - (down - at)) → start ≤ 255 → octave_at (start - (down - at) + (up - down)) up ≡ octave_for at (octave_from start (drop at line))
   marks_at h k l =
       let n : at + (down - at + (up - down)) ≡ up = omega (arith, e, f) in
       let m : start - (down - at) + (up - down) ≤ 255 = omega arith in
-      sym (fine at (octave_from start (drop at line)) (fine_by ∙ and_both _ _ (le-leb _ _ h) (le-leb _ _ m)) ∙ read_as_lem ∙ ap (At (start - (down - at) + (up - down))) n)
+      sym (fine at (octave_from start (drop at line)) (fine_by ∙ and_both _ _ (le-leb _ _ h) (le-leb _ _ m)) ∙ read_as_lem ∙ ap (octave_at (start - (down - at) + (up - down))) n)
 
 -- a byte above the comma: no mark
-pub marks_none : (line : List ℕ) (at start : ℕ) → 44 < get_or line at 0 → start ≤ 255 → At start at ≡ octave_for at (octave_from start (drop at line))
+pub marks_none : (line : List ℕ) (at start : ℕ) → 44 < get_or line at 0 → start ≤ 255 → octave_at start at ≡ octave_for at (octave_from start (drop at line))
 marks_none line at start h l =
     let b = get_or line at 0 in
     let no : (m : ℕ) → m ≤ 44 → eqb b m ≡ false = λ m k. ne_eqb b m (λ e. omega arith) in

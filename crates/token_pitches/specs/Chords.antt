@@ -6,10 +6,11 @@ use Rattle.standard.specs.Pitches.{Accidental, Written, is_letter, step_of}
 use Rattle.reader.specs.Pitches as reader
 use Rattle.reader.specs.Pitches.{natural, quarter_tone, added, is_quarter, Octave, octave_of}
 use Rattle.token_pitches.specs.Pitches.{pitch_for}
-use Rattle.token_pitches.specs.declared.Met as code
-use Rattle.token_pitches.specs.declared.Met.TheVariants as met-as
-use Rattle.token_pitches.specs.declared.Chord.{Chord}
-use Rattle.token_pitches.specs.declared.Chord.TheVariants.{Read, Refused}
+use Rattle.std.specs.Prelude as code
+use Rattle.std.specs.Prelude.{Result, Ok, Err}
+use Rattle.refusals.specs.declared.Refusal.{Refusal}
+use Rattle.text_bytes.specs.declared.Read.{Read}
+use Rattle.token_pitches.specs.declared.Pitch.{Pitch}
 
 -- the chord's end; a pitch that is refused; a pitch and how many bytes were passed up to its last octave mark
 pub data Met : Type 0 where
@@ -49,17 +50,30 @@ pitch_met zero a (c ∷ s) =
     ]
 pitch_met (suc k) a (c ∷ s) = further 1 (pitch_met k a s)
 
+-- what the code answers: the chord's end; a refusal; a pitch and the position after it
+abbrev pub met_over : Result (code.Option (Read Pitch)) Refusal
+met_over = Ok code.None
+
+abbrev pub met_out : Result (code.Option (Read Pitch)) Refusal
+met_out = Err Refusal.Octave
+
+abbrev pub met_pitch : Pitch → ℕ → Result (code.Option (Read Pitch)) Refusal
+met_pitch pitch next = Ok (code.Some (record { value = pitch; next = next }))
+
 -- what is met, in the code's type, from a position on
-unfoldable pub met_for : ℕ → Met → code.Met
-met_for at over = met-as.Over
-met_for at out = met-as.Out
-met_for at (met w n) = met-as.Pitch (pitch_for w) (at + n)
+unfoldable pub met_for : ℕ → Met → Result (code.Option (Read Pitch)) Refusal
+met_for at over = met_over
+met_for at out = met_out
+met_for at (met w n) = met_pitch (pitch_for w) (at + n)
 
 -- the position after a closing byte; the line's end if there is none
 unfoldable pub closed_at : List ℕ → ℕ → ℕ
 closed_at line close = cond (ltb close (length line)) (close + 1) close
 
 -- a chord's pitches, by their number, and the position after its bracket
-unfoldable pub chord_for : ℕ → Option (List Written) → Chord
-chord_for next none = Refused
-chord_for next (some ps) = Read (length ps) next
+abbrev pub chord_read : ℕ → ℕ → Result (Read ℕ) Refusal
+chord_read count next = Ok (record { value = count; next = next })
+
+unfoldable pub chord_for : ℕ → Option (List Written) → Result (Read ℕ) Refusal
+chord_for next none = Err Refusal.Octave
+chord_for next (some ps) = chord_read (length ps) next

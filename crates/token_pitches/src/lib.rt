@@ -9,54 +9,28 @@ ghost use Rattle.reader.specs.Pitches as written;
 ghost use Rattle.token_pitches.specs.Pitches.{note_char, sign_of, before_for, octave_for, quarter_for};
 ghost use Rattle.token_pitches.specs.Chords.{sign_in, letter_met, pitch_met, met_for, closed_at, chord_for};
 
-// An accidental, or none.
-#[derive(Clone, Copy)]
-pub enum Sign {
-    Nothing,
-    Written { alter: u8, cents: u8 },
+use refusals::Refusal;
+use text_bytes::Read;
+
+// An accidental: half tones up, and hundredths of one, each with 128 added.
+#[derive(Clone, Copy, Debug, PartialEq, Eq)]
+pub struct Accidental {
+    pub alter: u8,
+    pub cents: u8,
 }
 
-#[derive(Clone, Copy)]
+#[derive(Clone, Copy, Debug, PartialEq, Eq)]
 pub struct Pitch {
     pub step: u8,
     pub octave: u8,
-    pub sign: Sign,
+    pub sign: Option<Accidental>,
 }
 
 // A letter's step, C is 0 and B is 6, and octave.
-#[derive(Clone, Copy)]
+#[derive(Clone, Copy, Debug, PartialEq, Eq)]
 pub struct NoteChar {
     pub step: u8,
     pub octave: u8,
-}
-
-// An accidental and the position after it.
-#[derive(Clone, Copy)]
-pub struct Before {
-    pub sign: Sign,
-    pub next: usize,
-}
-
-// An octave and the position after its marks; or marks that leave −128 to 127 (refusal 12).
-#[derive(Clone, Copy)]
-pub enum Octave {
-    At { octave: u8, next: usize },
-    Out,
-}
-
-// What the walk through a chord meets next: its end, a pitch with the position after it, or refusal 12.
-#[derive(Clone, Copy)]
-pub enum Met {
-    Over,
-    Out,
-    Pitch { pitch: Pitch, next: usize },
-}
-
-// A chord's number of pitches and the position after its bracket; or refusal 12. The pitches are read again, one by one, by `next_chord_pitch`.
-#[derive(Clone, Copy)]
-pub enum Chord {
-    Read { count: usize, next: usize },
-    Refused,
 }
 
 // 000's step goes by a match; this is the same for each letter.
@@ -82,57 +56,43 @@ pub fn is_letter(c: u8) -> bool
 fn moved(up: bool, n: usize, from: u8) -> u8
     ensures { result ≡ written.moved up n from }
 {
-    let a = from as usize;
+    let from = from as usize;
     if up {
-        if 255 - a < n {
-            return 255;
-        }
-        return (a + n) as u8;
+        return from.saturating_add(n).min(255) as u8;
     }
-    if a < n {
-        return 0;
-    }
-    (a - n) as u8
+    from.saturating_sub(n) as u8
 }
 
-fn quarter_tone(up: bool) -> Sign
+fn quarter_tone(up: bool) -> Accidental
     ensures { result ≡ quarter_for up }
 {
-    if up {
-        return Sign::Written {
-            alter: 128,
-            cents: 178,
-        };
-    }
-    Sign::Written {
-        alter: 128,
-        cents: 78,
-    }
+    let cents = if up { 178 } else { 78 };
+    Accidental { alter: 128, cents }
 }
 
 // A run of equal signs `b`; a single one with a slash behind it is a quarter tone.
-fn signs(line: &[u8], at: usize, up: bool, b: u8) -> Before
+fn signs(line: &[u8], at: usize, up: bool, b: u8) -> Read<Option<Accidental>>
     ensures { result ≡ before_for at (written.signs up (count_while (λ c. eqb c b) (drop at line.now)) (drop at line.now)) }
 {
     let end = text_runs::run_end(line, at, b);
     let n = end - at;
     if n == 1 && text_bytes::byte_at(line, end) == b'/' {
-        return Before {
-            sign: quarter_tone(up),
+        return Read {
+            value: Some(quarter_tone(up)),
             next: end + 1,
         };
     }
-    Before {
-        sign: Sign::Written {
+    Read {
+        value: Some(Accidental {
             alter: moved(up, n, 128),
             cents: 128,
-        },
+        }),
         next: end,
     }
 }
 
 // The accidental before a single note: a run of `^`, a run of `_`, or one `=` (000, append_abc_pitched_note).
-pub fn accidental_before(line: &[u8], at: usize) -> Before
+pub fn accidental_before(line: &[u8], at: usize) -> Read<Option<Accidental>>
     ensures { result ≡ before_for at (written.accidental_of (drop at line.now)) }
 {
     let first = text_bytes::byte_at(line, at);
@@ -143,124 +103,131 @@ pub fn accidental_before(line: &[u8], at: usize) -> Before
         return signs(line, at, false, b'_');
     }
     if first == b'=' {
-        return Before {
-            sign: Sign::Written {
+        return Read {
+            value: Some(Accidental {
                 alter: 128,
                 cents: 128,
-            },
+            }),
             next: at + 1,
         };
     }
-    Before {
-        sign: Sign::Nothing,
+    Read {
+        value: None,
         next: at,
     }
 }
 
-// Commas, then apostrophes, from the octave `start` on. No byte above the comma is a mark: most letters have none.
-pub fn octave_marks(line: &[u8], at: usize, start: u8) -> Octave
+// The octave by commas, then apostrophes, from the octave `start` on; or refusal 12 for marks that leave −128 to 127. No byte above the comma is a mark: most letters have none.
+pub fn octave_marks(line: &[u8], at: usize, start: u8) -> Result<Read<u8>, Refusal>
     ensures { result ≡ octave_for at (written.octave_from start (drop at line.now)) }
 {
     if b',' < text_bytes::byte_at(line, at) {
-        return Octave::At {
-            octave: start,
+        return Ok(Read {
+            value: start,
             next: at,
-        };
+        });
     }
     let down = text_runs::run_end(line, at, b',');
     let up = text_runs::run_end(line, down, b'\'');
     let first = start as usize;
     if first < down - at {
-        return Octave::Out;
+        return Err(Refusal::Octave);
     }
     let low = first - (down - at);
     if 255 - low < up - down {
-        return Octave::Out;
+        return Err(Refusal::Octave);
     }
-    Octave::At {
-        octave: (low + (up - down)) as u8,
+    Ok(Read {
+        value: (low + (up - down)) as u8,
         next: up,
-    }
+    })
 }
 
 // A sign `^` or `_` at `at` in a chord, where an accidental waits: signs add up, and one with nothing before it and a slash behind it is a quarter tone.
-fn chord_sign(line: &[u8], at: usize, up: bool, waits: Sign) -> Before
+fn chord_sign(
+    line: &[u8],
+    at: usize,
+    up: bool,
+    waits: Option<Accidental>,
+) -> Read<Option<Accidental>>
     requires { at < length line.now }
     ensures { result ≡ before_for at (sign_in up (sign_of waits) (drop (at + 1) line.now)) }
 {
     match waits {
-        Sign::Nothing => {
+        None => {
             if text_bytes::byte_at(line, at + 1) == b'/' {
-                return Before {
-                    sign: quarter_tone(up),
+                return Read {
+                    value: Some(quarter_tone(up)),
                     next: at + 2,
                 };
             }
-            Before {
-                sign: Sign::Written {
+            Read {
+                value: Some(Accidental {
                     alter: moved(up, 1, 128),
                     cents: 128,
-                },
+                }),
                 next: at + 1,
             }
         }
-        Sign::Written { alter, cents: _ } => Before {
-            sign: Sign::Written {
-                alter: moved(up, 1, alter),
+        Some(waiting) => Read {
+            value: Some(Accidental {
+                alter: moved(up, 1, waiting.alter),
                 cents: 128,
-            },
+            }),
             next: at + 1,
         },
     }
 }
 
 // The letter at `at` with its octave marks.
-fn chord_letter(line: &[u8], at: usize, waits: Sign) -> Met
+fn chord_letter(
+    line: &[u8],
+    at: usize,
+    waits: Option<Accidental>,
+) -> Result<Option<Read<Pitch>>, Refusal>
     requires { at < length line.now }
     ensures { result ≡ met_for at (letter_met (get_or line.now at 0) (sign_of waits) (written.octave_of (get_or line.now at 0) (drop (at + 1) line.now))) }
 {
     let letter = abc_note_char(line[at]);
-    let Octave::At { octave, next } = octave_marks(line, at + 1, letter.octave) else {
-        return Met::Out;
-    };
-    Met::Pitch {
-        pitch: Pitch {
+    let octave = octave_marks(line, at + 1, letter.octave)?;
+    Ok(Some(Read {
+        value: Pitch {
             step: letter.step,
-            octave,
+            octave: octave.value,
             sign: waits,
         },
-        next,
-    }
+        next: octave.next,
+    }))
 }
 
-// The next pitch of a chord from `at` on, behind its `[` or behind the pitch before: the loop of 000's parse_abc_chord up to where it keeps a pitch.
-pub fn next_chord_pitch(line: &[u8], at: usize) -> Met
+// The next pitch of a chord from `at` on, behind its `[` or behind the pitch before; none at the chord's end; or refusal 12. The loop of 000's parse_abc_chord up to where it keeps a pitch.
+pub fn next_chord_pitch(line: &[u8], at: usize) -> Result<Option<Read<Pitch>>, Refusal>
     ensures { result ≡ met_for at (pitch_met 0 none (drop at line.now)) }
 {
-    let mut waits = Sign::Nothing;
+    let mut waits = None;
     let mut i = at;
     while i < line.len() {
         let c = line[i];
         if c == b']' {
-            return Met::Over;
+            return Ok(None);
         }
         if c == b'^' {
             let sign = chord_sign(line, i, true, waits);
-            waits = sign.sign;
+            waits = sign.value;
             i = sign.next;
             continue;
         }
         if c == b'_' {
             let sign = chord_sign(line, i, false, waits);
-            waits = sign.sign;
+            waits = sign.value;
             i = sign.next;
             continue;
         }
         if c == b'=' {
-            waits = Sign::Written {
+            waits = Some(Accidental {
                 alter: 128,
                 cents: 128,
-            };
+            });
             i += 1;
             continue;
         }
@@ -269,33 +236,24 @@ pub fn next_chord_pitch(line: &[u8], at: usize) -> Met
         }
         i += 1;
     }
-    Met::Over
+    Ok(None)
 }
 
-// The chord whose `[` stands before `at`, and whose `]`, or the line's end, is at `close`.
-pub fn parse_abc_chord(line: &[u8], at: usize, close: usize) -> Chord
+// How many pitches the chord has whose `[` stands before `at`, and whose `]`, or the line's end, is at `close`, and the position after its bracket; or refusal 12. The pitches are read again, one by one, by `next_chord_pitch`.
+pub fn parse_abc_chord(line: &[u8], at: usize, close: usize) -> Result<Read<usize>, Refusal>
     requires { close ≤ length line.now }
     ensures { result ≡ chord_for (closed_at line.now close) (written.chord_of 0 none (drop at line.now)) }
 {
     let mut count: usize = 0;
     let mut i = at;
-    while i < line.len() {
-        match next_chord_pitch(line, i) {
-            Met::Over => return Chord::Read {
-                count,
-                next: past(line, close),
-            },
-            Met::Out => return Chord::Refused,
-            Met::Pitch { pitch: _, next } => {
-                count += 1;
-                i = next;
-            }
-        }
+    while let Some(pitch) = next_chord_pitch(line, i)? {
+        count += 1;
+        i = pitch.next;
     }
-    Chord::Read {
-        count,
+    Ok(Read {
+        value: count,
         next: past(line, close),
-    }
+    })
 }
 
 // The position after a closing byte, or the line's end.

@@ -1,37 +1,35 @@
 -- `token_pitches::parse_abc_chord` meets its contract. The loop's invariant is `Counting`; the measure is what is left of the line.
-use Prim.Native.Nat.{◌+◌, ◌<◌}
-use mathlib.Core.Path.{sym, ◌∙◌}
+use mathlib.Core.Path.{◌≡◌, sym, ap, ◌∙◌}
 use mathlib.Core.Option.{none}
 use native.Mathlib.Omega.{arith}
-use Rattle.token_pitches.proofs.Walk.{Counting, counting_start, counting_over, counting_out, counting_one, met_end}
+use lib.ListN.{drop}
+use Rattle.std.proofs.lemmas.Result.{err_from_is_err_and}
+use Rattle.std.specs.Prelude.{Ok}
+use Rattle.token_pitches.specs.Chords.{pitch_met, met_for, met_pitch}
+use Rattle.token_pitches.proofs.Walk.{counting_start, counting_over, counting_out, counting_one, counting_within}
 use Rattle.token_pitches.proofs.parse_abc_chord.Goals as goal
 
-pub loop-i-init : goal.loop-i-init
-loop-i-init c = counting_start _ _
+pub loop-pitch-init : goal.loop-pitch-init
+loop-pitch-init c = counting_start _ _
 
-pub returns-in-Over : goal.returns-in-Over
-returns-in-Over c =
-    rw c.past.ensures
-    (counting_over _ _ _ _ c.loop-i.invariant _ (sym c.next_chord_pitch.ensures ∙ c.in-Over.is))
-
-pub returns-in-Out : goal.returns-in-Out
-returns-in-Out c =
-    counting_out _ _ _ _ c.loop-i.invariant _ (sym c.next_chord_pitch.ensures ∙ c.in-Out.is)
+pub returns-in_err-pitch : goal.returns-in_err-pitch
+returns-in_err-pitch c =
+    let p = err_from_is_err_and c.from_residual.result c.from_residual.ensures.1 in
+    rw (p.1, p.2) (counting_out _ _ _ _ c.loop-pitch.invariant _ _ (sym c.next_chord_pitch.ensures ∙ c.in_err-pitch.was))
 
 pub overflow_add-count : goal.overflow_add-count
-overflow_add-count c = omega (arith, c.loop-i.invariant.few)
+overflow_add-count c =
+    let met : met_for c.loop-pitch.i (pitch_met 0 none (drop c.loop-pitch.i c.args.line.now)) ≡ met_pitch c.in-Some.pitch.value c.in-Some.pitch.next = sym c.next_chord_pitch.ensures ∙ c.in_ok-pitch.was ∙ ap Ok c.in-Some.is in
+    record { fits = omega (arith, c.loop-pitch.invariant.few, counting_within _ _ _ _ c.loop-pitch.invariant _ _ met) }
 
-pub loop-i-smaller : goal.loop-i-smaller
-loop-i-smaller c =
-    let one : (c.loop-i.i < c.in-Pitch.next) × Counting c.args.line.now c.args.at (c.loop-i.count + 1) c.in-Pitch.next = counting_one _ _ _ _ c.loop-i.invariant _ _ (sym c.next_chord_pitch.ensures ∙ c.in-Pitch.is) in
-    omega (arith, one.0)
+pub loop-pitch-smaller : goal.loop-pitch-smaller
+loop-pitch-smaller c =
+    let met : met_for c.loop-pitch.i (pitch_met 0 none (drop c.loop-pitch.i c.args.line.now)) ≡ met_pitch c.in-Some.pitch.value c.in-Some.pitch.next = sym c.next_chord_pitch.ensures ∙ c.in_ok-pitch.was ∙ ap Ok c.in-Some.is in
+    omega (arith, (counting_one _ _ _ _ c.loop-pitch.invariant _ _ met).0, counting_within _ _ _ _ c.loop-pitch.invariant _ _ met)
 
-pub loop-i-preserved : goal.loop-i-preserved
-loop-i-preserved c =
-    let one : (c.loop-i.i < c.in-Pitch.next) × Counting c.args.line.now c.args.at (c.loop-i.count + 1) c.in-Pitch.next = counting_one _ _ _ _ c.loop-i.invariant _ _ (sym c.next_chord_pitch.ensures ∙ c.in-Pitch.is) in
-    one.1
+pub loop-pitch-preserved : goal.loop-pitch-preserved
+loop-pitch-preserved c = (counting_one _ _ _ _ c.loop-pitch.invariant _ _ (sym c.next_chord_pitch.ensures ∙ c.in_ok-pitch.was ∙ ap Ok c.in-Some.is)).1
 
 pub returns : goal.returns
 returns c =
-    let a = c.args in
-    rw c.past-2.ensures (counting_over _ _ _ _ c.loop-i.invariant _ (met_end a.line.now c.loop-i.i none c.loop-i-test.false))
+    rw c.past.ensures (counting_over _ _ _ _ c.loop-pitch.invariant _ (sym c.next_chord_pitch.ensures ∙ c.in_ok-pitch.was ∙ ap Ok c.in_default.is))

@@ -4,8 +4,8 @@ use lib.ListN.{length}
 use Rattle.token_pitches.proofs.Walk.{Counting}
 use Rattle.token_pitches.proofs.parse_abc_chord.Given as goal
 
-abbrev pub invariant-loop-i : goal.invariant-loop-i
-invariant-loop-i l = Counting l.line l.at l.count l.i
+abbrev pub invariant-loop-pitch : goal.invariant-loop-pitch
+invariant-loop-pitch l = Counting l.line l.at l.count l.i
 
-abbrev pub decreases-loop-i : goal.decreases-loop-i
-decreases-loop-i l = length l.line - l.i
+abbrev pub decreases-loop-pitch : goal.decreases-loop-pitch
+decreases-loop-pitch l = length l.line - l.i
