@@ -1,8 +1,9 @@
 -- The loop of `note_annotations`: what was met so far, and what stands from here on, are what stands from the start on.
-use Prim.Native.Nat.{ℕ, suc, ◌+◌, ◌≤◌, ◌<◌}
+use Prim.Native.Nat.{ℕ, suc, max, ◌+◌, ◌≤◌, ◌<◌}
 use mathlib.Core.Path.{◌≡◌, refl, sym, ◌∙◌}
 use mathlib.Core.Bool.{Bool, true, false, ◌||◌}
 use mathlib.Core.List.{List}
+use native.Mathlib.Decide.{dec_lt}
 use native.Mathlib.Omega.{arith}
 use lib.ListN.{length, get_or, drop, drop_of_length-le}
 use borrow.Author.Tests.{ne_eqb}
@@ -73,6 +74,10 @@ module _ (line : List ℕ) (at : ℕ) (tie slur : Bool) (i : ℕ) (r : Marking l
   pub marking_other : i < length line → (get_or line i 0 ≡ 45 → ⊥) → (get_or line i 0 ≡ 41 → ⊥) → record { tie = tie; slur = slur; next = i } ≡ behind_for at (behind (drop at line))
   marking_other h m n = marking_over (behind_other line i h m n)
 
-  -- the line's end
-  pub marking_end : length line ≤ i → record { tie = tie; slur = slur; next = i } ≡ behind_for at (behind (drop at line))
-  marking_end h = marking_over (behind_end line i h)
+  -- the line's end, or a position past it
+  pub marking_end : length line ≤ i → (at ≤ length line → i ≤ length line) → record { tie = tie; slur = slur; next = max at (length line) } ≡ behind_for at (behind (drop at line))
+  marking_end h k = rw (last (dec_lt (length line) at)) (marking_over (behind_end line i h))
+    where
+      last : Dec (length line < at) → max at (length line) ≡ i
+      last (yes l) = omega (arith, rw (behind_end line i h, behind_end line at (omega arith)) at r.ends)
+      last (no l) = omega (arith, k (omega arith))

@@ -1,1 +1,2 @@
 mod Behinds
+mod Ends
