@@ -1,8 +1,11 @@
 -- The voices and the line table as functions of scratch's bytes and the text's.
-use Rattle.std.specs.Prelude.{ℕ, ◌+◌, ◌*◌, ◌≤◌, ◌≡◌, cond, List, [], ◌∷◌, ◌++◌, map, eqb, length, get_or}
+use Rattle.std.specs.Prelude.{ℕ, ◌+◌, ◌*◌, ◌≤◌, ◌<◌, ◌≡◌, cond, List, [], ◌∷◌, ◌++◌, map, eqb, length, get_or, Option, Some, None}
+use Rattle.laws.specs.Lists.{index_of}
 use Rattle.laws.specs.Bytes.{part, between, splice, le32, u32_at, rows}
 use Rattle.reader.specs.Scan.{Item, voice_declared, reset, key_in_header, key_change, meter_change, lyric_line, music_line, Items}
 use Rattle.bounds.specs.Weights as bounds
+use Rattle.scan_table.specs.declared.Kind.{Kind}
+use Rattle.scan_table.specs.declared.Kind.TheVariants as K
 use Rattle.scan_table.specs.declared.Place.{Place}
 use Rattle.scan_table.specs.declared.Row.{Row}
 
@@ -52,27 +55,28 @@ end_at = 8
 abbrev pub unit_at : ℕ
 unit_at = 12
 
--- THE KINDS OF ITEMS
-abbrev pub voice_declared_kind : ℕ
-voice_declared_kind = 0
+-- THE KINDS OF ITEMS and their bytes; a byte past the last is read as a music line's
+abbrev pub byte_of : Kind → ℕ
+byte_of K.VoiceDeclared = 0
+byte_of K.Reset = 1
+byte_of K.KeyInHeader = 2
+byte_of K.KeyChange = 3
+byte_of K.MeterChange = 4
+byte_of K.LyricLine = 5
+byte_of K.MusicLine = 6
 
-abbrev pub reset_kind : ℕ
-reset_kind = 1
+abbrev pub kind_of : ℕ → Kind
+kind_of b =
+    cond (eqb b 0) K.VoiceDeclared
+    (cond (eqb b 1) K.Reset
+    (cond (eqb b 2) K.KeyInHeader
+    (cond (eqb b 3) K.KeyChange
+    (cond (eqb b 4) K.MeterChange
+    (cond (eqb b 5) K.LyricLine K.MusicLine)))))
 
-abbrev pub key_in_header_kind : ℕ
-key_in_header_kind = 2
-
-abbrev pub key_change_kind : ℕ
-key_change_kind = 3
-
-abbrev pub meter_change_kind : ℕ
-meter_change_kind = 4
-
-abbrev pub lyric_line_kind : ℕ
-lyric_line_kind = 5
-
-abbrev pub music_line_kind : ℕ
-music_line_kind = 6
+-- an item of a part that has no more than its kind
+abbrev pub plain_row : Kind → ℕ → Row
+plain_row k p = record { kind = k; part = p; a = 0; b = 0; at = 0; end = 0; unit = 0 }
 
 -- VOICES
 unfoldable pub dec_voice : List ℕ → Place
@@ -89,25 +93,24 @@ voices_in text s n = map (voice_in text) (rows dec_voice voice_row_width s 0 n)
 -- ITEMS
 unfoldable pub dec_item : List ℕ → Row
 dec_item bs =
-    record { kind = get_or bs kind_at 0; part = get_or bs part_at 0; a = get_or bs a_at 0; b = get_or bs b_at 0; at = u32_at bs start_at; end = u32_at bs end_at; unit = u32_at bs unit_at }
+    record { kind = kind_of (get_or bs kind_at 0); part = get_or bs part_at 0; a = get_or bs a_at 0; b = get_or bs b_at 0; at = u32_at bs start_at; end = u32_at bs end_at; unit = u32_at bs unit_at }
 
 unfoldable pub enc_item : Row → List ℕ
-enc_item r = (r.kind ∷ r.part ∷ r.a ∷ r.b ∷ []) ++ le32 r.at ++ le32 r.end ++ le32 r.unit
+enc_item r = (byte_of r.kind ∷ r.part ∷ r.a ∷ r.b ∷ []) ++ le32 r.at ++ le32 r.end ++ le32 r.unit
 
 -- item i
 abbrev pub item_at : List ℕ → ℕ → Row
 item_at s i = dec_item (part s (row_from i) item_row_width)
 
--- an item by its kind; a kind past the last is read as a music line's
-unfoldable pub item_as : ℕ → List ℕ → Row → Item
-item_as k text r =
-    cond (eqb k voice_declared_kind) (voice_declared (eqb r.a 1))
-    (cond (eqb k reset_kind) reset
-    (cond (eqb k key_in_header_kind) key_in_header
-    (cond (eqb k key_change_kind) (key_change (record { fifths = r.a; minor = eqb r.b 1 }))
-    (cond (eqb k meter_change_kind) (meter_change (r.a, r.b))
-    (cond (eqb k lyric_line_kind) (lyric_line (eqb r.a 1) (between text r.at r.end))
-    (music_line r.unit (r.a, r.b) (between text r.at r.end)))))))
+-- an item by its kind
+unfoldable pub item_as : Kind → List ℕ → Row → Item
+item_as K.VoiceDeclared text r = voice_declared (eqb r.a 1)
+item_as K.Reset text r = reset
+item_as K.KeyInHeader text r = key_in_header
+item_as K.KeyChange text r = key_change (record { fifths = r.a; minor = eqb r.b 1 })
+item_as K.MeterChange text r = meter_change (r.a, r.b)
+item_as K.LyricLine text r = lyric_line (eqb r.a 1) (between text r.at r.end)
+item_as K.MusicLine text r = music_line r.unit (r.a, r.b) (between text r.at r.end)
 
 -- a row as the definition's item, with the number of its part
 unfoldable pub item_in : List ℕ → Row → ℕ × Item
@@ -132,11 +135,10 @@ pub record Cut (n at end : ℕ) (r : Place) : Type 0 where
   pub high : r.end ≤ n
   pub same : (t : List ℕ) → length t ≡ n → between t r.at r.end ≡ between t at end
 
--- r is the place of a row, in the text
-pub record PlaceIs (text : List ℕ) (p r : Place) : Type 0 where
-  pub order : r.at ≤ r.end
-  pub high : r.end ≤ length text
-  pub same : voice_in text r ≡ voice_in text p
+-- the first voice with this identifier was found, if there is one
+abbrev pub FoundVoice : List ℕ → List (List ℕ) → Option ℕ → Type 0
+FoundVoice v vs (Some i) = (i < length vs) × (i ≡ index_of v vs)
+FoundVoice v vs None = index_of v vs ≡ length vs
 
 -- r is a row, its place in the text
 pub record RowIs (text : List ℕ) (q r : Row) : Type 0 where

@@ -2,9 +2,8 @@
 #![tactic(auto)]
 
 ghost use Rattle.std.specs.Prelude.{◌≡◌, ◌++◌, ◌+◌, ◌*◌, ◌^◌, ◌≤◌, ◌<◌, length};
-ghost use Rattle.laws.specs.Lists.{index_of};
-ghost use Rattle.laws.specs.Bytes.{part, between, splice, le32};
-ghost use Rattle.scan_table.specs.Rows.{voice_row_width, item_row_width, row_from, dec_voice, voices_in, item_at, enc_item, with_lyric, Cut, PlaceIs, RowIs};
+ghost use Rattle.laws.specs.Bytes.{part, splice, le32};
+ghost use Rattle.scan_table.specs.Rows.{voice_row_width, item_row_width, row_from, byte_of, kind_of, plain_row, dec_voice, voice_in, voices_in, FoundVoice, item_at, enc_item, with_lyric, Cut, RowIs};
 
 // Where the items begin, behind the rows of 32 voices; the bytes of an item's row and of a voice's.
 pub const ITEMS: usize = 256;
@@ -28,23 +27,54 @@ const END: usize = 8;
 
 const UNIT: usize = 12;
 
-// The kinds of items.
-pub const VOICE_DECLARED: u8 = 0;
+// The kinds of items, in the order of their bytes.
+#[derive(Clone, Copy, Debug, PartialEq, Eq)]
+pub enum Kind {
+    VoiceDeclared,
+    Reset,
+    KeyInHeader,
+    KeyChange,
+    MeterChange,
+    LyricLine,
+    MusicLine,
+}
 
-pub const RESET: u8 = 1;
+// The byte of a kind.
+impl From<Kind> for u8 {
+    ghost from_gives = { λ kind byte. byte ≡ byte_of kind };
 
-pub const KEY_IN_HEADER: u8 = 2;
+    fn from(kind: Kind) -> u8 {
+        match kind {
+            Kind::VoiceDeclared => 0,
+            Kind::Reset => 1,
+            Kind::KeyInHeader => 2,
+            Kind::KeyChange => 3,
+            Kind::MeterChange => 4,
+            Kind::LyricLine => 5,
+            Kind::MusicLine => 6,
+        }
+    }
+}
 
-pub const KEY_CHANGE: u8 = 3;
+// The kind of a byte: one past the last is read as a music line's.
+impl From<u8> for Kind {
+    ghost from_gives = { λ byte kind. kind ≡ kind_of byte };
 
-pub const METER_CHANGE: u8 = 4;
-
-pub const LYRIC_LINE: u8 = 5;
-
-pub const MUSIC_LINE: u8 = 6;
+    fn from(byte: u8) -> Kind {
+        match byte {
+            0 => Kind::VoiceDeclared,
+            1 => Kind::Reset,
+            2 => Kind::KeyInHeader,
+            3 => Kind::KeyChange,
+            4 => Kind::MeterChange,
+            5 => Kind::LyricLine,
+            _ => Kind::MusicLine,
+        }
+    }
+}
 
 // A part of the text, from `at` up to `end`.
-#[derive(Clone, Copy)]
+#[derive(Clone, Copy, Debug, PartialEq, Eq)]
 pub struct Place {
     pub at: usize,
     pub end: usize,
@@ -54,9 +84,9 @@ pub struct Place {
 //   a voice declared: a = 1 in the header;  a key change: a fifths, b = 1 minor;  a meter change: a top, b bottom
 //   a lyric line: a = 1 placed, at and end its words; once its part was read, b its verse and unit its first note
 //   a music line: unit, a top and b bottom where it begins, at and end the line;  a reset, the header's key: nothing
-#[derive(Clone, Copy)]
+#[derive(Clone, Copy, Debug, PartialEq, Eq)]
 pub struct Row {
-    pub kind: u8,
+    pub kind: Kind,
     pub part: u8,
     pub a: u8,
     pub b: u8,
@@ -65,32 +95,46 @@ pub struct Row {
     pub unit: u32,
 }
 
+impl Row {
+    // An item of a part that has no more than its kind.
+    pub fn of(kind: Kind, part: u8) -> Row
+        ensures { result ≡ plain_row kind part }
+    {
+        Row {
+            kind,
+            part,
+            a: 0,
+            b: 0,
+            at: 0,
+            end: 0,
+            unit: 0,
+        }
+    }
+}
+
 // The place from `at` up to `end` in a text of `len` bytes: what reaches past the text is cut off.
-fn cut_place(len: usize, at: usize, end: usize) -> Place
+pub fn cut_place(len: usize, at: usize, end: usize) -> Place
     ensures { Cut len at end result }
 {
-    if end <= at {
-        return Place { at: 0, end: 0 };
+    let end = end.min(len);
+    if at < end {
+        Place { at, end }
+    } else {
+        Place { at: 0, end: 0 }
     }
-    if len <= at {
-        return Place { at: 0, end: 0 };
-    }
-    if len < end {
-        return Place { at, end: len };
-    }
-    Place { at, end }
 }
 
 // VOICES
 
 // The identifier of voice i.
-pub fn get_voice(text: &[u8], scratch: &[u8], i: usize) -> Place
+fn get_voice<'t>(text: &'t [u8], scratch: &[u8], i: usize) -> &'t [u8]
     requires { voice_row_width * i + voice_row_width ≤ length scratch.now }
-    ensures { PlaceIs text.now (dec_voice (part scratch.now (voice_row_width * i) voice_row_width)) result }
+    ensures { result.now ≡ voice_in text.now (dec_voice (part scratch.now (voice_row_width * i) voice_row_width)) }
 {
     let at = store::get_u32(scratch, VOICE * i) as usize;
     let end = store::get_u32(scratch, VOICE * i + VOICE_END) as usize;
-    cut_place(text.len(), at, end)
+    let place = cut_place(text.len(), at, end);
+    &text[place.at..place.end]
 }
 
 // The identifier of voice n, one more: the bytes from `a` up to `b`.
@@ -102,22 +146,17 @@ pub fn push_voice(scratch: &mut [u8], n: usize, a: usize, b: usize)
     store::put_u32(scratch, VOICE * n + VOICE_END, b as u32);
 }
 
-// Which of the n voices has the bytes from `a` up to `b` as its identifier; n if none has.
-pub fn find_voice(text: &[u8], scratch: &[u8], n: usize, a: usize, b: usize) -> usize
-    requires { (voice_row_width * n ≤ length scratch.now) × (a ≤ b) × (b ≤ length text.now) }
-    ensures { result ≡ index_of (between text.now a b) (voices_in text.now scratch.now n) }
+// The first of the n voices that has these bytes as its identifier.
+pub fn find_voice(text: &[u8], scratch: &[u8], n: usize, id: &[u8]) -> Option<usize>
+    requires { voice_row_width * n ≤ length scratch.now }
+    ensures { FoundVoice id.now (voices_in text.now scratch.now n) result }
 {
-    let mut i: usize = 0;
-    while i < n {
-        let p = get_voice(text, scratch, i);
-        let at = p.at;
-        let end = p.end;
-        if text_names::is_text(text, at, end, &text[a..b]) {
-            return i;
+    for i in 0..n {
+        if get_voice(text, scratch, i) == id {
+            return Some(i);
         }
-        i += 1;
     }
-    i
+    None
 }
 
 // ITEMS
@@ -132,7 +171,7 @@ pub fn get_item(text: &[u8], scratch: &[u8], i: usize) -> Row
     let end = store::get_u32(scratch, from + END) as usize;
     let p = cut_place(text.len(), at, end);
     Row {
-        kind: scratch[from],
+        kind: Kind::from(scratch[from]),
         part: scratch[from + PART],
         a: scratch[from + A],
         b: scratch[from + B],
@@ -156,7 +195,7 @@ pub fn put_item(scratch: &mut [u8], i: usize, r: Row)
     ensures { scratch.new ≡ splice scratch.old (row_from i) (enc_item r) }
 {
     let from = ITEMS + ITEM * i;
-    store::put_4(scratch, from, r.kind, r.part, r.a, r.b);
+    store::put_4(scratch, from, u8::from(r.kind), r.part, r.a, r.b);
     store::put_u32(scratch, from + AT, r.at as u32);
     store::put_u32(scratch, from + END, r.end as u32);
     store::put_u32(scratch, from + UNIT, r.unit);

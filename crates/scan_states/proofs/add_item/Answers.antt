@@ -1,5 +1,4 @@
 -- `scan_states::add_item` meets its contract: the row is written behind the others, and neither the voices nor those are disturbed.
-use native.Mathlib.Numerals.{add-one}
 use Rattle.scan_states.proofs.Items.{added}
 use borrow.Author.Rules.{rules}
 use Rattle.scan_states.proofs.add_item.Goals as goal
@@ -9,6 +8,6 @@ returns c =
     let a = c.args in
     let s = a.scratch.now in
     record {
-      value = rw (add-one a.st.lines);
-      by_index = λ text. rw (add-one a.st.lines) (added text s _ a.st a.row c.put_item.ensures (search rules) (search rules) (search rules) (search rules) (search rules));
+      state = rw c.next_line.ensures;
+      items = λ text. rw c.next_line.ensures (added text s _ a.st a.row c.put_item.ensures (search rules) (search rules) (search rules) (search rules) (search rules));
     }

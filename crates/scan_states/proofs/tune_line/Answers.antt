@@ -8,7 +8,7 @@ use Rattle.scan_states.proofs.tune_line.Goals as goal
 pub returns-then-st : goal.returns-then-st
 unfolding act
 returns-then-st c =
-    λ text s. rw (c.next_line-r.ensures, c.if-st.true) (record { is = stays _ _; follows = (refl, (omega arith, (omega arith, omega arith))) })
+    λ text s. rw (c.next_line.ensures, c.if-st.true) (record { is = stays _ _; follows = (refl, (omega arith, (omega arith, omega arith))) })
 
 pub returns : goal.returns
 unfolding act

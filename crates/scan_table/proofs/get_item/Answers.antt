@@ -7,5 +7,5 @@ use Rattle.scan_table.proofs.get_item.Goals as goal
 pub returns : goal.returns
 returns c =
     let a = c.args in
-    row_read a.text.now a.scratch.now (row_from a.i) _ refl refl refl refl c.get_u32.ensures
+    row_read a.text.now a.scratch.now (row_from a.i) _ c.from.ensures refl refl refl c.get_u32.ensures
     (rw (← c.get_u32-at.ensures, ← c.get_u32-end.ensures) c.cut_place-p.ensures)

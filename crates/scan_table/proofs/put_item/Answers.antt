@@ -8,6 +8,7 @@ use Rattle.scan_table.proofs.put_item.Goals as goal
 pub returns : goal.returns
 unfolding enc_item little
 returns c =
+    rw (← c.from.ensures) (
     let e2 = spliced_next _ _ _ _ _ _ _ c.put_4.ensures c.put_u32.ensures refl in
     let e3 = spliced_next _ _ _ _ _ _ _ e2 c.put_u32-2.ensures refl in
-    spliced_next _ _ _ _ _ _ _ e3 c.put_u32-3.ensures refl
+    spliced_next _ _ _ _ _ _ _ e3 c.put_u32-3.ensures refl)
