@@ -1,26 +1,18 @@
--- `store::copy` meets its contract: so far i bytes are copied.
-use mathlib.Core.Path.{◌≡◌, ap, ◌∙◌}
-use Prim.Native.Nat.{ℕ}
+-- `store::copy` meets its contract: the part is what was copied, and stands in its place.
+use Prim.Native.Nat.{ℕ, ◌+◌, ◌-◌}
+use mathlib.Core.Path.{◌≡◌, ◌∙◌, ap}
 use native.Mathlib.Omega.{arith}
-use borrow.Author.Rules.{rules}
+use lib.ListN.{length, take, drop, length-take, length-drop}
 use Rattle.laws.specs.Bytes.{splice, part}
-use Rattle.laws.proofs.Splices.{length_spliced, copy_none, copy_more}
+use Rattle.laws.proofs.Splices.{lent_whole}
 use Rattle.store.proofs.copy.Goals as goal
 
-pub loop-i-init : goal.loop-i-init
-loop-i-init c = (search rules, copy_none _ _ _ _)
-
-pub bounds-dst-at : goal.bounds-dst-at
-bounds-dst-at c = omega (arith, length_spliced _ _ _ _ c.loop-i.invariant.1)
-
-pub loop-i-preserved : goal.loop-i-preserved
-loop-i-preserved c = (search rules, copy_more _ _ _ _ _ _ c.loop-i.invariant.1 (omega arith))
-
-pub shape_of-dst : goal.shape_of-dst
-shape_of-dst c = length_spliced _ _ _ _ c.loop-i.invariant.1
-
 pub returns : goal.returns
+unfolding part
 returns c =
     let a = c.args in
-    let e : c.loop-i.i ≡ a.n = omega arith in
-    c.loop-i.invariant.1 ∙ ap (λ (k : ℕ). splice a.dst.now a.at (part a.src.now a.from k)) e
+    let p = c.requires in
+    let e : a.at + a.n - a.at ≡ a.n = omega arith in
+    let f : a.from + a.n - a.from ≡ a.n = omega arith in
+    let k : length c.copy_from_slice.new.self ≡ a.n = rw (c.copy_from_slice.ensures.len, e) (simp (length-take, length-drop) (omega arith)) in
+    rw e (lent_whole a.dst.now a.at a.n c.copy_from_slice.new.self k p.target) ∙ ap (splice a.dst.now a.at) (c.copy_from_slice.ensures.after ∙ ap (λ (m : ℕ). take m (drop a.from a.src.now)) f)

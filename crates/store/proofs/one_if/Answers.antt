@@ -1,9 +1,0 @@
--- `store::one_if` meets its contract.
-use native.Mathlib.Omega.{arith}
-use Rattle.store.proofs.one_if.Goals as goal
-
-pub returns-then-b : goal.returns-then-b
-returns-then-b c = (rw c.if-b.true, omega arith)
-
-pub returns-else-b : goal.returns-else-b
-returns-else-b c = (rw c.if-b.false, omega arith)
