@@ -17,37 +17,39 @@ use Rattle.standard.specs.Bytes.{is_digit, first, digits}
 use Rattle.editions.specs.declared.Edition.{Edition}
 use Rattle.editions.specs.declared.Edition.TheVariants.{First, Second}
 use Rattle.reader.specs.Tuplets.{not_zero, positive, normal_for, tuplet_token, counted, with_count, with_normal, with_actual, tuplet_of, part_or}
-use Rattle.text_numbers.specs.declared.Digits.{Digits}
-use Rattle.text_numbers.specs.declared.Digits.TheVariants as digit
-use Rattle.text_numbers.specs.Digits.{written, option}
+use Rattle.std.specs.Prelude as code
+use Rattle.std.specs.Prelude.{Result, Ok, Err}
+use Rattle.std.specs.Result.{result_ok}
+use Rattle.text_bytes.specs.declared.Read.{Read}
+use Rattle.text_bytes.specs.Options.{option}
+use Rattle.text_numbers.specs.declared.NumberError.{NumberError}
+use Rattle.text_numbers.specs.Digits.{written}
 use Rattle.text_numbers.proofs.Numbers.{option_run}
 use Rattle.reader.proofs.Digits.{digits_le}
-use Rattle.token_symbols.specs.Tuplets.{number_for, tuplet_in, tuplet_for}
-use Rattle.token_symbols.specs.declared.Number.TheVariants as number
-use Rattle.token_symbols.specs.declared.Tuplet.TheVariants.{Read, Nothing}
+use Rattle.token_symbols.specs.Tuplets.{number_for, tuplet_read, tuplet_in, tuplet_for}
 
 -- NUMBERS
 -- of the digits at the front
-module _ (top : ℕ) (s : List ℕ) (d : Digits) (e : written top (run is_digit s) ≡ d) where
-  positive_by : positive top s ≡ not_zero (option d)
+module _ (top : ℕ) (s : List ℕ) (d : Result ℕ NumberError) (e : written top (run is_digit s) ≡ d) where
+  positive_by : positive top s ≡ not_zero (option (result_ok d))
   unfolding positive
-  positive_by = ap not_zero (sym (option_run top s) ∙ ap option e)
+  positive_by = ap not_zero (sym (option_run top s) ∙ ap (λ x. option (result_ok x)) e)
 
-  pub no_digits : d ≡ digit.Nothing → positive top s ≡ none
+  pub no_value : ((v : ℕ) → d ≡ Ok v → ⊥) → positive top s ≡ none
   unfolding not_zero
-  no_digits k = positive_by ∙ ap (λ x. not_zero (option x)) k
+  no_value n = positive_by ∙ go d n
+    where
+      go : (x : Result ℕ NumberError) → ((v : ℕ) → x ≡ Ok v → ⊥) → not_zero (option (result_ok x)) ≡ none
+      go (Ok v) k = absurd (k v refl)
+      go (Err x) k = refl
 
-  pub past_top : d ≡ digit.Past → positive top s ≡ none
+  pub is_zero : (v : ℕ) → d ≡ Ok v → v ≡ 0 → positive top s ≡ none
   unfolding not_zero
-  past_top k = positive_by ∙ ap (λ x. not_zero (option x)) k
+  is_zero v k z = positive_by ∙ ap (λ x. not_zero (option (result_ok x))) k ∙ rw z
 
-  pub is_zero : (v : ℕ) → d ≡ digit.Value v → v ≡ 0 → positive top s ≡ none
+  pub is_value : (v : ℕ) → d ≡ Ok v → (v ≡ 0 → ⊥) → positive top s ≡ some v
   unfolding not_zero
-  is_zero v k z = positive_by ∙ ap (λ x. not_zero (option x)) k ∙ rw z
-
-  pub is_value : (v : ℕ) → d ≡ digit.Value v → (v ≡ 0 → ⊥) → positive top s ≡ some v
-  unfolding not_zero
-  is_value v k z = positive_by ∙ ap (λ x. not_zero (option x)) k ∙ rw (ne_eqb v 0 z)
+  is_value v k z = positive_by ∙ ap (λ x. not_zero (option (result_ok x))) k ∙ rw (ne_eqb v 0 z)
 
 -- a number that is not 0 is a number
 not_zero_lem : (o : Option ℕ) (v : ℕ) → not_zero o ≡ some v → o ≡ some v
@@ -78,21 +80,23 @@ unfolding part_or
 part_empty default top line at d = rw (ap is_digit (first_at line at) ∙ d, part_or)
 
 -- in the code's type
-pub number_none : (next : ℕ) (o : Option ℕ) → number_for next o ≡ number.Nothing → o ≡ none
+pub number_none : (next : ℕ) (o : Option ℕ) → number_for next o ≡ code.None → o ≡ none
 unfolding number_for
 number_none next none e = refl
 number_none next (some v) e = let z : ◌≡◌ {A = ℕ} 0 1 = cc in absurd (omega arith)
 
-pub number_some : (next : ℕ) (o : Option ℕ) (v n : ℕ) → number_for next o ≡ number.Value v n → (o ≡ some v) × (n ≡ next)
+pub number_some : (next : ℕ) (o : Option ℕ) (v n : ℕ) → number_for next o ≡ code.Some (record { value = v; next = n }) → (o ≡ some v) × (n ≡ next)
 unfolding number_for
 number_some next none v n e = let z : ◌≡◌ {A = ℕ} 0 1 = cc in absurd (omega arith)
-number_some next (some w) v n e = let p : w ≡ v = cc in let q : n ≡ next = cc in (ap some p, q)
+number_some next (some w) v n e =
+    let r : ◌≡◌ {A = Read ℕ} (record { value = w; next = next }) (record { value = v; next = n }) = cc in
+    (ap (λ (x : Read ℕ). some x.value) r, sym (ap (λ (x : Read ℕ). x.next) r))
 
 -- TUPLETS
 -- a tuplet that is read
-read : (at p q r n : ℕ) → at ≤ n → Read p q r n ≡ tuplet_for at (tuplet_token p q r (n - at))
+read : (at p q r n : ℕ) → at ≤ n → tuplet_read p q r n ≡ tuplet_for at (tuplet_token p q r (n - at))
 unfolding tuplet_for tuplet_in
-read at p q r n h = let e : n ≡ at + (n - at) = omega arith in ap (Read p q r) e
+read at p q r n h = let e : n ≡ at + (n - at) = omega arith in ap (tuplet_read p q r) e
 
 module _ (ed : Edition) (line : List ℕ) (at a1 : ℕ) (k1 : a1 ≡ end_of is_digit line (at + 1)) where
   begun : tuplet_of ed (drop (at + 1) line) ≡ with_actual ed (a1 - at) (drop a1 line) (positive 255 (drop (at + 1) line))
@@ -103,19 +107,19 @@ module _ (ed : Edition) (line : List ℕ) (at a1 : ℕ) (k1 : a1 ≡ end_of is_d
       rw (n, d)
 
   -- no actual
-  pub no_actual : positive 255 (drop (at + 1) line) ≡ none → Nothing ≡ tuplet_for at (tuplet_of ed (drop (at + 1) line))
+  pub no_actual : positive 255 (drop (at + 1) line) ≡ none → code.None ≡ tuplet_for at (tuplet_of ed (drop (at + 1) line))
   unfolding with_actual tuplet_for
   no_actual e = rw (begun, e)
 
   module _ (p : ℕ) (e : positive 255 (drop (at + 1) line) ≡ some p) where
     -- "Actual below 2"
-    pub one_note : p < 2 → Nothing ≡ tuplet_for at (tuplet_of ed (drop (at + 1) line))
+    pub one_note : p < 2 → code.None ≡ tuplet_for at (tuplet_of ed (drop (at + 1) line))
     unfolding with_actual tuplet_for
     one_note h = rw (begun, e, lt-ltb p 2 h, with_actual)
 
     module _ (h : 2 ≤ p) where
       -- no colon behind it
-      pub actual_alone : (get_or line a1 0 ≡ 58 → ⊥) → (q : ℕ) → q ≡ normal_for ed p → Read p q p a1 ≡ tuplet_for at (tuplet_of ed (drop (at + 1) line))
+      pub actual_alone : (get_or line a1 0 ≡ 58 → ⊥) → (q : ℕ) → q ≡ normal_for ed p → tuplet_read p q p a1 ≡ tuplet_for at (tuplet_of ed (drop (at + 1) line))
       unfolding with_actual
       actual_alone c q k =
           let b : eqb (first (drop a1 line)) 58 ≡ false = ne_eqb _ 58 (λ x. c (sym (first_at line a1) ∙ x)) in
@@ -132,7 +136,7 @@ module _ (ed : Edition) (line : List ℕ) (at a1 : ℕ) (k1 : a1 ≡ end_of is_d
             rw (begun, e, le-ltb p 2 h, with_actual) (rw (b, behind))
 
         -- "normal 0 or above 255 .. or an empty part"
-        pub no_normal : part_or ed (normal_for ed p) 255 (drop (a1 + 1) line) ≡ none → Nothing ≡ tuplet_for at (tuplet_of ed (drop (at + 1) line))
+        pub no_normal : part_or ed (normal_for ed p) 255 (drop (a1 + 1) line) ≡ none → code.None ≡ tuplet_for at (tuplet_of ed (drop (at + 1) line))
         unfolding with_normal tuplet_for
         no_normal f = rw (with_normal_lem, f)
 
@@ -146,7 +150,7 @@ module _ (ed : Edition) (line : List ℕ) (at a1 : ℕ) (k1 : a1 ≡ end_of is_d
               rw (with_normal_lem, f) (rw (behind, n, g))
 
           -- no colon behind it
-          pub normal_alone : (get_or line a2 0 ≡ 58 → ⊥) → Read p q p a2 ≡ tuplet_for at (tuplet_of ed (drop (at + 1) line))
+          pub normal_alone : (get_or line a2 0 ≡ 58 → ⊥) → tuplet_read p q p a2 ≡ tuplet_for at (tuplet_of ed (drop (at + 1) line))
           unfolding with_count
           normal_alone x =
               let b : eqb (first (drop a2 line)) 58 ≡ false = ne_eqb _ 58 (λ y. x (sym (first_at line a2) ∙ y)) in
@@ -161,10 +165,10 @@ module _ (ed : Edition) (line : List ℕ) (at a1 : ℕ) (k1 : a1 ≡ end_of is_d
                 rw with_count_lem (rw (b, with_count) (rw (drop-drop 1 a2 line, n)))
 
             -- "count 0 or past 64 bits"
-            pub no_count : part_or ed p (2 ^ 64 - 1) (drop (a2 + 1) line) ≡ none → Nothing ≡ tuplet_for at (tuplet_of ed (drop (at + 1) line))
+            pub no_count : part_or ed p (2 ^ 64 - 1) (drop (a2 + 1) line) ≡ none → code.None ≡ tuplet_for at (tuplet_of ed (drop (at + 1) line))
             unfolding counted tuplet_for
             no_count g = rw (with_counted, g)
 
-            pub all_three : (r : ℕ) → part_or ed p (2 ^ 64 - 1) (drop (a2 + 1) line) ≡ some r → Read p q r a3 ≡ tuplet_for at (tuplet_of ed (drop (at + 1) line))
+            pub all_three : (r : ℕ) → part_or ed p (2 ^ 64 - 1) (drop (a2 + 1) line) ≡ some r → tuplet_read p q r a3 ≡ tuplet_for at (tuplet_of ed (drop (at + 1) line))
             unfolding counted
             all_three r g = rw (with_counted, g) (read at p q r a3 (omega (arith, k1, k2, k3)))

@@ -6,8 +6,9 @@ use Rattle.standard.specs.Bars.{normal, repeat_start, repeat_end, repeat_both, d
 use Rattle.reader.specs.Barlines.{left_of}
 use Rattle.token_symbols.specs.declared.Barline.{Barline}
 use Rattle.token_symbols.specs.declared.Barline.TheVariants.{Normal, RepeatStart, RepeatEnd, RepeatBoth, Double, Final}
+use Rattle.std.specs.Prelude as code
+use Rattle.text_bytes.specs.declared.Read.{Read}
 use Rattle.token_symbols.specs.declared.Bar.{Bar}
-use Rattle.token_symbols.specs.declared.Bar.TheVariants.{Read, Nothing}
 
 -- the code's for the definition's
 abbrev pub barline_for : standard.Barline → Barline
@@ -31,7 +32,11 @@ as_barline Final = final
 abbrev pub left_for : Barline → Barline
 left_for b = barline_for (left_of (as_barline b))
 
--- a bar symbol at a position, with the position after it
-abbrev pub bar_for : ℕ → Option Symbol → Bar
-bar_for at none = Nothing
-bar_for at (some x) = Read (barline_for x.barline) (barline_for (left_of x.barline)) (at + length x.text)
+-- a barline, by the right one and the left one, with the position after it
+abbrev pub bar_read : Barline → Barline → ℕ → code.Option (Read Bar)
+bar_read right left next = code.Some (record { value = record { right = right; left = left }; next = next })
+
+-- the bar symbol at a position
+abbrev pub bar_for : ℕ → Option Symbol → code.Option (Read Bar)
+bar_for at none = code.None
+bar_for at (some x) = bar_read (barline_for x.barline) (barline_for (left_of x.barline)) (at + length x.text)

@@ -10,50 +10,37 @@ ghost use Rattle.reader.specs.Codes.{barline_code};
 ghost use Rattle.reader.specs.Tokens.{class_of};
 ghost use Rattle.editions.specs.declared.Edition.TheVariants.{First, Second};
 ghost use Rattle.reader.specs.Tuplets.{tuplet_of, positive, normal_for, part_or};
-ghost use Rattle.token_symbols.specs.Classes.{class_code, class_table};
-ghost use Rattle.token_symbols.specs.Bars.{as_barline, left_for, bar_for};
+ghost use Rattle.token_symbols.specs.Classes.{class_for, class_table};
+ghost use Rattle.token_symbols.specs.Bars.{as_barline, left_for, bar_read, bar_for};
 ghost use Rattle.token_symbols.specs.Tuplets.{number_for, tuplet_for};
 
 use editions::Edition;
+use text_bytes::Read;
 
-// THE CLASS OF A BYTE, which says how its token is read.
-pub const SKIP: u8 = 0;
+// The class of a byte, which says how its token is read.
+#[derive(Clone, Copy, Debug, PartialEq, Eq)]
+pub enum Class {
+    Skip,
+    White,
+    Ampersand,
+    Quote,
+    More,
+    Less,
+    Paren,
+    BraceOpen,
+    BraceClose,
+    Bang,
+    Plus,
+    Bars,
+    Bracket,
+    Rest,
+    InvisibleRest,
+    BarRest,
+    InvisibleBarRest,
+    Pitched,
+}
 
-pub const WHITE: u8 = 1;
-
-pub const AMPERSAND: u8 = 2;
-
-pub const QUOTE: u8 = 3;
-
-pub const MORE: u8 = 4;
-
-pub const LESS: u8 = 5;
-
-pub const PAREN: u8 = 6;
-
-pub const BRACE_OPEN: u8 = 7;
-
-pub const BRACE_CLOSE: u8 = 8;
-
-pub const BANG: u8 = 9;
-
-pub const PLUS: u8 = 10;
-
-pub const BARS: u8 = 11;
-
-pub const BRACKET: u8 = 12;
-
-pub const REST: u8 = 13;
-
-pub const INVISIBLE_REST: u8 = 14;
-
-pub const BAR_REST: u8 = 15;
-
-pub const INVISIBLE_BAR_REST: u8 = 16;
-
-pub const PITCHED: u8 = 17;
-
-#[derive(Clone, Copy)]
+#[derive(Clone, Copy, Debug, PartialEq, Eq)]
 pub enum Barline {
     Normal,
     RepeatStart,
@@ -63,123 +50,105 @@ pub enum Barline {
     Final,
 }
 
-// A barline, as the right one of the measure that it ends and the left one of the next, and the position after it; or none.
-#[derive(Clone, Copy)]
-pub enum Bar {
-    Read {
-        right: Barline,
-        left: Barline,
-        next: usize,
-    },
-    Nothing,
+// A barline, as the right one of the measure that it ends and the left one of the next.
+#[derive(Clone, Copy, Debug, PartialEq, Eq)]
+pub struct Bar {
+    pub right: Barline,
+    pub left: Barline,
 }
 
-// A tuplet: actual notes in the time of normal ones, for the next count notes, and the position after it; or none.
-#[derive(Clone, Copy)]
-pub enum Tuplet {
-    Read {
-        actual: u8,
-        normal: u8,
-        count: u64,
-        next: usize,
-    },
-    Nothing,
+// A tuplet: actual notes in the time of normal ones, for the next count notes.
+#[derive(Clone, Copy, Debug, PartialEq, Eq)]
+pub struct Tuplet {
+    pub actual: u8,
+    pub normal: u8,
+    pub count: u64,
 }
 
-// A normal number that the meter decides, where the tuplet stands.
+// A normal number that the meter decides, where the tuplet stands: the definition's own 0, which an empty part passes on as its number (an Option would have to be made of it and undone again).
 pub const BY_METER: u8 = 0;
 
-// A number, and the position after its digits; or none.
+// The classes of the bytes below 128. The table is made once, and lent to each reader of a token.
 #[derive(Clone, Copy)]
-enum Number {
-    Value { value: u64, next: usize },
-    Nothing,
+pub struct Classes {
+    pub table: [Class; 128],
+    ghost is_table: { table ≡ class_table },
 }
 
 // Every entry "skipped", then notes, marks and bars set. Made once, and lent to each reader of a token.
-pub fn letter_classes() -> [u8; 128]
-    ensures { result ≡ class_table }
-{
-    let mut t = [SKIP; 128];
+pub fn letter_classes() -> Classes {
+    let mut t = [Class::Skip; 128];
     // A to G, a to g, and the signs ^ _ =
-    t[65] = PITCHED;
-    t[66] = PITCHED;
-    t[67] = PITCHED;
-    t[68] = PITCHED;
-    t[69] = PITCHED;
-    t[70] = PITCHED;
-    t[71] = PITCHED;
-    t[97] = PITCHED;
-    t[98] = PITCHED;
-    t[99] = PITCHED;
-    t[100] = PITCHED;
-    t[101] = PITCHED;
-    t[102] = PITCHED;
-    t[103] = PITCHED;
-    t[94] = PITCHED;
-    t[95] = PITCHED;
-    t[61] = PITCHED;
+    t[65] = Class::Pitched;
+    t[66] = Class::Pitched;
+    t[67] = Class::Pitched;
+    t[68] = Class::Pitched;
+    t[69] = Class::Pitched;
+    t[70] = Class::Pitched;
+    t[71] = Class::Pitched;
+    t[97] = Class::Pitched;
+    t[98] = Class::Pitched;
+    t[99] = Class::Pitched;
+    t[100] = Class::Pitched;
+    t[101] = Class::Pitched;
+    t[102] = Class::Pitched;
+    t[103] = Class::Pitched;
+    t[94] = Class::Pitched;
+    t[95] = Class::Pitched;
+    t[61] = Class::Pitched;
     // white space
-    t[9] = WHITE;
-    t[10] = WHITE;
-    t[11] = WHITE;
-    t[12] = WHITE;
-    t[13] = WHITE;
-    t[32] = WHITE;
+    t[9] = Class::White;
+    t[10] = Class::White;
+    t[11] = Class::White;
+    t[12] = Class::White;
+    t[13] = Class::White;
+    t[32] = Class::White;
     // & " > < ( { } ! + and the bars | :
-    t[38] = AMPERSAND;
-    t[34] = QUOTE;
-    t[62] = MORE;
-    t[60] = LESS;
-    t[40] = PAREN;
-    t[123] = BRACE_OPEN;
-    t[125] = BRACE_CLOSE;
-    t[33] = BANG;
-    t[43] = PLUS;
-    t[124] = BARS;
-    t[58] = BARS;
+    t[38] = Class::Ampersand;
+    t[34] = Class::Quote;
+    t[62] = Class::More;
+    t[60] = Class::Less;
+    t[40] = Class::Paren;
+    t[123] = Class::BraceOpen;
+    t[125] = Class::BraceClose;
+    t[33] = Class::Bang;
+    t[43] = Class::Plus;
+    t[124] = Class::Bars;
+    t[58] = Class::Bars;
     // [ and the rests z x Z X
-    t[91] = BRACKET;
-    t[122] = REST;
-    t[120] = INVISIBLE_REST;
-    t[90] = BAR_REST;
-    t[88] = INVISIBLE_BAR_REST;
-    t
+    t[91] = Class::Bracket;
+    t[122] = Class::Rest;
+    t[120] = Class::InvisibleRest;
+    t[90] = Class::BarRest;
+    t[88] = Class::InvisibleBarRest;
+    Classes { table: t }
 }
 
 // The class of a byte: what the table has for it, and "skipped" above 127.
-pub fn class_of(classes: &[u8; 128], b: u8) -> u8
-    requires { classes.now ≡ class_table }
-    ensures { result ≡ class_code (class_of b) }
+pub fn class_of(classes: &Classes, b: u8) -> Class
+    ensures { result ≡ class_for (class_of b) }
 {
     let k = b as usize;
-    if k < 128 { classes[k] } else { SKIP }
+    if k < 128 {
+        classes.table[k]
+    } else {
+        Class::Skip
+    }
 }
 
-// A barline by document 01's number.
-pub const NORMAL: u8 = 0;
-
-pub const REPEAT_START: u8 = 1;
-
-pub const REPEAT_END: u8 = 2;
-
-pub const REPEAT_BOTH: u8 = 3;
-
-pub const DOUBLE: u8 = 4;
-
-pub const FINAL: u8 = 5;
-
 // A barline's number in the reading.
-pub fn barline_code(barline: Barline) -> u8
-    ensures { result ≡ barline_code (as_barline barline) }
-{
-    match barline {
-        Barline::Normal => NORMAL,
-        Barline::RepeatStart => REPEAT_START,
-        Barline::RepeatEnd => REPEAT_END,
-        Barline::RepeatBoth => REPEAT_BOTH,
-        Barline::Double => DOUBLE,
-        Barline::Final => FINAL,
+impl From<Barline> for u8 {
+    ghost from_gives = { λ barline number. number ≡ barline_code (as_barline barline) };
+
+    fn from(barline: Barline) -> u8 {
+        match barline {
+            Barline::Normal => 0,
+            Barline::RepeatStart => 1,
+            Barline::RepeatEnd => 2,
+            Barline::RepeatBoth => 3,
+            Barline::Double => 4,
+            Barline::Final => 5,
+        }
     }
 }
 
@@ -188,26 +157,25 @@ fn left_of(barline: Barline) -> Barline
     ensures { result ≡ left_for barline }
 {
     match barline {
-        Barline::Normal => Barline::Normal,
-        Barline::RepeatStart => Barline::RepeatStart,
         Barline::RepeatEnd => Barline::Normal,
-        Barline::RepeatBoth => Barline::RepeatBoth,
-        Barline::Double => Barline::Double,
         Barline::Final => Barline::Normal,
+        _ => barline,
     }
 }
 
-fn read_bar(barline: Barline, next: usize) -> Bar
-    ensures { result ≡ Bar.Read barline (left_for barline) next }
+fn read_bar(barline: Barline, next: usize) -> Option<Read<Bar>>
+    ensures { result ≡ bar_read barline (left_for barline) next }
 {
-    Bar::Read {
-        right: barline,
-        left: left_of(barline),
+    Some(Read {
+        value: Bar {
+            right: barline,
+            left: left_of(barline),
+        },
         next,
-    }
+    })
 }
 
-pub fn parse_barline(line: &[u8], at: usize) -> Bar
+pub fn parse_barline(line: &[u8], at: usize) -> Option<Read<Bar>>
     requires { at < length line.now }
     ensures { result ≡ bar_for at (symbol_at bar_symbols (drop at line.now)) }
 {
@@ -223,29 +191,27 @@ pub fn parse_barline(line: &[u8], at: usize) -> Bar
         b':' => match second {
             b'|' => read_bar(Barline::RepeatEnd, at + 2),
             b':' => read_bar(Barline::RepeatBoth, at + 2),
-            _ => Bar::Nothing,
+            _ => None,
         },
-        _ => Bar::Nothing,
+        _ => None,
     }
 }
 
 // The digits at `at` as a number from 1 to `top`.
-fn positive(line: &[u8], at: usize, top: u64) -> Number
+fn positive(line: &[u8], at: usize, top: u64) -> Option<Read<u64>>
     ensures { result ≡ number_for (end_of is_digit line.now at) (positive top (drop at line.now)) }
 {
     let read = text_numbers::read_number(line, at, top);
-    let digits = read.digits;
-    let next = read.next;
-    match digits {
-        text_numbers::Digits::Nothing => Number::Nothing,
-        text_numbers::Digits::Past => Number::Nothing,
-        text_numbers::Digits::Value(value) => {
-            if value == 0 {
-                return Number::Nothing;
-            }
-            Number::Value { value, next }
-        }
+    let Ok(value) = read.value else {
+        return None;
+    };
+    if value == 0 {
+        return None;
     }
+    Some(Read {
+        value,
+        next: read.next,
+    })
 }
 
 // The first edition's normal number of notes where none is written.
@@ -290,7 +256,7 @@ fn default_normal(edition: Edition, actual: u8) -> u8
 }
 
 // The part of a tuplet marker behind its `:`, which stands before `at`: a number from 1 to `top`. In the second edition an empty one is its default.
-fn part_or(edition: Edition, line: &[u8], at: usize, default: u64, top: u64) -> Number
+fn part_or(edition: Edition, line: &[u8], at: usize, default: u64, top: u64) -> Option<Read<u64>>
     ensures { result ≡ number_for (end_of is_digit line.now at) (part_or edition default top (drop at line.now)) }
 {
     match edition {
@@ -299,68 +265,54 @@ fn part_or(edition: Edition, line: &[u8], at: usize, default: u64, top: u64) -> 
             if text_bytes::is_digit(text_bytes::byte_at(line, at)) {
                 return positive(line, at, top);
             }
-            Number::Value {
+            Some(Read {
                 value: default,
                 next: at,
-            }
+            })
         }
     }
 }
 
 // The tuplet marker `(p`, `(p:q` or `(p:q:r` whose `(` stands at `at`.
-pub fn parse_abc_tuplet(edition: Edition, line: &[u8], at: usize) -> Tuplet
+pub fn parse_abc_tuplet(edition: Edition, line: &[u8], at: usize) -> Option<Read<Tuplet>>
     requires { at < length line.now }
     ensures { result ≡ tuplet_for at (tuplet_of edition (drop (at + 1) line.now)) }
 {
-    let Number::Value {
-        value: p,
-        next: after_actual,
-    } = positive(line, at + 1, 255)
-    else {
-        return Tuplet::Nothing;
-    };
-    if p < 2 {
-        return Tuplet::Nothing;
+    let p = positive(line, at + 1, 255)?;
+    if p.value < 2 {
+        return None;
     }
-    let actual = p as u8;
+    let actual = p.value as u8;
     let default = default_normal(edition, actual);
-    if text_bytes::byte_at(line, after_actual) != b':' {
-        return Tuplet::Read {
-            actual,
-            normal: default,
-            count: p,
-            next: after_actual,
-        };
+    if text_bytes::byte_at(line, p.next) != b':' {
+        return Some(Read {
+            value: Tuplet {
+                actual,
+                normal: default,
+                count: p.value,
+            },
+            next: p.next,
+        });
     }
-    let Number::Value {
-        value: q,
-        next: after_normal,
-    } = part_or(edition, line, after_actual + 1, default as u64, 255)
-    else {
-        return Tuplet::Nothing;
-    };
-    let normal = q as u8;
-    if text_bytes::byte_at(line, after_normal) != b':' {
-        return Tuplet::Read {
+    let q = part_or(edition, line, p.next + 1, default as u64, 255)?;
+    let normal = q.value as u8;
+    if text_bytes::byte_at(line, q.next) != b':' {
+        return Some(Read {
+            value: Tuplet {
+                actual,
+                normal,
+                count: p.value,
+            },
+            next: q.next,
+        });
+    }
+    let r = part_or(edition, line, q.next + 1, p.value, 18446744073709551615)?;
+    Some(Read {
+        value: Tuplet {
             actual,
             normal,
-            count: p,
-            next: after_normal,
-        };
-    }
-    let Number::Value { value: count, next } = part_or(
-        edition,
-        line,
-        after_normal + 1,
-        p,
-        18446744073709551615,
-    ) else {
-        return Tuplet::Nothing;
-    };
-    Tuplet::Read {
-        actual,
-        normal,
-        count,
-        next,
-    }
+            count: r.value,
+        },
+        next: r.next,
+    })
 }

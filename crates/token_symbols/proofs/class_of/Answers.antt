@@ -9,7 +9,7 @@ pub returns-then-k-lt128 : goal.returns-then-k-lt128
 returns-then-k-lt128 c =
     let a = c.args in
     let h : a.b < 128 = omega arith in
-    rw c.requires (table_at a.b h)
+    rw c.args.classes.now.is_table (table_at a.b h)
 
 pub returns-else-k-lt128 : goal.returns-else-k-lt128
 returns-else-k-lt128 c =

@@ -1,34 +1,34 @@
 -- `token_symbols::positive` meets its contract.
 use mathlib.Core.Path.{◌≡◌, sym, ap}
+use mathlib.Core.List.{List}
 use lib.ListN.{drop}
+use Prim.Native.Nat.{ℕ}
+use Rattle.std.specs.Prelude.{Result}
+use Rattle.text_bytes.specs.declared.Read.{Read}
+use Rattle.text_numbers.specs.declared.NumberError.{NumberError}
 use Rattle.text_numbers.specs.Digits.{number_at, written}
-use Rattle.text_numbers.specs.declared.Read.{Read}
 use Rattle.laws.specs.Spans.{run}
 use Rattle.standard.specs.Bytes.{is_digit}
 use Rattle.token_symbols.specs.Tuplets.{number_for}
-use Rattle.token_symbols.proofs.Ratios.{no_digits, past_top, is_zero, is_value}
+use Rattle.token_symbols.proofs.Ratios.{no_value, is_zero, is_value}
 use Rattle.token_symbols.proofs.positive.Goals as goal
 
+-- what the digits write is what was read
+told : (line : List ℕ) (at top : ℕ) (r : Read (Result ℕ NumberError)) → r ≡ number_at top line at → written top (run is_digit (drop at line)) ≡ r.value
+unfolding number_at
+told line at top r e = sym (ap (λ (x : Read (Result ℕ NumberError)). x.value) e)
+
 pub returns-then-value-eq0 : goal.returns-then-value-eq0
-unfolding number_for number_at
+unfolding number_for
 returns-then-value-eq0 c =
-    let told : written c.args.top (run is_digit (drop c.args.at c.args.line.now)) ≡ c.read_number-read.result.digits = sym (ap (λ (r : Read). r.digits) c.read_number-read.ensures) in
-    rw (is_zero _ _ _ told _ c.in-Value.is c.if-value-eq0.true)
+    rw (is_zero _ _ _ (told _ _ _ _ c.read_number-read.ensures) _ c.in-Ok.is c.if-value-eq0.true)
 
-pub returns-in-Nothing : goal.returns-in-Nothing
-unfolding number_for number_at
-returns-in-Nothing c =
-    let told : written c.args.top (run is_digit (drop c.args.at c.args.line.now)) ≡ c.read_number-read.result.digits = sym (ap (λ (r : Read). r.digits) c.read_number-read.ensures) in
-    rw (no_digits _ _ _ told c.in-Nothing.is)
+pub returns-in_default : goal.returns-in_default
+unfolding number_for
+returns-in_default c =
+    rw (no_value _ _ _ (told _ _ _ _ c.read_number-read.ensures) (λ v k. c.in_default.not-Ok v k))
 
-pub returns-in-Past : goal.returns-in-Past
+pub returns : goal.returns
 unfolding number_for number_at
-returns-in-Past c =
-    let told : written c.args.top (run is_digit (drop c.args.at c.args.line.now)) ≡ c.read_number-read.result.digits = sym (ap (λ (r : Read). r.digits) c.read_number-read.ensures) in
-    rw (past_top _ _ _ told c.in-Past.is)
-
-pub returns-else-value-eq0 : goal.returns-else-value-eq0
-unfolding number_for number_at
-returns-else-value-eq0 c =
-    let told : written c.args.top (run is_digit (drop c.args.at c.args.line.now)) ≡ c.read_number-read.result.digits = sym (ap (λ (r : Read). r.digits) c.read_number-read.ensures) in
-    rw (is_value _ _ _ told _ c.in-Value.is c.if-value-eq0.false, c.read_number-read.ensures)
+returns c =
+    rw (is_value _ _ _ (told _ _ _ _ c.read_number-read.ensures) _ c.in-Ok.is c.if-value-eq0.false, c.read_number-read.ensures)
