@@ -1,6 +1,6 @@
 -- The name of a key's tonic, read byte by byte, and the two tables of names.
-use Rattle.std.specs.Prelude.{ℕ, Bool, cond, ◌&&◌, List, [], ◌∷◌, eqb}
-use Rattle.std.proofs.Math.Option.{Option, none}
+use Rattle.std.specs.Prelude.{ℕ, Bool, true, false, cond, ◌&&◌, List, [], ◌∷◌, eqb, Option, Some, None, unwrap_or}
+use Rattle.std.proofs.Math.Option as maths
 use Rattle.laws.specs.Lists.{foldl}
 use Rattle.standard.specs.Keys.{tonic}
 use Rattle.reader.specs.Text.{is_space}
@@ -21,12 +21,12 @@ abbrev pub name_of : List ℕ → Name
 name_of s = foldl with_byte Empty s
 
 -- the tonic that it names, by the line of fifths
-unfoldable pub tonic_in : Name → Option ℕ
-tonic_in Empty = none
+unfoldable pub tonic_in : Name → maths.Option ℕ
+tonic_in Empty = maths.none
 tonic_in (One f) = tonic (f ∷ [])
 tonic_in (Gap f) = tonic (f ∷ [])
 tonic_in (Two f s) = tonic (f ∷ s ∷ [])
-tonic_in (Long f) = none
+tonic_in (Long f) = maths.none
 
 -- its first byte, 0 if there is none
 abbrev pub first_of : Name → ℕ
@@ -36,54 +36,60 @@ first_of (Gap f) = f
 first_of (Two f s) = f
 first_of (Long f) = f
 
-unfoldable pub is_name : KeyName → ℕ → ℕ → Bool
-is_name k first second = eqb k.first first && eqb k.second second
+-- two names are the same
+unfoldable pub same_name : Name → Name → Bool
+same_name Empty Empty = true
+same_name (One f) (One g) = eqb f g
+same_name (Gap f) (Gap g) = eqb f g
+same_name (Two f s) (Two g t) = eqb f g && eqb s t
+same_name (Long f) (Long g) = eqb f g
+same_name m n = false
 
 -- Cb Gb Db Ab Eb Bb F C G D A E B F# C#
 abbrev pub majors : List KeyName
 majors =
-    record { first = 67; second = 98; fifths = 121 }
-    ∷ record { first = 71; second = 98; fifths = 122 }
-    ∷ record { first = 68; second = 98; fifths = 123 }
-    ∷ record { first = 65; second = 98; fifths = 124 }
-    ∷ record { first = 69; second = 98; fifths = 125 }
-    ∷ record { first = 66; second = 98; fifths = 126 }
-    ∷ record { first = 70; second = 0; fifths = 127 }
-    ∷ record { first = 67; second = 0; fifths = 128 }
-    ∷ record { first = 71; second = 0; fifths = 129 }
-    ∷ record { first = 68; second = 0; fifths = 130 }
-    ∷ record { first = 65; second = 0; fifths = 131 }
-    ∷ record { first = 69; second = 0; fifths = 132 }
-    ∷ record { first = 66; second = 0; fifths = 133 }
-    ∷ record { first = 70; second = 35; fifths = 134 }
-    ∷ record { first = 67; second = 35; fifths = 135 }
+    record { name = Two 67 98; fifths = 121 }
+    ∷ record { name = Two 71 98; fifths = 122 }
+    ∷ record { name = Two 68 98; fifths = 123 }
+    ∷ record { name = Two 65 98; fifths = 124 }
+    ∷ record { name = Two 69 98; fifths = 125 }
+    ∷ record { name = Two 66 98; fifths = 126 }
+    ∷ record { name = One 70; fifths = 127 }
+    ∷ record { name = One 67; fifths = 128 }
+    ∷ record { name = One 71; fifths = 129 }
+    ∷ record { name = One 68; fifths = 130 }
+    ∷ record { name = One 65; fifths = 131 }
+    ∷ record { name = One 69; fifths = 132 }
+    ∷ record { name = One 66; fifths = 133 }
+    ∷ record { name = Two 70 35; fifths = 134 }
+    ∷ record { name = Two 67 35; fifths = 135 }
     ∷ []
 
 -- Ab Eb Bb F C G D A E B F# C# G# D# A#
 abbrev pub minors : List KeyName
 minors =
-    record { first = 65; second = 98; fifths = 121 }
-    ∷ record { first = 69; second = 98; fifths = 122 }
-    ∷ record { first = 66; second = 98; fifths = 123 }
-    ∷ record { first = 70; second = 0; fifths = 124 }
-    ∷ record { first = 67; second = 0; fifths = 125 }
-    ∷ record { first = 71; second = 0; fifths = 126 }
-    ∷ record { first = 68; second = 0; fifths = 127 }
-    ∷ record { first = 65; second = 0; fifths = 128 }
-    ∷ record { first = 69; second = 0; fifths = 129 }
-    ∷ record { first = 66; second = 0; fifths = 130 }
-    ∷ record { first = 70; second = 35; fifths = 131 }
-    ∷ record { first = 67; second = 35; fifths = 132 }
-    ∷ record { first = 71; second = 35; fifths = 133 }
-    ∷ record { first = 68; second = 35; fifths = 134 }
-    ∷ record { first = 65; second = 35; fifths = 135 }
+    record { name = Two 65 98; fifths = 121 }
+    ∷ record { name = Two 69 98; fifths = 122 }
+    ∷ record { name = Two 66 98; fifths = 123 }
+    ∷ record { name = One 70; fifths = 124 }
+    ∷ record { name = One 67; fifths = 125 }
+    ∷ record { name = One 71; fifths = 126 }
+    ∷ record { name = One 68; fifths = 127 }
+    ∷ record { name = One 65; fifths = 128 }
+    ∷ record { name = One 69; fifths = 129 }
+    ∷ record { name = One 66; fifths = 130 }
+    ∷ record { name = Two 70 35; fifths = 131 }
+    ∷ record { name = Two 67 35; fifths = 132 }
+    ∷ record { name = Two 71 35; fifths = 133 }
+    ∷ record { name = Two 68 35; fifths = 134 }
+    ∷ record { name = Two 65 35; fifths = 135 }
     ∷ []
 
--- the fifths of the first of the table that has the name, none where none has
-unfoldable pub lookup_in : List KeyName → ℕ → ℕ → ℕ
-lookup_in [] first second = 128
-lookup_in (k ∷ ks) first second = cond (is_name k first second) k.fifths (lookup_in ks first second)
+-- the fifths of the first of the table that has the name
+unfoldable pub lookup_in : List KeyName → Name → Option ℕ
+lookup_in [] name = None
+lookup_in (k ∷ ks) name = cond (same_name k.name name) (Some k.fifths) (lookup_in ks name)
 
--- the fifths of a name in the table of its mode
-unfoldable pub looked_up : Bool → ℕ → ℕ → ℕ
-looked_up minor first second = cond minor (lookup_in minors first second) (lookup_in majors first second)
+-- the fifths of a name in the table of its mode, 128 where it is none of them
+unfoldable pub looked_up : Bool → Name → ℕ
+looked_up minor name = unwrap_or (lookup_in (cond minor minors majors) name) 128

@@ -2,13 +2,14 @@
 // Fifths have 128 added: 128 is none, one sharp more is one more.
 #![tactic(auto)]
 
-ghost use Rattle.std.specs.Prelude.{◌≡◌, ◌&&◌};
+ghost use Rattle.std.specs.Prelude.{◌≡◌};
+ghost use Rattle.standard.specs.Bytes.{is_capital};
 ghost use Rattle.reader.specs.Keys.{fifths_of};
-ghost use Rattle.field_tonics.specs.Names.{with_byte, tonic_in, first_of, is_name, majors, minors, lookup_in, looked_up};
+ghost use Rattle.field_tonics.specs.Names.{with_byte, tonic_in, first_of, lookup_in, looked_up};
 
 // A name as far as it was read, without white space around it: nothing yet; one byte; one byte with white space behind it; two
 // bytes; more than any name has. The first byte stays known.
-#[derive(Clone, Copy)]
+#[derive(Clone, Copy, Debug, PartialEq, Eq)]
 pub enum Name {
     Empty,
     One(u8),
@@ -17,166 +18,135 @@ pub enum Name {
     Long(u8),
 }
 
-// A key's name, of one byte or two (the second is 0 for a name of one), and its fifths.
-#[derive(Clone, Copy)]
+// A key's name, of one byte or two, and its fifths.
+#[derive(Clone, Copy, Debug, PartialEq, Eq)]
 struct KeyName {
-    first: u8,
-    second: u8,
+    name: Name,
     fifths: u8,
 }
 
 const MAJOR: [KeyName; 15] = [
     KeyName {
-        first: b'C',
-        second: b'b',
+        name: Name::Two(b'C', b'b'),
         fifths: 121,
     },
     KeyName {
-        first: b'G',
-        second: b'b',
+        name: Name::Two(b'G', b'b'),
         fifths: 122,
     },
     KeyName {
-        first: b'D',
-        second: b'b',
+        name: Name::Two(b'D', b'b'),
         fifths: 123,
     },
     KeyName {
-        first: b'A',
-        second: b'b',
+        name: Name::Two(b'A', b'b'),
         fifths: 124,
     },
     KeyName {
-        first: b'E',
-        second: b'b',
+        name: Name::Two(b'E', b'b'),
         fifths: 125,
     },
     KeyName {
-        first: b'B',
-        second: b'b',
+        name: Name::Two(b'B', b'b'),
         fifths: 126,
     },
     KeyName {
-        first: b'F',
-        second: 0,
+        name: Name::One(b'F'),
         fifths: 127,
     },
     KeyName {
-        first: b'C',
-        second: 0,
+        name: Name::One(b'C'),
         fifths: 128,
     },
     KeyName {
-        first: b'G',
-        second: 0,
+        name: Name::One(b'G'),
         fifths: 129,
     },
     KeyName {
-        first: b'D',
-        second: 0,
+        name: Name::One(b'D'),
         fifths: 130,
     },
     KeyName {
-        first: b'A',
-        second: 0,
+        name: Name::One(b'A'),
         fifths: 131,
     },
     KeyName {
-        first: b'E',
-        second: 0,
+        name: Name::One(b'E'),
         fifths: 132,
     },
     KeyName {
-        first: b'B',
-        second: 0,
+        name: Name::One(b'B'),
         fifths: 133,
     },
     KeyName {
-        first: b'F',
-        second: b'#',
+        name: Name::Two(b'F', b'#'),
         fifths: 134,
     },
     KeyName {
-        first: b'C',
-        second: b'#',
+        name: Name::Two(b'C', b'#'),
         fifths: 135,
     },
 ];
 
 const MINOR: [KeyName; 15] = [
     KeyName {
-        first: b'A',
-        second: b'b',
+        name: Name::Two(b'A', b'b'),
         fifths: 121,
     },
     KeyName {
-        first: b'E',
-        second: b'b',
+        name: Name::Two(b'E', b'b'),
         fifths: 122,
     },
     KeyName {
-        first: b'B',
-        second: b'b',
+        name: Name::Two(b'B', b'b'),
         fifths: 123,
     },
     KeyName {
-        first: b'F',
-        second: 0,
+        name: Name::One(b'F'),
         fifths: 124,
     },
     KeyName {
-        first: b'C',
-        second: 0,
+        name: Name::One(b'C'),
         fifths: 125,
     },
     KeyName {
-        first: b'G',
-        second: 0,
+        name: Name::One(b'G'),
         fifths: 126,
     },
     KeyName {
-        first: b'D',
-        second: 0,
+        name: Name::One(b'D'),
         fifths: 127,
     },
     KeyName {
-        first: b'A',
-        second: 0,
+        name: Name::One(b'A'),
         fifths: 128,
     },
     KeyName {
-        first: b'E',
-        second: 0,
+        name: Name::One(b'E'),
         fifths: 129,
     },
     KeyName {
-        first: b'B',
-        second: 0,
+        name: Name::One(b'B'),
         fifths: 130,
     },
     KeyName {
-        first: b'F',
-        second: b'#',
+        name: Name::Two(b'F', b'#'),
         fifths: 131,
     },
     KeyName {
-        first: b'C',
-        second: b'#',
+        name: Name::Two(b'C', b'#'),
         fifths: 132,
     },
     KeyName {
-        first: b'G',
-        second: b'#',
+        name: Name::Two(b'G', b'#'),
         fifths: 133,
     },
     KeyName {
-        first: b'D',
-        second: b'#',
+        name: Name::Two(b'D', b'#'),
         fifths: 134,
     },
     KeyName {
-        first: b'A',
-        second: b'#',
+        name: Name::Two(b'A', b'#'),
         fifths: 135,
     },
 ];
@@ -215,62 +185,45 @@ pub fn with_byte(n: Name, c: u8) -> Name
     }
 }
 
-// Its first byte, 0 if there is none.
-pub fn first_of(n: Name) -> u8
-    ensures { result ≡ first_of n }
+// Its first byte is a capital.
+pub fn begins_with_capital(name: Name) -> bool
+    ensures { result ≡ is_capital (first_of name) }
 {
-    match n {
-        Name::Empty => 0,
-        Name::One(f) => f,
-        Name::Gap(f) => f,
-        Name::Two(f, _) => f,
-        Name::Long(f) => f,
-    }
-}
-
-fn is_name(k: KeyName, first: u8, second: u8) -> bool
-    ensures { result ≡ is_name k first second }
-{
-    k.first == first && k.second == second
-}
-
-// The fifths of a name in a table of fifteen, none for a name that is none of them.
-fn fifths_in(names: [KeyName; 15], first: u8, second: u8) -> u8
-    ensures { result ≡ lookup_in names first second }
-{
-    for i in 0..15 {
-        let k = names[i];
-        if is_name(k, first, second) {
-            return k.fifths;
+    match name {
+        Name::Empty => false,
+        Name::One(first) | Name::Gap(first) | Name::Two(first, _) | Name::Long(first) => {
+            text_bytes::is_within(b'A', b'Z', first)
         }
     }
-    128
 }
 
-// The fifths of a name in the table of its mode.
-fn looked_up(minor: bool, first: u8, second: u8) -> u8
-    ensures { result ≡ looked_up minor first second }
+// The fifths of a name in a table of fifteen.
+fn fifths_in(names: [KeyName; 15], name: Name) -> Option<u8>
+    ensures { result ≡ lookup_in names name }
 {
-    if minor {
-        return fifths_in(MINOR, first, second);
+    for key in names {
+        if key.name == name {
+            return Some(key.fifths);
+        }
     }
-    fifths_in(MAJOR, first, second)
+    None
+}
+
+// The fifths of a name in the table of its mode, none where it is none of them.
+fn looked_up(minor: bool, name: Name) -> u8
+    ensures { result ≡ looked_up minor name }
+{
+    fifths_in(if minor { MINOR } else { MAJOR }, name).unwrap_or(128)
 }
 
 // The fifths of the key on a tonic.
-pub fn fifths_of(minor: bool, n: Name) -> u8
-    ensures { result ≡ fifths_of minor (tonic_in n) }
+pub fn fifths_of(minor: bool, name: Name) -> u8
+    ensures { result ≡ fifths_of minor (tonic_in name) }
 {
-    match n {
-        Name::Empty => 128,
-        Name::One(f) => looked_up(minor, f, 0),
-        Name::Gap(f) => looked_up(minor, f, 0),
-        Name::Two(f, s) => {
-            if s == 0 {
-                return 128;
-            }
-            looked_up(minor, f, s)
-        }
-        Name::Long(_) => 128,
+    match name {
+        Name::One(first) => looked_up(minor, Name::One(first)),
+        Name::Gap(first) => looked_up(minor, Name::One(first)),
+        Name::Two(first, second) => looked_up(minor, Name::Two(first, second)),
+        Name::Empty | Name::Long(_) => 128,
     }
 }

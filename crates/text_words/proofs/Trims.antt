@@ -24,6 +24,12 @@ unfolding trim_start
 trim_start_drop [] = refl
 trim_start_drop (c ∷ t) = by_test (is_space c) (λ e. rw (e, trim_start, count_while) (trim_start_drop t)) (λ e. rw (e, trim_start, count_while))
 
+-- a byte of a word stays, whatever is left behind it
+pub cons_trim_word : (c : ℕ) (t : List ℕ) → is_space c ≡ false → cons_trim c t ≡ c ∷ t
+unfolding cons_trim
+cons_trim_word c [] e = rw e
+cons_trim_word c (d ∷ t) e = refl
+
 -- AT THE END white space goes
 pub trim_end_space : (t : List ℕ) (x : ℕ) → is_space x ≡ true → trim_end (t ++ (x ∷ [])) ≡ trim_end t
 unfolding trim_end cons_trim
