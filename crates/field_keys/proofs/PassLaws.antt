@@ -2,7 +2,9 @@
 use Prim.Native.Nat.{ℕ, suc, ◌-◌}
 use mathlib.Core.Path.{◌≡◌, refl, sym, ap, ◌∙◌}
 use mathlib.Core.Bool.{Bool, true, false, cond}
-use mathlib.Core.Option.{Option, none, some}
+use mathlib.Core.Option.{none, some}
+use mathlib.Core.Option as maths
+use Rattle.std.specs.Prelude.{Option, Some, None}
 use mathlib.Core.List.{List, [], ◌∷◌, map}
 use native.Mathlib.Omega.{arith}
 use lib.Dec.{eqb, leb}
@@ -18,8 +20,6 @@ use Rattle.field_tonics.specs.declared.Name.{Name}
 use Rattle.field_tonics.specs.declared.Name.TheVariants.{Empty}
 use Rattle.field_tonics.specs.Names.{with_byte, name_of, first_of}
 use Rattle.field_tonics.proofs.NameLaws.{name_tonic, name_first}
-use Rattle.field_keys.specs.declared.Found.{Found}
-use Rattle.field_keys.specs.declared.Found.TheVariants.{Nothing, Named}
 use Rattle.field_keys.specs.declared.Passed.{Passed}
 use Rattle.field_keys.specs.Passed.{first_found, pass_byte, pass_text, unpassed, key_named, major_else, ended_else, key_else, key_by}
 
@@ -37,24 +37,24 @@ three_maj (a ∷ b ∷ []) = refl
 three_maj (a ∷ b ∷ c ∷ s) = refl
 
 -- what was met before, or the name m and what the text has before the word
-found_in : Found → Name → Option (List ℕ) → Found
-found_in (Named n) m o = Named n
-found_in Nothing m none = Nothing
-found_in Nothing m (some r) = Named (foldl with_byte m r)
+found_in : Option Name → Name → maths.Option (List ℕ) → Option Name
+found_in (Some n) m o = Some n
+found_in None m none = None
+found_in None m (some r) = Some (foldl with_byte m r)
 
-found_none : (x : Found) (m : Name) → found_in x m none ≡ x
+found_none : (x : Option Name) (m : Name) → found_in x m none ≡ x
 unfolding found_in
-found_none (Named n) m = refl
-found_none Nothing m = refl
+found_none (Some n) m = refl
+found_none None m = refl
 
 -- one byte
-found_byte : (x : Found) (m : Name) (b : Bool) (c : ℕ) (o : Option (List ℕ))
+found_byte : (x : Option Name) (m : Name) (b : Bool) (c : ℕ) (o : maths.Option (List ℕ))
     → found_in (first_found x b m) (with_byte m c) o ≡ found_in x m (elim b [ true ↦ some [] | false ↦ cons_some c o ])
 unfolding found_in first_found cons_some
-found_byte (Named n) m b c o = refl
-found_byte Nothing m true c o = refl
-found_byte Nothing m false c none = refl
-found_byte Nothing m false c (some r) = refl
+found_byte (Some n) m b c o = refl
+found_byte None m true c o = refl
+found_byte None m false c none = refl
+found_byte None m false c (some r) = refl
 
 -- THE FOUR PARTS of what was met
 pass_name : (p : Passed) (s : List ℕ) → (pass_text p s).name ≡ foldl with_byte p.name s
@@ -77,9 +77,9 @@ pass_major p (c ∷ s) =
     ∙ ap (λ (b : Bool). found_in p.major p.name (elim b [ true ↦ some [] | false ↦ cons_some c (before_word (ascii "maj") s) ])) (sym (three_maj (c ∷ s)))
 
 -- the last byte is an m: the name before it
-ended_in : Found → Name → List ℕ → Found
+ended_in : Option Name → Name → List ℕ → Option Name
 ended_in x m [] = x
-ended_in x m (c ∷ s) = cond (is "m" (last (c ∷ s))) (Named (foldl with_byte m (take (length s) (c ∷ s)))) Nothing
+ended_in x m (c ∷ s) = cond (is "m" (last (c ∷ s))) (Some (foldl with_byte m (take (length s) (c ∷ s)))) None
 
 last_cons : (c d : ℕ) (s : List ℕ) → last (c ∷ d ∷ s) ≡ last (d ∷ s)
 last_cons c d s =
@@ -87,7 +87,7 @@ last_cons c d s =
     let f : suc (length s) - 1 ≡ length s = omega arith in
     rw (e, f)
 
-ended_byte : (m : Name) (c : ℕ) (s : List ℕ) → ended_in (first_found Nothing (eqb c 109) m) (with_byte m c) s ≡ ended_in Nothing m (c ∷ s)
+ended_byte : (m : Name) (c : ℕ) (s : List ℕ) → ended_in (first_found None (eqb c 109) m) (with_byte m c) s ≡ ended_in None m (c ∷ s)
 unfolding ended_in first_found
 ended_byte m c [] = refl
 ended_byte m c (d ∷ s) = rw (last_cons c d s)
@@ -103,7 +103,7 @@ key_named_lem : (m : Bool) (s : List ℕ) → key_named m (name_of s) ≡ named 
 unfolding key_named named
 key_named_lem m s = rw (name_tonic s)
 
-major_same : (k : List ℕ) (o : Option (List ℕ)) → trimmed k ≡ k → major_else (found_in Nothing Empty o) (name_of k) ≡ major_of k o
+major_same : (k : List ℕ) (o : maths.Option (List ℕ)) → trimmed k ≡ k → major_else (found_in None Empty o) (name_of k) ≡ major_of k o
 unfolding major_else major_of found_in
 major_same k (some r) t = key_named_lem false r
 major_same k none t = key_named_lem false k ∙ ap (named false) t
@@ -122,7 +122,7 @@ unfolding ends_in_m
 no_m k e = by_test (leb 2 (length k)) (λ a. rw (a, e)) (λ a. rw a)
 
 with_m : (c : ℕ) (s : List ℕ) → is_space c ≡ false → trimmed (c ∷ s) ≡ c ∷ s → is "m" (last (c ∷ s)) ≡ true
-    → ended_else (Named (name_of (take (length s) (c ∷ s)))) (found_in Nothing Empty (before_word (ascii "maj") (c ∷ s))) (name_of (c ∷ s)) ≡ minor_or (c ∷ s) none
+    → ended_else (Some (name_of (take (length s) (c ∷ s)))) (found_in None Empty (before_word (ascii "maj") (c ∷ s))) (name_of (c ∷ s)) ≡ minor_or (c ∷ s) none
 unfolding ended_else minor_or
 with_m c s q t e =
     let one : length (c ∷ s) - 1 ≡ length s = omega arith in
@@ -130,14 +130,14 @@ with_m c s q t e =
     (λ z. rw (capital c s q e ∙ z, z, minor_or) (major_same (c ∷ s) (before_word (ascii "maj") (c ∷ s)) t))
 
 ended_same : (c : ℕ) (s : List ℕ) → is_space c ≡ false → trimmed (c ∷ s) ≡ c ∷ s
-    → ended_else (ended_in Nothing Empty (c ∷ s)) (found_in Nothing Empty (before_word (ascii "maj") (c ∷ s))) (name_of (c ∷ s)) ≡ minor_or (c ∷ s) none
+    → ended_else (ended_in None Empty (c ∷ s)) (found_in None Empty (before_word (ascii "maj") (c ∷ s))) (name_of (c ∷ s)) ≡ minor_or (c ∷ s) none
 unfolding ended_in ended_else minor_or
 ended_same c s q t =
     by_test (is "m" (last (c ∷ s))) (λ e. rw e (with_m c s q t e))
     (λ e. rw (e, no_m (c ∷ s) e, minor_or) (major_same (c ∷ s) (before_word (ascii "maj") (c ∷ s)) t))
 
-minor_same : (k : List ℕ) (o : Option (List ℕ)) → is_space (first k) ≡ false → trimmed k ≡ k
-    → key_else (found_in Nothing Empty o) (ended_in Nothing Empty k) (found_in Nothing Empty (before_word (ascii "maj") k)) (name_of k) ≡ minor_or k o
+minor_same : (k : List ℕ) (o : maths.Option (List ℕ)) → is_space (first k) ≡ false → trimmed k ≡ k
+    → key_else (found_in None Empty o) (ended_in None Empty k) (found_in None Empty (before_word (ascii "maj") k)) (name_of k) ≡ minor_or k o
 unfolding key_else ended_else minor_or found_in ended_in ends_in_m
 minor_same k (some r) q t = key_named_lem true r
 minor_same [] none q t = major_same [] (before_word (ascii "maj") []) t

@@ -1,45 +1,67 @@
 -- The loops of `pass_word` and `parse_key`: what is left, after what was passed, gives what the whole gives.
 use Prim.Native.Nat.{ℕ, ◌+◌, ◌≤◌, ◌<◌}
-use mathlib.Core.Path.{◌≡◌, sym, ap, ◌∙◌}
-use mathlib.Core.List.{List, map}
-use lib.ListN.{length, get_or}
-use Rattle.laws.specs.Lists.{starts_with, foldl}
-use Rattle.laws.specs.Bytes.{between}
-use Rattle.laws.specs.Spans.{end_in}
-use Rattle.laws.proofs.Parts.{between_first, between_none}
-use Rattle.standard.specs.Bytes.{ascii, lower}
-use Rattle.editions.specs.declared.Edition.TheVariants.{First}
-use Rattle.reader.specs.Text.{is_space}
+use mathlib.Core.Path.{◌≡◌, refl, ap}
+use mathlib.Core.Bool.{Bool, true, false, ◌||◌}
+use Rattle.std.specs.Prelude.{Option, Some, None, unwrap_or}
+use Rattle.std.specs.Option.{option_or}
+use Rattle.std.specs.Bool.{then_some}
 use Rattle.reader.specs.Pieces.{field_words}
-use Rattle.reader.specs.Keys.{key_of}
-use Rattle.text_words.specs.Words.{not_space}
-use Rattle.text_words.proofs.WordLaws.{AtWord, at_word, words_from, words_over, words_next, next_word}
+use Rattle.reader.specs.Keys.{is_key_word}
+use Rattle.text_words.specs.Words.{FirstWord}
+use Rattle.field_tonics.specs.declared.Name.{Name}
+use mathlib.Core.List.{List, [], ◌∷◌, map}
+use lib.Dec.{eqb}
+use Rattle.std.specs.List.{list_any}
+use lib.ListN.{length, get_or, drop, drop_of_length-le}
+use Rattle.laws.specs.Lists.{starts_with, any, foldl}
+use Rattle.laws.proofs.Lists.{drop_next}
+use Rattle.standard.specs.Bytes.{ascii, lower}
 use Rattle.field_keys.specs.declared.Passed.{Passed}
-use Rattle.field_keys.specs.Passed.{pass_byte, pass_text, pass_kept, unpassed, key_by}
-use Rattle.field_keys.proofs.KeyTexts.{key_of_lem}
+use Rattle.field_keys.specs.Passed.{pass_byte, pass_text, pass_word, pass_kept, first_found, key_named, major_else}
 
--- A BYTE at k of a word that ends at e
-pub pass_on : (p : Passed) (s : List ℕ) (k e : ℕ) → k < e → e ≤ length s
-    → pass_text p (between s k e)
-    ≡ pass_text (pass_byte p (get_or s k 0) (starts_with (ascii "min") (map lower (between s k e))) (starts_with (ascii "maj") (map lower (between s k e)))) (between s (k + 1) e)
+-- A BYTE at k
+pub pass_on : (p : Passed) (s : List ℕ) (k : ℕ) → k < length s
+    → pass_text p (drop k s)
+    ≡ pass_text (pass_byte p (get_or s k 0) (starts_with (ascii "min") (map lower (drop k s))) (starts_with (ascii "maj") (map lower (drop k s)))) (drop (k + 1) s)
 unfolding pass_text
-pass_on p s k e h l = rw (between_first s k e h l)
+pass_on p s k h = rw (drop_next s k 0 h)
 
-pub pass_over : (p : Passed) (s : List ℕ) (k e : ℕ) → e ≤ k → pass_text p (between s k e) ≡ p
+pub pass_over : (p : Passed) (s : List ℕ) (k : ℕ) → length s ≤ k → pass_text p (drop k s) ≡ p
 unfolding pass_text
-pass_over p s k e h = rw (between_none s k e h)
+pass_over p s k h = rw (drop_of_length-le s h)
 
--- A WORD at i of the part from a up to b
-pub record Walking (s : List ℕ) (a b : ℕ) (p : Passed) (i : ℕ) : Type 0 where
-  pub at : AtWord s b i
-  pub same : foldl pass_kept p (field_words (between s i b)) ≡ foldl pass_kept unpassed (field_words (between s a b))
+-- A BYTE of the text, as the library asks for it
+pub any_byte : (x : ℕ) (s : List ℕ) → list_any (λ c. eqb c x) s ≡ any (λ c. eqb c x) s
+any_byte x [] = refl
+any_byte x (c ∷ s) = ap (λ b. eqb c x || b) (any_byte x s)
 
-pub walking_start : (s : List ℕ) (a b : ℕ) → a ≤ b → b ≤ length s → Walking s a b unpassed (end_in is_space s a b)
-walking_start s a b h l = record { at = at_word s a b h l; same = ap (foldl pass_kept unpassed) (sym (words_from s a b)) }
+-- WHAT IS MET, as the library's options have it
+pub first_here : (here : Bool) (n : Name) → then_some here n ≡ first_found None here n
+unfolding first_found
+first_here true n = refl
+first_here false n = refl
 
-module _ (s : List ℕ) (a b : ℕ) (p : Passed) (i : ℕ) (l : b ≤ length s) (w : Walking s a b p i) where
-  pub walking_on : i < b → Walking s a b (pass_kept p (between s i (end_in not_space s i b))) (end_in is_space s (end_in not_space s i b) b)
-  walking_on h = record { at = next_word s b i l w.at h; same = rw (words_next s b i l w.at h) at w.same }
+pub first_or : (o : Option Name) (here : Bool) (n : Name) → option_or o (then_some here n) ≡ first_found o here n
+unfolding first_found
+first_or (Some m) here n = refl
+first_or None true n = refl
+first_or None false n = refl
 
-  pub walking_over : b ≤ i → key_by p ≡ key_of First (between s a b)
-  walking_over h = ap key_by (rw (words_over s i b h) at w.same) ∙ key_of_lem (between s a b)
+pub major_or : (o : Option Name) (n : Name) → key_named false (unwrap_or o n) ≡ major_else o n
+unfolding major_else
+major_or (Some m) n = refl
+major_or None n = refl
+
+-- A WORD, if it stays in the key text
+pub kept : (p : Passed) (w : List ℕ) → is_key_word w ≡ true → pass_word p w ≡ pass_kept p w
+unfolding pass_kept
+kept p w e = rw e
+
+pub left_out : (p : Passed) (w : List ℕ) → is_key_word w ≡ false → p ≡ pass_kept p w
+unfolding pass_kept
+left_out p w e = rw e
+
+-- the words of a text, of which the first was passed
+pub walk_on : (t word behind : List ℕ) (p q r : Passed) → FirstWord t word behind → q ≡ pass_kept p word → foldl pass_kept p (field_words t) ≡ r
+    → foldl pass_kept q (field_words behind) ≡ r
+walk_on t word behind p q r f e h = rw e (rw f.words at h)

@@ -1,5 +1,5 @@
 -- A key text passed byte by byte: what was met in it, and the key that this makes.
-use Rattle.std.specs.Prelude.{ℕ, Bool, true, false, cond, List, [], ◌∷◌, map, eqb}
+use Rattle.std.specs.Prelude.{ℕ, Bool, true, false, cond, List, [], ◌∷◌, map, eqb, Option, Some, None}
 use Rattle.laws.specs.Lists.{starts_with}
 use Rattle.standard.specs.Bytes.{ascii, lower, is_capital}
 use Rattle.standard.specs.Keys.{Key as StandardKey}
@@ -8,8 +8,6 @@ use Rattle.field_tonics.specs.declared.Name.{Name}
 use Rattle.field_tonics.specs.declared.Name.TheVariants.{Empty}
 use Rattle.field_tonics.specs.Names.{with_byte, tonic_in, first_of}
 use Rattle.field_keys.specs.declared.Key.{Key}
-use Rattle.field_keys.specs.declared.Found.{Found}
-use Rattle.field_keys.specs.declared.Found.TheVariants.{Nothing, Named}
 use Rattle.field_keys.specs.declared.Passed.{Passed}
 
 -- a key as the definitions have it
@@ -17,15 +15,15 @@ abbrev pub key_as : Key → StandardKey
 key_as k = record { fifths = k.fifths; minor = k.minor }
 
 -- the first of what was met before and what stands here
-unfoldable pub first_found : Found → Bool → Name → Found
-first_found (Named m) here n = Named m
-first_found Nothing here n = cond here (Named n) Nothing
+unfoldable pub first_found : Option Name → Bool → Name → Option Name
+first_found (Some m) here n = Some m
+first_found None here n = cond here (Some n) None
 
 -- one byte more
 unfoldable pub pass_byte : Passed → ℕ → Bool → Bool → Passed
 pass_byte p c min maj = record {
   name = with_byte p.name c;
-  ended = first_found Nothing (eqb c 109) p.name;
+  ended = first_found None (eqb c 109) p.name;
   minor = first_found p.minor min p.name;
   major = first_found p.major maj p.name;
 }
@@ -45,26 +43,26 @@ pass_kept p w = cond (is_key_word w) (pass_word p w) p
 
 -- nothing was passed
 abbrev pub unpassed : Passed
-unpassed = record { name = Empty; ended = Nothing; minor = Nothing; major = Nothing }
+unpassed = record { name = Empty; ended = None; minor = None; major = None }
 
 -- the key on a tonic
 unfoldable pub key_named : Bool → Name → StandardKey
 key_named minor n = record { fifths = fifths_of minor (tonic_in n); minor = minor }
 
 -- before `maj`, else the text's
-unfoldable pub major_else : Found → Name → StandardKey
-major_else (Named n) name = key_named false n
-major_else Nothing name = key_named false name
+unfoldable pub major_else : Option Name → Name → StandardKey
+major_else (Some n) name = key_named false n
+major_else None name = key_named false name
 
 -- before a final m, if a capital stands first; else major
-unfoldable pub ended_else : Found → Found → Name → StandardKey
-ended_else (Named n) major name = cond (is_capital (first_of n)) (key_named true n) (major_else major name)
-ended_else Nothing major name = major_else major name
+unfoldable pub ended_else : Option Name → Option Name → Name → StandardKey
+ended_else (Some n) major name = cond (is_capital (first_of n)) (key_named true n) (major_else major name)
+ended_else None major name = major_else major name
 
 -- before `min`, else before a final m, else major
-unfoldable pub key_else : Found → Found → Found → Name → StandardKey
-key_else (Named n) ended major name = key_named true n
-key_else Nothing ended major name = ended_else ended major name
+unfoldable pub key_else : Option Name → Option Name → Option Name → Name → StandardKey
+key_else (Some n) ended major name = key_named true n
+key_else None ended major name = ended_else ended major name
 
 unfoldable pub key_by : Passed → StandardKey
 key_by p = key_else p.minor p.ended p.major p.name

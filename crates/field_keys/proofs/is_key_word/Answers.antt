@@ -1,13 +1,17 @@
--- `field_keys::is_key_word` meets its contract: an equals sign stands where `find_byte` stops before the end.
-use Rattle.standard.specs.Bytes.{is}
+-- `field_keys::is_key_word` meets its contract, by its tests.
+use mathlib.Core.Path.{sym, ◌∙◌}
 use Rattle.reader.specs.Keys.{is_key_word}
-use Rattle.text_words.proofs.Finds.{any_in, any_over}
+use Rattle.field_keys.proofs.Walks.{any_byte}
 use Rattle.field_keys.proofs.is_key_word.Goals as goal
 
-pub returns-then-find_byte-e : goal.returns-then-find_byte-e
+pub returns-then-not-contains : goal.returns-then-not-contains
 unfolding is_key_word
-returns-then-find_byte-e c = rw (any_in (is "=") c.args.line.now c.args.i c.args.e c.requires.1 (rw (← c.find_byte.ensures) c.if-find_byte-e.true))
+returns-then-not-contains c =
+    let no = sym (c.contains.ensures.value ∙ any_byte 61 c.args.word.now) ∙ c.if-not-contains.true in
+    rw (no, ← c.is_clef.ensures)
 
-pub returns : goal.returns
+pub returns-else-not-contains : goal.returns-else-not-contains
 unfolding is_key_word
-returns c = rw (any_over (is "=") c.args.line.now c.args.i c.args.e c.requires.1 (rw (← c.find_byte.ensures) c.if-find_byte-e.false), ← c.is_clef.ensures)
+returns-else-not-contains c =
+    let yes = sym (c.contains.ensures.value ∙ any_byte 61 c.args.word.now) ∙ c.if-not-contains.false in
+    rw (yes, c.if-not-contains.false)

@@ -1,12 +1,8 @@
--- `field_keys::pass_word` meets its contract. The loop's invariant: what is left of the word from k on, after what was passed, gives what the word gives.
-use Prim.Native.Nat.{◌-◌, ◌≤◌}
+-- `field_keys::pass_word` meets its contract. The loop's invariant: what is left of the word, after what was passed, gives what the word gives.
 use mathlib.Core.Path.{◌≡◌}
-use Rattle.laws.specs.Bytes.{between}
-use Rattle.field_keys.specs.Passed.{pass_text}
+use lib.ListN.{drop}
+use Rattle.field_keys.specs.Passed.{pass_text, pass_word}
 use Rattle.field_keys.proofs.pass_word.Given as goal
 
 abbrev pub invariant-loop-k : goal.invariant-loop-k
-invariant-loop-k l = (l.k ≤ l.e) × (pass_text l.q (between l.line l.k l.e) ≡ pass_text l.initial.q (between l.line l.i l.e))
-
-abbrev pub decreases-loop-k : goal.decreases-loop-k
-decreases-loop-k l = l.e - l.k
+invariant-loop-k l = pass_text l.passed (drop l.k l.word) ≡ pass_word l.fn.p l.word
