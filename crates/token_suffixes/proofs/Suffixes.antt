@@ -19,22 +19,21 @@ use Rattle.standard.specs.Bytes.{is_digit, is, first, decimal}
 use Rattle.editions.specs.declared.Edition.{Edition}
 use Rattle.editions.specs.declared.Edition.TheVariants.{First, Second}
 use Rattle.reader.specs.Lengths.{Length, number, slashes, length_over, length_of, many_slashes}
-use Rattle.text_numbers.specs.declared.Digits.{Digits}
-use Rattle.text_numbers.specs.declared.Digits.TheVariants.{Nothing, Value, Past}
-use Rattle.text_numbers.specs.declared.Read as numbers
+use Rattle.std.specs.Prelude.{Result, Ok, Err}
+use Rattle.refusals.specs.declared.Refusal.{Refusal}
+use Rattle.text_bytes.specs.declared.Read.{Read}
+use Rattle.text_numbers.specs.declared.NumberError.{NumberError}
 use Rattle.text_numbers.specs.Digits.{up_to, written, number_at}
 use Rattle.reader.proofs.Digits.{digit_high}
 use Rattle.text_numbers.proofs.Numbers.{value_le}
 use Rattle.reader.proofs.LengthLaws.{no_slash, first_slash, lone_slash, length_by, many_by, over_many}
-use Rattle.token_suffixes.specs.declared.Suffix.{Suffix}
-use Rattle.token_suffixes.specs.declared.Suffix.TheVariants.{Read, Refused}
-use Rattle.token_suffixes.specs.Suffixes.{number_or, is_run, halved_for, halved_by, suffix_at}
+use Rattle.token_suffixes.specs.declared.Fraction.{Fraction}
+use Rattle.token_suffixes.specs.Suffixes.{suffix_read, suffix_refused, number_or, is_run, halved_for, halved_by, suffix_at}
 
 -- a number, or another where there is none
-abbrev pub or_else : ℕ → Digits → ℕ
-or_else d Nothing = d
-or_else d (Value v) = v
-or_else d Past = d
+abbrev pub or_else : ℕ → Result ℕ NumberError → ℕ
+or_else d (Ok v) = v
+or_else d (Err e) = d
 
 -- up to 32 bits
 up_to_32 : (d v : ℕ) → or_else d (up_to (2 ^ 32 - 1) v) ≡ cond (ltb v (2 ^ 32)) v d
@@ -51,7 +50,7 @@ number_run d (c ∷ s) =
     (λ e. rw (count_while_no is_digit c s e))
 
 -- by position: what was read is x
-pub number_at_lem : (d : ℕ) (line : List ℕ) (at : ℕ) (r : numbers.Read) → r ≡ number_at (2 ^ 32 - 1) line at → (x : Digits) → r.digits ≡ x
+pub number_at_lem : (d : ℕ) (line : List ℕ) (at : ℕ) (r : Read (Result ℕ NumberError)) → r ≡ number_at (2 ^ 32 - 1) line at → (x : Result ℕ NumberError) → r.value ≡ x
     → record { value = or_else d x; next = r.next } ≡ number_or d line at
 unfolding number_at number_or
 number_at_lem d line at r e x f = rw (← f, e, number_run d (drop at line))
@@ -99,8 +98,8 @@ module _ (ed : Edition) (line : List ℕ) (at : ℕ) where
   slash_there : drop width (drop at line) ≡ drop (at + width) line
   slash_there = drop-drop width at line
 
-  abbrev read_as : Length → Suffix
-  read_as l = Read l.num l.den (at + l.used)
+  abbrev read_as : Length → Result (Read Fraction) Refusal
+  read_as l = suffix_read l.num l.den (at + l.used)
 
   -- k slashes count
   module _ (k : ℕ) (e : slashes ed (drop (at + width) line) ≡ k) where
@@ -116,18 +115,18 @@ module _ (ed : Edition) (line : List ℕ) (at : ℕ) where
     by_count m = ap read_as (sym (length_by ed (drop at line) k counted)) ∙ rw (many ∙ m, suffix_at)
 
     -- or more
-    by_more : ltb 31 k ≡ true → Refused ≡ suffix_at ed line at
+    by_more : ltb 31 k ≡ true → suffix_refused ≡ suffix_at ed line at
     unfolding suffix_at
     by_more m = rw (many ∙ m, suffix_at)
 
   -- no slash: the numerator alone
-  pub suffix_plain : (get_or line (number_or 1 line at).next 0 ≡ 47 → ⊥) → Read (number_or 1 line at).value 1 (number_or 1 line at).next ≡ suffix_at ed line at
+  pub suffix_plain : (get_or line (number_or 1 line at).next 0 ≡ 47 → ⊥) → suffix_read (number_or 1 line at).value 1 (number_or 1 line at).next ≡ suffix_at ed line at
   unfolding number_or length_over
   suffix_plain h = by_count 0 (no_slash ed (drop (at + width) line) (rw (first_at line (at + width)) (ne_eqb _ _ h))) refl
 
   -- one slash, and the denominator
   pub suffix_slash : get_or line (number_or 1 line at).next 0 ≡ 47 → is_run ed line (number_or 1 line at).next ≡ false
-      → Read (number_or 1 line at).value (number_or 2 line ((number_or 1 line at).next + 1)).value (number_or 2 line ((number_or 1 line at).next + 1)).next ≡ suffix_at ed line at
+      → suffix_read (number_or 1 line at).value (number_or 2 line ((number_or 1 line at).next + 1)).value (number_or 2 line ((number_or 1 line at).next + 1)).next ≡ suffix_at ed line at
   unfolding number_or length_over
   suffix_slash h r =
       let j : at + (width + 1) ≡ at + width + 1 = omega arith in
@@ -159,33 +158,33 @@ module _ (num : ℕ) (line : List ℕ) (at e : ℕ) (h : e ≡ end_of (is "/") l
   count_is : e - at ≡ count_while (is "/") (drop at line)
   count_is = omega (arith, h)
 
-  pub too_many : 31 < e - at → Refused ≡ halved_by num line at
+  pub too_many : 31 < e - at → suffix_refused ≡ halved_by num line at
   unfolding halved_for
   too_many m = rw (lt-ltb 31 (count_while (is "/") (drop at line)) (omega (arith, m, count_is)), halved_for)
 
-  pub not_too_many : e - at ≤ 31 → Read num (1 * 2 ^ (e - at) % 4294967296) e ≡ halved_by num line at
+  pub not_too_many : e - at ≤ 31 → suffix_read num (1 * 2 ^ (e - at) % 4294967296) e ≡ halved_by num line at
   unfolding halved_for
   not_too_many m =
       let l : e - at < 32 = omega (arith, m) in
       let f : ltb 31 (count_while (is "/") (drop at line)) ≡ false = le-ltb 31 (count_while (is "/") (drop at line)) (omega (arith, l, count_is)) in
-      (λ i. Read num ((power (e - at) l ∙ ap (λ k. 2 ^ k) count_is) i) (h i)) ∙ rw (f, halved_for)
+      (λ i. suffix_read num ((power (e - at) l ∙ ap (λ k. 2 ^ k) count_is) i) (h i)) ∙ rw (f, halved_for)
 
 -- a slash stands within the line
 pub slash_within : (line : List ℕ) (i : ℕ) → get_or line i 0 ≡ 47 → i < length line
 slash_within line i e = run_within (λ c. eqb c 47) refl line i (eq-eqb _ _ e)
 
 -- a number that was read fits 32 bits
-pub number_small : (line : List ℕ) (at v : ℕ) → (number_at (2 ^ 32 - 1) line at).digits ≡ Value v → v ≤ 2 ^ 32 - 1
+pub number_small : (line : List ℕ) (at v : ℕ) → (number_at (2 ^ 32 - 1) line at).value ≡ Ok v → v ≤ 2 ^ 32 - 1
 unfolding number_at
 number_small line at v e = value_le (2 ^ 32 - 1) (run is_digit (drop at line)) v e
 
 -- WHAT A SUFFIX SAYS: refusal 22, or a length
 module _ (ed : Edition) (line : List ℕ) (at : ℕ) where
-  pub was_refused : suffix_at ed line at ≡ Refused → many_slashes ed (drop at line) ≡ true
+  pub was_refused : ((x : Read Fraction) → suffix_at ed line at ≡ Ok x → ⊥) → many_slashes ed (drop at line) ≡ true
   unfolding suffix_at
-  was_refused e =
+  was_refused n =
       by_test (many_slashes ed (drop at line)) (λ m. m)
-      (λ m. let q : read_as ed line at (length_of ed (drop at line)) ≡ Refused = rw (m, suffix_at) at e in let z : ◌≡◌ {A = ℕ} 0 1 = cc in absurd (omega (arith, z)))
+      (λ m. absurd (n (record { value = record { num = (length_of ed (drop at line)).num; den = (length_of ed (drop at line)).den }; next = at + (length_of ed (drop at line)).used }) (rw (m, suffix_at))))
 
   pub record WasRead (num den next : ℕ) : Type 0 where
     pub few : many_slashes ed (drop at line) ≡ false
@@ -193,10 +192,17 @@ module _ (ed : Edition) (line : List ℕ) (at : ℕ) where
     pub den_is : den ≡ (length_of ed (drop at line)).den
     pub next_is : next ≡ at + (length_of ed (drop at line)).used
 
-  pub was_read : (num den next : ℕ) → suffix_at ed line at ≡ Read num den next → WasRead num den next
+  pub was_read : (num den next : ℕ) → suffix_at ed line at ≡ suffix_read num den next → WasRead num den next
   unfolding suffix_at
   was_read num den next e =
       by_test (many_slashes ed (drop at line))
-      (λ m. let q : Refused ≡ Read num den next = rw (m, suffix_at) at e in let z : ◌≡◌ {A = ℕ} 0 1 = cc in absurd (omega (arith, z)))
-      (λ m. let q : read_as ed line at (length_of ed (drop at line)) ≡ Read num den next = rw (m, suffix_at) at e in
-      record { few = m; num_is = cc; den_is = cc; next_is = cc })
+      (λ m. let q : suffix_refused ≡ suffix_read num den next = rw (m, suffix_at) at e in let z : ◌≡◌ {A = ℕ} 0 1 = cc in absurd (omega (arith, z)))
+      (λ m. let q : read_as ed line at (length_of ed (drop at line)) ≡ suffix_read num den next = rw (m, suffix_at) at e in
+      let l = length_of ed (drop at line) in
+      let r : ◌≡◌ {A = Read Fraction} (record { value = record { num = l.num; den = l.den }; next = at + l.used }) (record { value = record { num = num; den = den }; next = next }) = cc in
+      record {
+        few = m;
+        num_is = sym (ap (λ (x : Read Fraction). x.value.num) r);
+        den_is = sym (ap (λ (x : Read Fraction). x.value.den) r);
+        next_is = sym (ap (λ (x : Read Fraction). x.next) r);
+      })

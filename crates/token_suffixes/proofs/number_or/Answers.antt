@@ -1,6 +1,6 @@
 -- `token_suffixes::number_or` meets its contract.
 use mathlib.Core.Path.{◌≡◌, refl, sym, ap, ◌∙◌}
-use mathlib.Core.Bool.{true, false}
+use mathlib.Core.Bool.{true}
 use Prim.Native.Nat.{◌-◌, ◌≤◌, ◌<◌, ◌^◌}
 use native.Mathlib.Omega.{arith}
 use lib.ListN.{length, get_or}
@@ -42,16 +42,13 @@ returns-then-not-is_digit-2 c =
     let last = sym (rw c.byte_at.ensures at c.is_digit-2.ensures) ∙ c.if-not-is_digit-2.true in
     rw c.byte_at-first.ensures (number_one a.other a.line.now a.at digit last)
 
-pub overflow_cast-result-in-Value : goal.overflow_cast-result-in-Value
-overflow_cast-result-in-Value c =
-    let small : c.in-Value.v ≤ 2 ^ 32 - 1 = number_small c.args.line.now c.args.at _ (ap (λ x. x.digits) (sym c.read_number-read.ensures) ∙ c.in-Value.is) in
+pub overflow_cast-result-in-Ok : goal.overflow_cast-result-in-Ok
+overflow_cast-result-in-Ok c =
+    let small : c.in-Ok.v ≤ 2 ^ 32 - 1 = number_small c.args.line.now c.args.at _ (ap (λ x. x.value) (sym c.read_number-read.ensures) ∙ c.in-Ok.is) in
     omega (arith, small)
 
-pub returns-in-Value : goal.returns-in-Value
-returns-in-Value c = number_at_lem _ _ _ _ c.read_number-read.ensures _ c.in-Value.is
+pub returns-in-Ok : goal.returns-in-Ok
+returns-in-Ok c = number_at_lem _ _ _ _ c.read_number-read.ensures _ c.in-Ok.is
 
-pub returns-in-Nothing : goal.returns-in-Nothing
-returns-in-Nothing c = number_at_lem _ _ _ _ c.read_number-read.ensures _ c.in-Nothing.is
-
-pub returns-in-Past : goal.returns-in-Past
-returns-in-Past c = number_at_lem _ _ _ _ c.read_number-read.ensures _ c.in-Past.is
+pub returns-in-Err : goal.returns-in-Err
+returns-in-Err c = number_at_lem _ _ _ _ c.read_number-read.ensures _ c.in-Err.is
