@@ -16,14 +16,21 @@ use Rattle.standard.specs.Bytes.{is, is_digit, first}
 use Rattle.standard.specs.Passes.{Item, pass, passes, passes_of, rising}
 use Rattle.reader.specs.Pieces.{pieces, separator}
 use Rattle.reader.specs.PassesInTurn.{pass_number, single, range, item_of, last_pass}
-use Rattle.text_numbers.specs.declared.Digits.{Digits}
-use Rattle.text_numbers.specs.Digits.{written, option}
+use Rattle.std.specs.Prelude as code
+use Rattle.std.specs.Prelude.{Result, Ok, Err}
+use Rattle.std.specs.Result.{result_ok}
+use Rattle.text_bytes.specs.declared.Read.{Read}
+use Rattle.text_bytes.specs.Options.{option}
+use Rattle.text_numbers.specs.declared.NumberError.{NumberError}
+use Rattle.text_numbers.specs.Digits.{written}
 use Rattle.text_numbers.proofs.Numbers.{option_run}
 use Rattle.reader.proofs.Digits.{digits_le}
-use Rattle.token_passes.specs.Passes.{pass_for, is_item_byte, item_at, item_for}
-use Rattle.token_passes.specs.declared.Number.TheVariants as number
-use Rattle.token_passes.specs.declared.Item.TheVariants as item
+use Rattle.token_passes.specs.Passes.{pass_for, is_item_byte, item_at, item_read, item_for}
 use Rattle.token_passes.proofs.Cuts.{pieces_on, pieces_last, ends_on, ends_here}
+
+-- what is read alike has the same value and the same position after it
+pub read_parts : {A : Type 0} (x y : Read A) → code.Some x ≡ code.Some y → (x.value ≡ y.value) × (x.next ≡ y.next)
+read_parts x y e = let r : x ≡ y = cc in (ap (λ z. z.value) r, ap (λ z. z.next) r)
 
 -- NUMBERS
 -- the digits begin with 0 where the text does
@@ -39,23 +46,30 @@ module _ (line : List ℕ) (at : ℕ) where
   unfolding pass_number
   zero_leads e = rw (zero_first (drop at line) ∙ eq-eqb _ 48 (first_at line at ∙ e))
 
-  module _ (n : get_or line at 0 ≡ 48 → ⊥) (d : Digits) (e : written 32 (run is_digit (drop at line)) ≡ d) where
-    pub number_by : pass_number (run is_digit (drop at line)) ≡ option d
+  module _ (n : get_or line at 0 ≡ 48 → ⊥) (d : Result ℕ NumberError) (e : written 32 (run is_digit (drop at line)) ≡ d) where
+    pub number_by : pass_number (run is_digit (drop at line)) ≡ option (result_ok d)
     unfolding pass_number
     number_by =
         let z : is "0" (first (run is_digit (drop at line))) ≡ false = zero_first (drop at line) ∙ ne_eqb _ 48 (λ k. n (sym (first_at line at) ∙ k)) in
-        rw z (sym (option_run 32 (drop at line)) ∙ ap option e)
+        rw z (sym (option_run 32 (drop at line)) ∙ ap (λ x. option (result_ok x)) e)
+
+    pub no_number : ((v : ℕ) → d ≡ Ok v → ⊥) → pass_number (run is_digit (drop at line)) ≡ none
+    no_number f = number_by ∙ go d f
+      where
+        go : (x : Result ℕ NumberError) → ((v : ℕ) → x ≡ Ok v → ⊥) → option (result_ok x) ≡ none
+        go (Ok v) k = absurd (k v refl)
+        go (Err y) k = refl
 
 -- in the code's type
-pub pass_none : (next : ℕ) (o : Option ℕ) → pass_for next o ≡ number.Nothing → o ≡ none
+pub pass_none : (next : ℕ) (o : Option ℕ) → pass_for next o ≡ code.None → o ≡ none
 unfolding pass_for
 pass_none next none e = refl
 pass_none next (some v) e = let z : ◌≡◌ {A = ℕ} 0 1 = cc in absurd (omega arith)
 
-pub pass_some : (next : ℕ) (o : Option ℕ) (v n : ℕ) → pass_for next o ≡ number.Value v n → (o ≡ some v) × (n ≡ next)
+pub pass_some : (next : ℕ) (o : Option ℕ) (v n : ℕ) → pass_for next o ≡ code.Some (record { value = v; next = n }) → (o ≡ some v) × (n ≡ next)
 unfolding pass_for
 pass_some next none v n e = let z : ◌≡◌ {A = ℕ} 0 1 = cc in absurd (omega arith)
-pass_some next (some w) v n e = let p : w ≡ v = cc in let q : n ≡ next = cc in (ap some p, q)
+pass_some next (some w) v n e = let r = read_parts _ _ e in (ap some r.0, sym r.1)
 
 -- ITEMS
 hyphen_apart : (c : ℕ) → is "-" c ≡ true → is_digit c ≡ false
@@ -156,19 +170,19 @@ module _ (line : List ℕ) (i low h : ℕ) (k : h ≡ end_of is_digit line i) wh
 
   -- THE ANSWERS
   -- no first number
-  pub no_first : (next : ℕ) → pass_number (run is_digit (drop i line)) ≡ none → item.Nothing ≡ item_for next (item_at low line i)
+  pub no_first : (next : ℕ) → pass_number (run is_digit (drop i line)) ≡ none → code.None ≡ item_for next (item_at low line i)
   unfolding item_for
   no_first next a = rw (by_form (single_none low _ a) (λ u. range_no_first low _ u a) refl)
 
   module _ (from : ℕ) (a : pass_number (run is_digit (drop i line)) ≡ some from) where
     -- it does not rise
-    pub low_first : (next : ℕ) → from ≤ low → item.Nothing ≡ item_for next (item_at low line i)
+    pub low_first : (next : ℕ) → from ≤ low → code.None ≡ item_for next (item_at low line i)
     unfolding item_for
     low_first next l = rw (by_form (single_low low from _ a l) (λ u. range_low low from _ u a l) refl)
 
     module _ (l : low < from) where
       -- one number
-      pub one_pass : (get_or line h 0 ≡ 45 → ⊥) → item.Passes from from h ≡ item_for (end_of is_item_byte line i) (item_at low line i)
+      pub one_pass : (get_or line h 0 ≡ 45 → ⊥) → item_read from from h ≡ item_for (end_of is_item_byte line i) (item_at low line i)
       unfolding item_for
       one_pass n =
           let m : is "-" (get_or line h 0) ≡ false = ne_eqb _ 45 n in
@@ -179,7 +193,7 @@ module _ (line : List ℕ) (i low h : ℕ) (k : h ≡ end_of is_digit line i) wh
         hyphen = eq-eqb _ 45 m
 
         -- no second number
-        pub no_second : (next : ℕ) → pass_number (run is_digit (drop (h + 1) line)) ≡ none → item.Nothing ≡ item_for next (item_at low line i)
+        pub no_second : (next : ℕ) → pass_number (run is_digit (drop (h + 1) line)) ≡ none → code.None ≡ item_for next (item_at low line i)
         unfolding item_for
         no_second next b =
             let q : item_at low line i ≡ none = by_test (is "-" (get_or line e 0)) (λ y. third hyphen e j y) (λ y. both hyphen e j y ∙ range_no_second low _ _ b) in
@@ -187,19 +201,19 @@ module _ (line : List ℕ) (i low h : ℕ) (k : h ≡ end_of is_digit line i) wh
 
         module _ (to : ℕ) (b : pass_number (run is_digit (drop (h + 1) line)) ≡ some to) where
           -- it does not rise
-          pub low_second : (next : ℕ) → to ≤ from → item.Nothing ≡ item_for next (item_at low line i)
+          pub low_second : (next : ℕ) → to ≤ from → code.None ≡ item_for next (item_at low line i)
           unfolding item_for
           low_second next r =
               let q : item_at low line i ≡ none = by_test (is "-" (get_or line e 0)) (λ y. third hyphen e j y) (λ y. both hyphen e j y ∙ range_order low from to _ _ a b r) in
               rw q
 
           -- a third number
-          pub a_third : (next : ℕ) → get_or line e 0 ≡ 45 → item.Nothing ≡ item_for next (item_at low line i)
+          pub a_third : (next : ℕ) → get_or line e 0 ≡ 45 → code.None ≡ item_for next (item_at low line i)
           unfolding item_for
           a_third next y = rw (third hyphen e j (eq-eqb _ 45 y))
 
           -- two numbers
-          pub two_passes : from < to → (get_or line e 0 ≡ 45 → ⊥) → item.Passes from to e ≡ item_for (end_of is_item_byte line i) (item_at low line i)
+          pub two_passes : from < to → (get_or line e 0 ≡ 45 → ⊥) → item_read from to e ≡ item_for (end_of is_item_byte line i) (item_at low line i)
           unfolding item_for
           two_passes r n =
               let y : is "-" (get_or line e 0) ≡ false = ne_eqb _ 45 n in
@@ -254,28 +268,30 @@ pub record Took (low : ℕ) (o : Option Item) (from to : ℕ) : Type 0 where
   pub order : from ≤ to
   pub top : to ≤ 32
 
-took_by : (low end : ℕ) (o : Option Item) (from to next : ℕ) → ((x : Item) → o ≡ some x → Rises low x) → item_for end o ≡ item.Passes from to next → (next ≡ end) × Took low o from to
+took_by : (low end : ℕ) (o : Option Item) (from to next : ℕ) → ((x : Item) → o ≡ some x → Rises low x) → item_for end o ≡ item_read from to next → (next ≡ end) × Took low o from to
 unfolding item_for Rises last_pass passes_of rising
 took_by low end none from to next g e = let y : ◌≡◌ {A = ℕ} 0 1 = cc in absurd (omega arith)
 took_by low end (some (pass a)) from to next g e =
-    let p : a ≡ from = cc in
-    let q : a ≡ to = cc in
-    let n : next ≡ end = cc in
+    let r = read_parts _ _ e in
+    let p : a ≡ from = ap (λ x. x.from) r.0 in
+    let q : a ≡ to = ap (λ x. x.to) r.0 in
+    let n : next ≡ end = sym r.1 in
     let w = g (pass a) refl in
     let d : to - from ≡ 0 = omega arith in
     (n, record { item = pass a; is_item = refl; runs = rw (d, ← p); last = q; above = omega (arith, w.0); order = omega arith; top = omega (arith, w.1) })
 took_by low end (some (passes a b)) from to next g e =
-    let p : a ≡ from = cc in
-    let q : b ≡ to = cc in
-    let n : next ≡ end = cc in
+    let r = read_parts _ _ e in
+    let p : a ≡ from = ap (λ x. x.from) r.0 in
+    let q : b ≡ to = ap (λ x. x.to) r.0 in
+    let n : next ≡ end = sym r.1 in
     let w = g (passes a b) refl in
     (n, record { item = passes a b; is_item = refl; runs = rw (p, q); last = q; above = omega (arith, w.0); order = omega (arith, w.1); top = omega (arith, w.2) })
 
-pub took : (low : ℕ) (line : List ℕ) (i end from to next : ℕ) → item_for end (item_at low line i) ≡ item.Passes from to next → (next ≡ end) × Took low (item_at low line i) from to
+pub took : (low : ℕ) (line : List ℕ) (i end from to next : ℕ) → item_for end (item_at low line i) ≡ item_read from to next → (next ≡ end) × Took low (item_at low line i) from to
 unfolding item_at
 took low line i end from to next e = took_by low end (item_at low line i) from to next (λ x k. item_rises low (pieces (separator (is "-")) 0 (run is_item_byte (drop i line))) x k) e
 
-pub nothing_none : (end : ℕ) (o : Option Item) → item_for end o ≡ item.Nothing → o ≡ none
+pub nothing_none : (end : ℕ) (o : Option Item) → item_for end o ≡ code.None → o ≡ none
 unfolding item_for
 nothing_none end none e = refl
 nothing_none end (some (pass a)) e = let y : ◌≡◌ {A = ℕ} 0 1 = cc in absurd (omega arith)

@@ -17,9 +17,10 @@ use Rattle.standard.specs.Passes.{Item, passes_of, rising}
 use Rattle.reader.specs.PassLists.{is_pass_byte}
 use Rattle.reader.specs.PassesInTurn.{last_pass, in_turn, pass_list}
 use Rattle.reader.specs.Records.{pass_bits}
-use Rattle.token_passes.specs.Passes.{is_item_byte, item_at, passes_at, passes_for, first_for}
+use Rattle.token_passes.specs.Passes.{is_item_byte, item_at, passes_at, passes_read, passes_for, first_for}
+use Rattle.std.specs.Prelude as code
+use Rattle.text_bytes.specs.declared.Read.{Read}
 use Rattle.token_passes.specs.declared.Passes.{Passes}
-use Rattle.token_passes.specs.declared.Passes.TheVariants.{Read, Refused}
 use Rattle.token_passes.proofs.Cuts.{pieces_on, pieces_last, ends_on, ends_here}
 use Rattle.token_passes.proofs.Items.{Took}
 use Rattle.token_passes.proofs.Bits.{bits_below, bits_append}
@@ -68,14 +69,14 @@ unfoldable pub joined : ℕ → ℕ → Option (List ℕ) → Option (ℕ × ℕ
 joined first bits none = none
 joined first bits (some ps) = some (first_for first (get_or ps 0 0), bits + pass_bits ps)
 
-unfoldable answer : ℕ → Option (ℕ × ℕ) → Passes
-answer next none = Refused
-answer next (some x) = Read x.0 x.1 next
+unfoldable answer : ℕ → Option (ℕ × ℕ) → code.Option (Read Passes)
+answer next none = code.None
+answer next (some x) = passes_read x.0 x.1 next
 
 answered : (next : ℕ) (o : Option (List ℕ)) → answer next (joined 0 0 o) ≡ passes_for next o
 unfolding answer joined passes_for
 answered next none = refl
-answered next (some ps) = ap (λ b. Read (get_or ps 0 0) b next) (zero-add (pass_bits ps))
+answered next (some ps) = ap (λ b. passes_read (get_or ps 0 0) b next) (zero-add (pass_bits ps))
 
 first_none : (f : ℕ) → f ≡ first_for f 0
 first_none f = by_test (eqb f 0) (λ e. rw e (eqb-true f 0 e)) (λ e. rw e)
@@ -110,7 +111,7 @@ passing_start line at = record { few = omega arith; small = omega arith; ends = 
 
 module _ (line : List ℕ) (at first bits low i : ℕ) (r : Passing line at first bits low i) where
   -- no item
-  pub passing_none : (next : ℕ) → item_at low line i ≡ none → Refused ≡ passes_for next (passes_at 0 line at)
+  pub passing_none : (next : ℕ) → item_at low line i ≡ none → code.None ≡ passes_for next (passes_at 0 line at)
   unfolding answer joined
   passing_none next n =
       ap (λ o. answer next (joined first bits o)) (sym (no_list line i low (end_of is_item_byte line i) refl n)) ∙ ap (answer next) r.all ∙ answered next (passes_at 0 line at)
@@ -124,7 +125,7 @@ module _ (line : List ℕ) (at first bits low i : ℕ) (r : Passing line at firs
 
     -- the last item
     pub passing_last : (get_or line next 0 ≡ 44 → ⊥) → (f b : ℕ) → f ≡ first_for first from → b ≡ pass_bits (rising from (suc (to - from)))
-        → Read f (bits + b) next ≡ passes_for (end_of is_pass_byte line at) (passes_at 0 line at)
+        → passes_read f (bits + b) next ≡ passes_for (end_of is_pass_byte line at) (passes_at 0 line at)
     unfolding answer joined pass_bits
     passing_last n f b ef eb =
         let m : is "," (get_or line next 0) ≡ false = ne_eqb _ 44 n in
@@ -134,7 +135,7 @@ module _ (line : List ℕ) (at first bits low i : ℕ) (r : Passing line at firs
         ∙ ap (joined first bits) (sym (list_last line i low next k m)) ∙ r.all in
         let z : bits + b ≡ bits + b + 0 = sym (add-zero (bits + b)) in
         let g = first_none f in
-        (λ q. Read (g q) (z q) (e q)) ∙ ap (answer (end_of is_pass_byte line at)) j ∙ answered (end_of is_pass_byte line at) (passes_at 0 line at)
+        (λ q. passes_read (g q) (z q) (e q)) ∙ ap (answer (end_of is_pass_byte line at)) j ∙ answered (end_of is_pass_byte line at) (passes_at 0 line at)
 
     -- another item
     pub passing_on : get_or line next 0 ≡ 44 → (f b : ℕ) → f ≡ first_for first from → b ≡ pass_bits (rising from (suc (to - from))) → Passing line at f (bits + b) to (next + 1)

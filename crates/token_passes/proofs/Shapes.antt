@@ -1,5 +1,5 @@
 -- Numbers, items and lists by their shape, by position.
-use Prim.Native.Nat.{ℕ, ◌+◌, ◌-◌, ◌≤◌, ◌<◌}
+use Prim.Native.Nat.{ℕ, ◌+◌, ◌≤◌, ◌<◌}
 use mathlib.Core.Path.{◌≡◌, refl, sym, ap, ◌∙◌}
 use mathlib.Core.Bool.{Bool, true, false, cond, not, ◌&&◌, false≢true}
 use mathlib.Core.Option.{Option, none, some}
@@ -16,23 +16,24 @@ use Rattle.standard.specs.Passes.{Item, pass, passes}
 use Rattle.reader.specs.PassLists.{is_number, list_number, one_number, two_numbers, list_item, cons_item, list_items, numbers_in, is_pass, is_pass_byte}
 use Rattle.reader.specs.PassesInTurn.{list_fault}
 use Rattle.reader.proofs.PassTests.{lead_positive}
-use Rattle.text_numbers.specs.declared.Digits.{Digits}
-use Rattle.text_numbers.specs.declared.Digits.TheVariants.{Nothing, Value, Past}
+use Rattle.std.specs.Prelude as code
+use Rattle.std.specs.Prelude.{Result, Ok, Err}
+use Rattle.text_bytes.specs.declared.Read.{Read}
+use Rattle.text_numbers.specs.declared.NumberError.{NumberError}
+use Rattle.text_numbers.specs.declared.NumberError.TheVariants.{Empty, TooLarge}
 use Rattle.text_numbers.specs.Digits.{written}
 use Rattle.token_passes.specs.Passes.{is_item_byte}
-use Rattle.token_passes.specs.Faults.{number_shape, list_item_at, item_shape, list_items_at}
-use Rattle.token_passes.specs.declared.Shape.{Shape}
-use Rattle.token_passes.specs.declared.Shape.TheVariants.{Right, Wrong}
+use Rattle.token_passes.specs.Faults.{shape_read, number_shape, list_item_at, item_shape, list_items_at}
 use Rattle.token_passes.proofs.Cuts.{pieces_on, pieces_last}
-use Rattle.token_passes.proofs.Items.{one_piece, alone_ends, two_pieces, both_ends, more_pieces}
+use Rattle.token_passes.proofs.Items.{read_parts, one_piece, alone_ends, two_pieces, both_ends, more_pieces}
 use Rattle.token_passes.proofs.Reading.{comma_agree, comma_apart}
 
 -- NUMBERS: t are digits
 -- without a leading zero: by what the digits write, up to 32
-unfoldable pub by_digits : ℕ → Digits → Shape
-by_digits next Nothing = Wrong
-by_digits next (Value v) = Right true next
-by_digits next Past = Right false next
+unfoldable pub by_digits : ℕ → Result ℕ NumberError → code.Option (Read Bool)
+by_digits next (Err Empty) = code.None
+by_digits next (Ok v) = shape_read true next
+by_digits next (Err TooLarge) = shape_read false next
 
 pub plain_number : (next : ℕ) (t : List ℕ) → all is_digit t ≡ true → is "0" (first t) ≡ false → by_digits next (written 32 t) ≡ number_shape next (list_number t)
 unfolding by_digits written number_shape list_number is_number
@@ -42,29 +43,29 @@ plain_number next (c ∷ s) h z =
     rw (h, z) (by_test (leb (decimal 0 (c ∷ s)) 32) (λ q. rw (p, q)) (λ q. rw (p, q)))
 
 -- a 0 by itself, which is no pass
-pub lone_zero : (next : ℕ) (t : List ℕ) → is "0" (first t) ≡ true → length t ≤ 1 → Right false next ≡ number_shape next (list_number t)
+pub lone_zero : (next : ℕ) (t : List ℕ) → is "0" (first t) ≡ true → length t ≤ 1 → shape_read false next ≡ number_shape next (list_number t)
 unfolding number_shape list_number is_number decimal
 lone_zero next [] z l = absurd (false≢true z)
 lone_zero next (c ∷ []) z l = rw (eqb-true c 48 z)
 lone_zero next (c ∷ d ∷ s) z l = absurd (omega (arith, l))
 
 -- a leading zero
-pub leading_zero : (next : ℕ) (t : List ℕ) → is "0" (first t) ≡ true → 1 < length t → Wrong ≡ number_shape next (list_number t)
+pub leading_zero : (next : ℕ) (t : List ℕ) → is "0" (first t) ≡ true → 1 < length t → code.None ≡ number_shape next (list_number t)
 unfolding number_shape list_number is_number
 leading_zero next t z l =
     let n : eqb (length t) 1 ≡ false = ne_eqb (length t) 1 (λ e. omega (arith, e, l)) in
     rw (z, n) (by_test (not (is_nil t) && all is_digit t) (λ h. rw h) (λ h. rw h))
 
 -- in the code's type
-pub number_none : (next : ℕ) (o : Option ℕ) → number_shape next o ≡ Wrong → o ≡ none
+pub number_none : (next : ℕ) (o : Option ℕ) → number_shape next o ≡ code.None → o ≡ none
 unfolding number_shape
 number_none next none e = refl
 number_none next (some v) e = let z : ◌≡◌ {A = ℕ} 0 1 = cc in absurd (omega arith)
 
-pub number_some : (next : ℕ) (o : Option ℕ) (r : Bool) (n : ℕ) → number_shape next o ≡ Right r n → (v : ℕ) × (o ≡ some v) × (r ≡ is_pass v) × (n ≡ next)
+pub number_some : (next : ℕ) (o : Option ℕ) (r : Bool) (n : ℕ) → number_shape next o ≡ shape_read r n → (v : ℕ) × (o ≡ some v) × (r ≡ is_pass v) × (n ≡ next)
 unfolding number_shape
 number_some next none r n e = let z : ◌≡◌ {A = ℕ} 0 1 = cc in absurd (omega arith)
-number_some next (some v) r n e = let p : r ≡ is_pass v = cc in let q : n ≡ next = cc in (v, refl, p, q)
+number_some next (some v) r n e = let q = read_parts _ _ e in (v, refl, sym q.0, sym q.1)
 
 -- ITEMS
 no_second : (o q : Option ℕ) → q ≡ none → two_numbers o q ≡ none
@@ -89,7 +90,7 @@ module _ (line : List ℕ) (i h : ℕ) (k : h ≡ end_of is_digit line i) where
     third n = rw (more_pieces line i 0 h k m e j n).2
 
   -- THE ANSWERS
-  pub shaped_not_first : (next : ℕ) → list_number (run is_digit (drop i line)) ≡ none → Wrong ≡ item_shape next (list_item_at line i)
+  pub shaped_not_first : (next : ℕ) → list_number (run is_digit (drop i line)) ≡ none → code.None ≡ item_shape next (list_item_at line i)
   unfolding item_shape one_number two_numbers
   shaped_not_first next a =
       let e = end_of is_digit line (h + 1) in
@@ -98,7 +99,7 @@ module _ (line : List ℕ) (i h : ℕ) (k : h ≡ end_of is_digit line i) where
       rw q
 
   module _ (v : ℕ) (a : list_number (run is_digit (drop i line)) ≡ some v) where
-    pub shaped_one : (r : Bool) → r ≡ is_pass v → (get_or line h 0 ≡ 45 → ⊥) → Right r h ≡ item_shape (end_of is_item_byte line i) (list_item_at line i)
+    pub shaped_one : (r : Bool) → r ≡ is_pass v → (get_or line h 0 ≡ 45 → ⊥) → shape_read r h ≡ item_shape (end_of is_item_byte line i) (list_item_at line i)
     unfolding item_shape one_number numbers_in
     shaped_one r p n =
         let m : is "-" (get_or line h 0) ≡ false = ne_eqb _ 45 n in
@@ -108,33 +109,33 @@ module _ (line : List ℕ) (i h : ℕ) (k : h ≡ end_of is_digit line i) where
       hyphen : is "-" (get_or line h 0) ≡ true
       hyphen = eq-eqb _ 45 m
 
-      pub shaped_not_second : (next : ℕ) → list_number (run is_digit (drop (h + 1) line)) ≡ none → Wrong ≡ item_shape next (list_item_at line i)
+      pub shaped_not_second : (next : ℕ) → list_number (run is_digit (drop (h + 1) line)) ≡ none → code.None ≡ item_shape next (list_item_at line i)
       unfolding item_shape
       shaped_not_second next b =
           let q : list_item_at line i ≡ none = by_test (is "-" (get_or line e 0)) (λ y. third hyphen e j y) (λ y. both hyphen e j y ∙ no_second _ _ b) in
           rw q
 
-      pub shaped_no_third : (next : ℕ) → get_or line e 0 ≡ 45 → Wrong ≡ item_shape next (list_item_at line i)
+      pub shaped_no_third : (next : ℕ) → get_or line e 0 ≡ 45 → code.None ≡ item_shape next (list_item_at line i)
       unfolding item_shape
       shaped_no_third next y = rw (third hyphen e j (eq-eqb _ 45 y))
 
       pub shaped_two : (w : ℕ) → list_number (run is_digit (drop (h + 1) line)) ≡ some w → (r : Bool) → r ≡ (is_pass v && is_pass w) → (get_or line e 0 ≡ 45 → ⊥)
-          → Right r e ≡ item_shape (end_of is_item_byte line i) (list_item_at line i)
+          → shape_read r e ≡ item_shape (end_of is_item_byte line i) (list_item_at line i)
       unfolding item_shape two_numbers numbers_in
       shaped_two w b r p n =
           let y : is "-" (get_or line e 0) ≡ false = ne_eqb _ 45 n in
           rw (both hyphen e j y, a, b, both_ends line i 0 h k hyphen e j y, and_true (is_pass w), p)
 
 -- in the code's type
-pub item_none : (next : ℕ) (o : Option Item) → item_shape next o ≡ Wrong → o ≡ none
+pub item_none : (next : ℕ) (o : Option Item) → item_shape next o ≡ code.None → o ≡ none
 unfolding item_shape
 item_none next none e = refl
 item_none next (some i) e = let z : ◌≡◌ {A = ℕ} 0 1 = cc in absurd (omega arith)
 
-pub item_some : (next : ℕ) (o : Option Item) (r : Bool) (n : ℕ) → item_shape next o ≡ Right r n → (i : Item) × (o ≡ some i) × (r ≡ all is_pass (numbers_in (i ∷ []))) × (n ≡ next)
+pub item_some : (next : ℕ) (o : Option Item) (r : Bool) (n : ℕ) → item_shape next o ≡ shape_read r n → (i : Item) × (o ≡ some i) × (r ≡ all is_pass (numbers_in (i ∷ []))) × (n ≡ next)
 unfolding item_shape
 item_some next none r n e = let z : ◌≡◌ {A = ℕ} 0 1 = cc in absurd (omega arith)
-item_some next (some i) r n e = let p : r ≡ all is_pass (numbers_in (i ∷ [])) = cc in let q : n ≡ next = cc in (i, refl, p, q)
+item_some next (some i) r n e = let q = read_parts _ _ e in (i, refl, sym q.0, sym q.1)
 
 -- LISTS
 module _ (line : List ℕ) (i e : ℕ) (k : e ≡ end_of is_item_byte line i) where

@@ -8,82 +8,74 @@ ghost use Rattle.standard.specs.Passes.{rising};
 ghost use Rattle.reader.specs.PassLists.{list_number, is_pass_byte};
 ghost use Rattle.reader.specs.PassesInTurn.{pass_number, list_fault};
 ghost use Rattle.reader.specs.Records.{pass_bits};
+ghost use Rattle.refusals.specs.Numbers.{number_of};
 ghost use Rattle.token_passes.specs.Passes.{pass_for, is_item_byte, item_at, item_for, passes_at, passes_for, first_for};
 ghost use Rattle.token_passes.specs.Faults.{number_shape, list_item_at, item_shape, list_items_at};
 
+use refusals::Refusal;
+use text_bytes::Read;
+use text_numbers::NumberError;
+
 const LAST_PASS: u64 = 32;
 
-// A number of 1 to 32 and the position after its digits; or none.
+// The passes from one to another, or to itself.
 #[derive(Clone, Copy)]
-enum Number {
-    Value { value: u8, next: usize },
-    Nothing,
+struct Item {
+    from: u8,
+    to: u8,
 }
 
-// The passes from one to another, or to itself, and the position after them; or none.
-#[derive(Clone, Copy)]
-enum Item {
-    Passes { from: u8, to: u8, next: usize },
-    Nothing,
+// The first pass, and pass p as bit p - 1.
+#[derive(Clone, Copy, Debug, PartialEq, Eq)]
+pub struct Passes {
+    pub first: u8,
+    pub bits: u32,
 }
 
-// The first pass, pass p as bit p - 1, and the position after the list; or none (refused as `list_fault` says).
-#[derive(Clone, Copy)]
-pub enum Passes {
-    Read { first: u8, bits: u32, next: usize },
-    Refused,
-}
-
-fn pass_number(line: &[u8], at: usize) -> Number
+// A number of 1 to 32.
+fn pass_number(line: &[u8], at: usize) -> Option<Read<u8>>
     ensures { result ≡ pass_for (end_of is_digit line.now at) (pass_number (run is_digit (drop at line.now))) }
 {
     if text_bytes::byte_at(line, at) == b'0' {
-        return Number::Nothing;
+        return None;
     }
     let read = text_numbers::read_number(line, at, LAST_PASS);
-    let digits = read.digits;
-    let next = read.next;
-    match digits {
-        text_numbers::Digits::Nothing => Number::Nothing,
-        text_numbers::Digits::Past => Number::Nothing,
-        text_numbers::Digits::Value(value) => Number::Value {
-            value: value as u8,
-            next,
-        },
-    }
+    let Ok(value) = read.value else {
+        return None;
+    };
+    Some(Read {
+        value: value as u8,
+        next: read.next,
+    })
 }
 
 // A pass, or two with a hyphen between; above `low`.
-fn pass_item(line: &[u8], at: usize, low: u8) -> Item
+fn pass_item(line: &[u8], at: usize, low: u8) -> Option<Read<Item>>
     ensures { result ≡ item_for (end_of is_item_byte line.now at) (item_at low line.now at) }
 {
-    let Number::Value {
-        value: from,
-        next: after_first,
-    } = pass_number(line, at)
-    else {
-        return Item::Nothing;
-    };
+    let first = pass_number(line, at)?;
+    let from = first.value;
     if from <= low {
-        return Item::Nothing;
+        return None;
     }
-    if text_bytes::byte_at(line, after_first) != b'-' {
-        return Item::Passes {
-            from,
-            to: from,
-            next: after_first,
-        };
+    if text_bytes::byte_at(line, first.next) != b'-' {
+        return Some(Read {
+            value: Item { from, to: from },
+            next: first.next,
+        });
     }
-    let Number::Value { value: to, next } = pass_number(line, after_first + 1) else {
-        return Item::Nothing;
-    };
+    let last = pass_number(line, first.next + 1)?;
+    let to = last.value;
     if to <= from {
-        return Item::Nothing;
+        return None;
     }
-    if text_bytes::byte_at(line, next) == b'-' {
-        return Item::Nothing;
+    if text_bytes::byte_at(line, last.next) == b'-' {
+        return None;
     }
-    Item::Passes { from, to, next }
+    Some(Read {
+        value: Item { from, to },
+        next: last.next,
+    })
 }
 
 // The passes from one to another as bits.
@@ -94,17 +86,15 @@ fn range_bits(from: u8, to: u8) -> u64
     (1u64 << to) - (1u64 << (from - 1))
 }
 
+// The first pass of a list, 0 where none was met before: 0 is no pass, and an Option would be unwrapped and made again at each item.
 fn first_of(first: u8, from: u8) -> u8
     ensures { result ≡ first_for first from }
 {
-    if first == 0 {
-        return from;
-    }
-    first
+    if first == 0 { from } else { first }
 }
 
-// The pass list at `at`, behind the `[`.
-pub fn parse_passes(line: &[u8], at: usize) -> Passes
+// The pass list at `at`, behind the `[`; or none (refused as `list_fault` says).
+pub fn parse_passes(line: &[u8], at: usize) -> Option<Read<Passes>>
     ensures { result ≡ passes_for (end_of is_pass_byte line.now at) (passes_at 0 line.now at) }
 {
     let mut first: u8 = 0;
@@ -112,55 +102,40 @@ pub fn parse_passes(line: &[u8], at: usize) -> Passes
     let mut low: u8 = 0;
     let mut i = at;
     loop {
-        let Item::Passes { from, to, next } = pass_item(line, i, low) else {
-            return Passes::Refused;
-        };
-        first = first_of(first, from);
-        bits += range_bits(from, to);
-        if text_bytes::byte_at(line, next) != b',' {
-            return Passes::Read {
-                first,
-                bits: bits as u32,
-                next,
-            };
+        let item = pass_item(line, i, low)?;
+        first = first_of(first, item.value.from);
+        bits += range_bits(item.value.from, item.value.to);
+        if text_bytes::byte_at(line, item.next) != b',' {
+            return Some(Read {
+                value: Passes {
+                    first,
+                    bits: bits as u32,
+                },
+                next: item.next,
+            });
         }
-        low = to;
-        i = next + 1;
+        low = item.value.to;
+        i = item.next + 1;
     }
 }
 
-// Of a number or item: well shaped, whether its numbers lie from 1 to 32, and the position after it; or not.
-#[derive(Clone, Copy)]
-enum Shape {
-    Right { in_range: bool, next: usize },
-    Wrong,
-}
-
-// A number of any length without leading zero, or a 0 by itself.
-fn number_shape(line: &[u8], at: usize) -> Shape
+// Whether the number is one of 1 to 32: a number of any length without leading zero, or a 0 by itself. None where it is misshapen.
+fn number_shape(line: &[u8], at: usize) -> Option<Read<bool>>
     ensures { result ≡ number_shape (end_of is_digit line.now at) (list_number (run is_digit (drop at line.now))) }
 {
     let number = text_numbers::read_number(line, at, LAST_PASS);
-    let digits = number.digits;
     let next = number.next;
     if text_bytes::byte_at(line, at) == b'0' {
         if 1 < next - at {
-            return Shape::Wrong;
+            return None;
         }
-        return Shape::Right {
-            in_range: false,
-            next,
-        };
+        return Some(Read { value: false, next });
     }
-    match digits {
-        text_numbers::Digits::Nothing => Shape::Wrong,
-        text_numbers::Digits::Past => Shape::Right {
-            in_range: false,
-            next,
-        },
-        text_numbers::Digits::Value(_) => Shape::Right {
-            in_range: true,
-            next,
+    match number.value {
+        Ok(_) => Some(Read { value: true, next }),
+        Err(error) => match error {
+            NumberError::Empty => None,
+            NumberError::TooLarge => Some(Read { value: false, next }),
         },
     }
 }
@@ -172,63 +147,49 @@ fn both(a: bool, b: bool) -> bool
     a && b
 }
 
-// A number, or two with one hyphen between.
-fn item_shape(line: &[u8], at: usize) -> Shape
+// Whether the numbers of an item are of 1 to 32: a number, or two with one hyphen between. None where it is misshapen.
+fn item_shape(line: &[u8], at: usize) -> Option<Read<bool>>
     ensures { result ≡ item_shape (end_of is_item_byte line.now at) (list_item_at line.now at) }
 {
-    let Shape::Right {
-        in_range: first_in_range,
-        next: after_first,
-    } = number_shape(line, at)
-    else {
-        return Shape::Wrong;
-    };
-    if text_bytes::byte_at(line, after_first) != b'-' {
-        return Shape::Right {
-            in_range: first_in_range,
-            next: after_first,
-        };
+    let first = number_shape(line, at)?;
+    if text_bytes::byte_at(line, first.next) != b'-' {
+        return Some(first);
     }
-    let Shape::Right {
-        in_range: second_in_range,
-        next: after_second,
-    } = number_shape(line, after_first + 1)
-    else {
-        return Shape::Wrong;
-    };
-    if text_bytes::byte_at(line, after_second) == b'-' {
-        return Shape::Wrong;
+    let second = number_shape(line, first.next + 1)?;
+    if text_bytes::byte_at(line, second.next) == b'-' {
+        return None;
     }
-    Shape::Right {
-        in_range: both(first_in_range, second_in_range),
-        next: after_second,
-    }
+    Some(Read {
+        value: both(first.value, second.value),
+        next: second.next,
+    })
 }
 
-fn pick(yes: bool, a: u8, b: u8) -> u8
-    ensures { result ≡ cond yes a b }
+// The refusal of a list that is well shaped: 17 by a number out of range, else 18.
+fn range_or_order(in_range: bool) -> Refusal
+    ensures { number_of result ≡ cond in_range 18 17 }
 {
-    if yes { a } else { b }
+    if in_range {
+        Refusal::PassOrder
+    } else {
+        Refusal::PassRange
+    }
 }
 
 // The refusal of the list at `at`, behind the `[`, which `parse_passes` does not read: 14 by the shape of the whole list, whatever its numbers are; 17 by a number out of range; else 18, for its numbers do not rise.
-pub fn list_fault(line: &[u8], at: usize) -> u8
-    ensures { result ≡ list_fault (list_items_at line.now at) }
+pub fn list_fault(line: &[u8], at: usize) -> Refusal
+    ensures { number_of result ≡ list_fault (list_items_at line.now at) }
 {
     let mut in_range = true;
     let mut i = at;
     loop {
-        let Shape::Right {
-            in_range: item_in_range,
-            next: after_item,
-        } = item_shape(line, i)
-        else {
-            return 14;
+        let Some(shape) = item_shape(line, i) else {
+            return Refusal::Passes;
         };
-        in_range = both(in_range, item_in_range);
-        if text_bytes::byte_at(line, after_item) != b',' {
-            return pick(in_range, 18, 17);
+        in_range = both(in_range, shape.value);
+        if text_bytes::byte_at(line, shape.next) != b',' {
+            return range_or_order(in_range);
         }
-        i = after_item + 1;
+        i = shape.next + 1;
     }
 }

@@ -4,8 +4,8 @@ use lib.ListN.{length}
 use Rattle.token_passes.proofs.Shapes.{Faulting}
 use Rattle.token_passes.proofs.list_fault.Given as goal
 
-abbrev pub invariant-loop-item_in_range : goal.invariant-loop-item_in_range
-invariant-loop-item_in_range l = Faulting l.line l.at l.in_range l.i
+abbrev pub invariant-loop-shape : goal.invariant-loop-shape
+invariant-loop-shape l = Faulting l.line l.at l.in_range l.i
 
-abbrev pub decreases-loop-item_in_range : goal.decreases-loop-item_in_range
-decreases-loop-item_in_range l = length l.line - l.i
+abbrev pub decreases-loop-shape : goal.decreases-loop-shape
+decreases-loop-shape l = length l.line - l.i

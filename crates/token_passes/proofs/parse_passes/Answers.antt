@@ -12,50 +12,50 @@ use Rattle.token_passes.proofs.Items.{Took, took, nothing_none}
 use Rattle.token_passes.proofs.Reading.{passing_start, passing_none, passing_fits, passing_last, passing_on}
 use Rattle.token_passes.proofs.parse_passes.Goals as goal
 
-pub loop-from-init : goal.loop-from-init
-loop-from-init c = passing_start _ _
+pub loop-item-init : goal.loop-item-init
+loop-item-init c = passing_start _ _
 
-pub returns-in_default : goal.returns-in_default
-returns-in_default c =
-    passing_none _ _ _ _ _ _ c.loop-from.invariant _ (nothing_none _ _ (sym c.pass_item.ensures ∙ c.in_default.is))
+pub returns-in_err-item : goal.returns-in_err-item
+returns-in_err-item c =
+    rw c.from_residual.ensures (passing_none _ _ _ _ _ _ c.loop-item.invariant _ (nothing_none _ _ (sym c.pass_item.ensures ∙ c.in_err-item.was)))
 
 pub range_bits-bits-requires : goal.range_bits-bits-requires
 range_bits-bits-requires c =
-    let item : (c.in-Passes.next ≡ end_of is_item_byte c.args.line.now c.loop-from.i) × Took c.loop-from.low (item_at c.loop-from.low c.args.line.now c.loop-from.i) c.in-Passes.from c.in-Passes.to = took _ _ _ _ _ _ _ (sym c.pass_item.ensures ∙ c.in-Passes.is) in
+    let item : (c.in_ok-item.item.next ≡ end_of is_item_byte c.args.line.now c.loop-item.i) × Took c.loop-item.low (item_at c.loop-item.low c.args.line.now c.loop-item.i) c.in_ok-item.item.value.from c.in_ok-item.item.value.to = took _ _ _ _ _ _ _ (sym c.pass_item.ensures ∙ c.in_ok-item.was) in
     let t = item.1 in
     let a = t.above in
     (omega arith, t.order, t.top)
 
 pub overflow_add-bits : goal.overflow_add-bits
 overflow_add-bits c =
-    let item : (c.in-Passes.next ≡ end_of is_item_byte c.args.line.now c.loop-from.i) × Took c.loop-from.low (item_at c.loop-from.low c.args.line.now c.loop-from.i) c.in-Passes.from c.in-Passes.to = took _ _ _ _ _ _ _ (sym c.pass_item.ensures ∙ c.in-Passes.is) in
-    rw c.range_bits-bits.ensures (omega (arith, passing_fits _ _ _ _ _ _ c.loop-from.invariant c.in-Passes.from c.in-Passes.to c.in-Passes.next item.0 item.1))
+    let item : (c.in_ok-item.item.next ≡ end_of is_item_byte c.args.line.now c.loop-item.i) × Took c.loop-item.low (item_at c.loop-item.low c.args.line.now c.loop-item.i) c.in_ok-item.item.value.from c.in_ok-item.item.value.to = took _ _ _ _ _ _ _ (sym c.pass_item.ensures ∙ c.in_ok-item.was) in
+    rw c.range_bits-bits.ensures (omega (arith, passing_fits _ _ _ _ _ _ c.loop-item.invariant c.in_ok-item.item.value.from c.in_ok-item.item.value.to c.in_ok-item.item.next item.0 item.1))
 
 pub overflow_cast-result : goal.overflow_cast-result
 overflow_cast-result c =
-    let item : (c.in-Passes.next ≡ end_of is_item_byte c.args.line.now c.loop-from.i) × Took c.loop-from.low (item_at c.loop-from.low c.args.line.now c.loop-from.i) c.in-Passes.from c.in-Passes.to = took _ _ _ _ _ _ _ (sym c.pass_item.ensures ∙ c.in-Passes.is) in
-    rw c.range_bits-bits.ensures (omega (arith, passing_fits _ _ _ _ _ _ c.loop-from.invariant c.in-Passes.from c.in-Passes.to c.in-Passes.next item.0 item.1))
+    let item : (c.in_ok-item.item.next ≡ end_of is_item_byte c.args.line.now c.loop-item.i) × Took c.loop-item.low (item_at c.loop-item.low c.args.line.now c.loop-item.i) c.in_ok-item.item.value.from c.in_ok-item.item.value.to = took _ _ _ _ _ _ _ (sym c.pass_item.ensures ∙ c.in_ok-item.was) in
+    rw c.range_bits-bits.ensures (omega (arith, passing_fits _ _ _ _ _ _ c.loop-item.invariant c.in_ok-item.item.value.from c.in_ok-item.item.value.to c.in_ok-item.item.next item.0 item.1))
 
 pub returns-then-byte_at-ne44 : goal.returns-then-byte_at-ne44
 returns-then-byte_at-ne44 c =
-    let item : (c.in-Passes.next ≡ end_of is_item_byte c.args.line.now c.loop-from.i) × Took c.loop-from.low (item_at c.loop-from.low c.args.line.now c.loop-from.i) c.in-Passes.from c.in-Passes.to = took _ _ _ _ _ _ _ (sym c.pass_item.ensures ∙ c.in-Passes.is) in
-    passing_last _ _ _ _ _ _ c.loop-from.invariant _ _ _ item.0 item.1 (λ k. c.if-byte_at-ne44.true (c.byte_at.ensures ∙ k)) _ _ c.first_of-first.ensures c.range_bits-bits.ensures
+    let item : (c.in_ok-item.item.next ≡ end_of is_item_byte c.args.line.now c.loop-item.i) × Took c.loop-item.low (item_at c.loop-item.low c.args.line.now c.loop-item.i) c.in_ok-item.item.value.from c.in_ok-item.item.value.to = took _ _ _ _ _ _ _ (sym c.pass_item.ensures ∙ c.in_ok-item.was) in
+    passing_last _ _ _ _ _ _ c.loop-item.invariant _ _ _ item.0 item.1 (λ k. c.if-byte_at-ne44.true (c.byte_at.ensures ∙ k)) _ _ c.first_of-first.ensures c.range_bits-bits.ensures
 
 pub overflow_add-i : goal.overflow_add-i
 overflow_add-i c =
-    let comma : get_or c.args.line.now c.in-Passes.next 0 ≡ 44 = sym c.byte_at.ensures ∙ c.if-byte_at-ne44.false in
-    let within : c.in-Passes.next < length c.args.line.now = run_within (λ x. eqb x 44) refl c.args.line.now _ (eq-eqb _ _ comma) in
+    let comma : get_or c.args.line.now c.in_ok-item.item.next 0 ≡ 44 = sym c.byte_at.ensures ∙ c.if-byte_at-ne44.false in
+    let within : c.in_ok-item.item.next < length c.args.line.now = run_within (λ x. eqb x 44) refl c.args.line.now _ (eq-eqb _ _ comma) in
     omega (arith, within)
 
-pub loop-from-smaller : goal.loop-from-smaller
-loop-from-smaller c =
-    let item : (c.in-Passes.next ≡ end_of is_item_byte c.args.line.now c.loop-from.i) × Took c.loop-from.low (item_at c.loop-from.low c.args.line.now c.loop-from.i) c.in-Passes.from c.in-Passes.to = took _ _ _ _ _ _ _ (sym c.pass_item.ensures ∙ c.in-Passes.is) in
-    let comma : get_or c.args.line.now c.in-Passes.next 0 ≡ 44 = sym c.byte_at.ensures ∙ c.if-byte_at-ne44.false in
-    let within : c.in-Passes.next < length c.args.line.now = run_within (λ x. eqb x 44) refl c.args.line.now _ (eq-eqb _ _ comma) in
+pub loop-item-smaller : goal.loop-item-smaller
+loop-item-smaller c =
+    let item : (c.in_ok-item.item.next ≡ end_of is_item_byte c.args.line.now c.loop-item.i) × Took c.loop-item.low (item_at c.loop-item.low c.args.line.now c.loop-item.i) c.in_ok-item.item.value.from c.in_ok-item.item.value.to = took _ _ _ _ _ _ _ (sym c.pass_item.ensures ∙ c.in_ok-item.was) in
+    let comma : get_or c.args.line.now c.in_ok-item.item.next 0 ≡ 44 = sym c.byte_at.ensures ∙ c.if-byte_at-ne44.false in
+    let within : c.in_ok-item.item.next < length c.args.line.now = run_within (λ x. eqb x 44) refl c.args.line.now _ (eq-eqb _ _ comma) in
     omega (arith, within, item.0)
 
-pub loop-from-preserved : goal.loop-from-preserved
-loop-from-preserved c =
-    let item : (c.in-Passes.next ≡ end_of is_item_byte c.args.line.now c.loop-from.i) × Took c.loop-from.low (item_at c.loop-from.low c.args.line.now c.loop-from.i) c.in-Passes.from c.in-Passes.to = took _ _ _ _ _ _ _ (sym c.pass_item.ensures ∙ c.in-Passes.is) in
-    let comma : get_or c.args.line.now c.in-Passes.next 0 ≡ 44 = sym c.byte_at.ensures ∙ c.if-byte_at-ne44.false in
-    passing_on _ _ _ _ _ _ c.loop-from.invariant _ _ _ item.0 item.1 comma _ _ c.first_of-first.ensures c.range_bits-bits.ensures
+pub loop-item-preserved : goal.loop-item-preserved
+loop-item-preserved c =
+    let item : (c.in_ok-item.item.next ≡ end_of is_item_byte c.args.line.now c.loop-item.i) × Took c.loop-item.low (item_at c.loop-item.low c.args.line.now c.loop-item.i) c.in_ok-item.item.value.from c.in_ok-item.item.value.to = took _ _ _ _ _ _ _ (sym c.pass_item.ensures ∙ c.in_ok-item.was) in
+    let comma : get_or c.args.line.now c.in_ok-item.item.next 0 ≡ 44 = sym c.byte_at.ensures ∙ c.if-byte_at-ne44.false in
+    passing_on _ _ _ _ _ _ c.loop-item.invariant _ _ _ item.0 item.1 comma _ _ c.first_of-first.ensures c.range_bits-bits.ensures

@@ -4,8 +4,8 @@ use lib.ListN.{length}
 use Rattle.token_passes.proofs.Reading.{Passing}
 use Rattle.token_passes.proofs.parse_passes.Given as goal
 
-abbrev pub invariant-loop-from : goal.invariant-loop-from
-invariant-loop-from l = Passing l.line l.at l.first l.bits l.low l.i
+abbrev pub invariant-loop-item : goal.invariant-loop-item
+invariant-loop-item l = Passing l.line l.at l.first l.bits l.low l.i
 
-abbrev pub decreases-loop-from : goal.decreases-loop-from
-decreases-loop-from l = length l.line - l.i
+abbrev pub decreases-loop-item : goal.decreases-loop-item
+decreases-loop-item l = length l.line - l.i

@@ -1,15 +1,24 @@
 -- `token_passes::pass_number` meets its contract.
+use Prim.Native.Nat.{ℕ}
 use mathlib.Core.Path.{◌≡◌, sym, ap, ◌∙◌}
+use mathlib.Core.List.{List}
 use native.Mathlib.Omega.{arith}
 use lib.ListN.{drop}
+use Rattle.std.specs.Prelude.{Result}
 use Rattle.laws.specs.Spans.{run}
 use Rattle.standard.specs.Bytes.{is_digit}
+use Rattle.text_bytes.specs.declared.Read.{Read}
 use Rattle.text_numbers.specs.Digits.{number_at, written}
-use Rattle.text_numbers.specs.declared.Read.{Read}
+use Rattle.text_numbers.specs.declared.NumberError.{NumberError}
 use Rattle.text_numbers.proofs.Numbers.{value_le}
 use Rattle.token_passes.specs.Passes.{pass_for}
-use Rattle.token_passes.proofs.Items.{zero_leads, number_by}
+use Rattle.token_passes.proofs.Items.{zero_leads, number_by, no_number}
 use Rattle.token_passes.proofs.pass_number.Goals as goal
+
+-- what the digits write is what was read
+told : (line : List ℕ) (at top : ℕ) (r : Read (Result ℕ NumberError)) → r ≡ number_at top line at → written top (run is_digit (drop at line)) ≡ r.value
+unfolding number_at
+told line at top r e = sym (ap (λ (x : Read (Result ℕ NumberError)). x.value) e)
 
 pub returns-then-byte_at-eq48 : goal.returns-then-byte_at-eq48
 unfolding pass_for
@@ -18,29 +27,18 @@ returns-then-byte_at-eq48 c =
     rw (zero_leads a.line.now a.at (sym c.byte_at.ensures ∙ c.if-byte_at-eq48.true))
 
 pub overflow_cast-result : goal.overflow_cast-result
-unfolding number_at
 overflow_cast-result c =
-    let told : written 32 (run is_digit (drop c.args.at c.args.line.now)) ≡ c.read_number-read.result.digits = sym (ap (λ (r : Read). r.digits) c.read_number-read.ensures) in
     let a = c.args in
-    omega (arith, value_le 32 (run is_digit (drop a.at a.line.now)) c.in-Value.value (told ∙ c.in-Value.is))
+    omega (arith, value_le 32 (run is_digit (drop a.at a.line.now)) c.in-Ok.value (told _ _ _ _ c.read_number-read.ensures ∙ c.in-Ok.is))
 
-pub returns-in-Nothing : goal.returns-in-Nothing
-unfolding pass_for number_at
-returns-in-Nothing c =
-    let told : written 32 (run is_digit (drop c.args.at c.args.line.now)) ≡ c.read_number-read.result.digits = sym (ap (λ (r : Read). r.digits) c.read_number-read.ensures) in
+pub returns-in_default : goal.returns-in_default
+unfolding pass_for
+returns-in_default c =
     let a = c.args in
-    rw (number_by a.line.now a.at (λ k. c.if-byte_at-eq48.false (c.byte_at.ensures ∙ k)) _ told, c.in-Nothing.is)
+    rw (no_number a.line.now a.at (λ k. c.if-byte_at-eq48.false (c.byte_at.ensures ∙ k)) _ (told _ _ _ _ c.read_number-read.ensures) (λ v k. c.in_default.not-Ok v k))
 
-pub returns-in-Past : goal.returns-in-Past
+pub returns : goal.returns
 unfolding pass_for number_at
-returns-in-Past c =
-    let told : written 32 (run is_digit (drop c.args.at c.args.line.now)) ≡ c.read_number-read.result.digits = sym (ap (λ (r : Read). r.digits) c.read_number-read.ensures) in
+returns c =
     let a = c.args in
-    rw (number_by a.line.now a.at (λ k. c.if-byte_at-eq48.false (c.byte_at.ensures ∙ k)) _ told, c.in-Past.is)
-
-pub returns-in-Value : goal.returns-in-Value
-unfolding pass_for number_at
-returns-in-Value c =
-    let told : written 32 (run is_digit (drop c.args.at c.args.line.now)) ≡ c.read_number-read.result.digits = sym (ap (λ (r : Read). r.digits) c.read_number-read.ensures) in
-    let a = c.args in
-    rw (number_by a.line.now a.at (λ k. c.if-byte_at-eq48.false (c.byte_at.ensures ∙ k)) _ told, c.in-Value.is, c.read_number-read.ensures)
+    rw (number_by a.line.now a.at (λ k. c.if-byte_at-eq48.false (c.byte_at.ensures ∙ k)) _ (told _ _ _ _ c.read_number-read.ensures), c.in-Ok.is, c.read_number-read.ensures)
