@@ -29,25 +29,19 @@ pub fn is_within(low: u8, high: u8, b: u8) -> bool
 pub fn is_digit(b: u8) -> bool
     ensures { result ≡ is_digit b }
 {
-    48 <= b && b <= 57
+    is_within(b'0', b'9', b)
 }
 
 // A letter, great or small.
 pub fn is_letter(b: u8) -> bool
     ensures { result ≡ (within 65 90 b || within 97 122 b) }
 {
-    if is_within(b'A', b'Z', b) {
-        return true;
-    }
-    is_within(b'a', b'z', b)
+    is_within(b'A', b'Z', b) || is_within(b'a', b'z', b)
 }
 
 // White space.
 pub fn is_space(b: u8) -> bool
     ensures { result ≡ is_space b }
 {
-    if is_within(9, 13, b) {
-        return true;
-    }
-    b == 32
+    is_within(9, 13, b) || b == b' '
 }

@@ -5,9 +5,11 @@ use mathlib.Core.Bool.{Bool, true, false, cond, false≢true}
 use mathlib.Core.List.{List, [], ◌∷◌}
 use native.Mathlib.Omega.{arith}
 use borrow.Author.Tests.{ne_eqb}
+use mir.Val.{bool_byte}
 use lib.Dec.{eqb}
 use lib.ListN.{length, get_or, drop}
 use Rattle.laws.specs.Lists.{foldl}
+use Rattle.laws.proofs.Bools.{by_test}
 use Rattle.laws.proofs.Lists.{foldl_at}
 use Rattle.reader.proofs.TextLaws.{other_stays}
 use Rattle.reader.specs.Text.{is_space, White, white, in_c2, in_e1, in_e19a, in_e2, in_e280, in_e281, in_e3, in_e380, other, white_step, is_all_white, is_blank}
@@ -120,3 +122,6 @@ width_plain c s h e =
     let two : after2 (c ∷ s) ≡ other = ap (λ (q : White). white_step q (get_or s 0 0)) one in
     let three : after3 (c ∷ s) ≡ other = ap (λ (q : White). white_step q (get_or s 1 0)) two in
     width_none (c ∷ s) (omega arith) (ap is_all_white one) (ap is_all_white two) (ap is_all_white three)
+
+pub width_ascii : (c : ℕ) (s : List ℕ) → c ≤ 127 → bool_byte (is_space c) ≡ white_at (c ∷ s)
+width_ascii c s h = by_test (is_space c) (λ e. rw e (width_space c s e)) (λ e. rw e (width_plain c s h e))

@@ -8,7 +8,7 @@ ghost use Rattle.reader.specs.Pieces.{white_at};
 ghost use Rattle.text_white.specs.States.{as_white, is_other, ends_c2, ends_e280};
 
 // Where the reading of white space stands: after whole white characters; inside one, by the bytes of it; or something else.
-#[derive(Clone, Copy)]
+#[derive(Clone, Copy, Debug, PartialEq, Eq)]
 pub enum White {
     White,
     InC2,
@@ -26,26 +26,14 @@ pub enum White {
 fn ends_c2(b: u8) -> bool
     ensures { result ≡ ends_c2 b }
 {
-    if b == 0x85 {
-        return true;
-    }
-    b == 0xa0
+    b == 0x85 || b == 0xa0
 }
 
 // The last byte of U+2000 to U+200A, U+2028, U+2029 or U+202F.
 fn ends_e280(b: u8) -> bool
     ensures { result ≡ ends_e280 b }
 {
-    if text_bytes::is_within(0x80, 0x8a, b) {
-        return true;
-    }
-    if b == 0xa8 {
-        return true;
-    }
-    if b == 0xa9 {
-        return true;
-    }
-    b == 0xaf
+    text_bytes::is_within(0x80, 0x8a, b) || b == 0xa8 || b == 0xa9 || b == 0xaf
 }
 
 // On to `q` if the byte is right.
@@ -56,6 +44,7 @@ fn white_on(right: bool, q: White) -> White
 }
 
 // The first byte of a character.
+#[tactic(auto, unfolding(reader::specs::Text::white_step))]
 fn white_first(b: u8) -> White
     ensures { as_white result ≡ white_step white b }
 {
@@ -78,6 +67,7 @@ fn white_first(b: u8) -> White
 }
 
 // One byte more.
+#[tactic(auto, unfolding(reader::specs::Text::white_step))]
 pub fn white_step(q: White, b: u8) -> White
     ensures { as_white result ≡ white_step (as_white q) b }
 {
@@ -104,36 +94,14 @@ pub fn white_step(q: White, b: u8) -> White
 pub fn is_all_white(q: White) -> bool
     ensures { result ≡ is_all_white (as_white q) }
 {
-    match q {
-        White::White => true,
-        White::InC2 => false,
-        White::InE1 => false,
-        White::InE19A => false,
-        White::InE2 => false,
-        White::InE280 => false,
-        White::InE281 => false,
-        White::InE3 => false,
-        White::InE380 => false,
-        White::Other => false,
-    }
+    q == White::White
 }
 
 // What was read is something else, whatever follows.
 pub fn is_other(q: White) -> bool
     ensures { result ≡ is_other (as_white q) }
 {
-    match q {
-        White::White => false,
-        White::InC2 => false,
-        White::InE1 => false,
-        White::InE19A => false,
-        White::InE2 => false,
-        White::InE280 => false,
-        White::InE281 => false,
-        White::InE3 => false,
-        White::InE380 => false,
-        White::Other => true,
-    }
+    q == White::Other
 }
 
 // The text is nothing but white space.
@@ -141,13 +109,11 @@ pub fn is_blank(text: &[u8]) -> bool
     ensures { result ≡ is_blank text.now }
 {
     let mut q = White::White;
-    let mut i: usize = 0;
-    while i < text.len() {
-        q = white_step(q, text[i]);
+    for b in text {
+        q = white_step(q, *b);
         if is_other(q) {
             return false;
         }
-        i += 1;
     }
     is_all_white(q)
 }
@@ -182,8 +148,5 @@ pub fn white_at(text: &[u8], at: usize, end: usize) -> usize
     if 127 < b {
         return white_len(text, at, end);
     }
-    if text_bytes::is_space(b) {
-        return 1;
-    }
-    0
+    usize::from(text_bytes::is_space(b))
 }

@@ -1,9 +1,0 @@
--- `text_bytes::is_space` meets its contract.
-use mathlib.Core.Path.{sym, ◌∙◌}
-use Rattle.text_bytes.proofs.is_space.Goals as goal
-
-pub returns-then-is_within : goal.returns-then-is_within
-returns-then-is_within c = rw (sym c.is_within.ensures ∙ c.if-is_within.true)
-
-pub returns : goal.returns
-returns c = rw (sym c.is_within.ensures ∙ c.if-is_within.false)
