@@ -7,7 +7,7 @@ ghost use Rattle.text_utf8.specs.States.{as_utf8};
 
 // Where the reading stands: between two characters; 1, 2, 3 bytes of one to come; after E0, ED, F0, F4, whose second
 // byte has a narrower range; or no UTF-8.
-#[derive(Clone, Copy)]
+#[derive(Clone, Copy, Debug, PartialEq, Eq)]
 enum Utf8 {
     Between,
     One,
@@ -28,6 +28,7 @@ fn utf8_on(right: bool, q: Utf8) -> Utf8
 }
 
 // The first byte of a character.
+#[tactic(auto, unfolding(reader::specs::Text::utf8_step))]
 fn utf8_first(b: u8) -> Utf8
     ensures { as_utf8 result ≡ utf8_step between b }
 {
@@ -56,6 +57,7 @@ fn utf8_first(b: u8) -> Utf8
 }
 
 // One byte more.
+#[tactic(auto, unfolding(reader::specs::Text::utf8_step))]
 fn utf8_step(q: Utf8, b: u8) -> Utf8
     ensures { as_utf8 result ≡ utf8_step (as_utf8 q) b }
 {
@@ -76,17 +78,7 @@ fn utf8_step(q: Utf8, b: u8) -> Utf8
 fn is_between(q: Utf8) -> bool
     ensures { result ≡ is_between (as_utf8 q) }
 {
-    match q {
-        Utf8::Between => true,
-        Utf8::One => false,
-        Utf8::Two => false,
-        Utf8::Three => false,
-        Utf8::AfterE0 => false,
-        Utf8::AfterED => false,
-        Utf8::AfterF0 => false,
-        Utf8::AfterF4 => false,
-        Utf8::Invalid => false,
-    }
+    q == Utf8::Between
 }
 
 // The text is UTF-8, read byte by byte.
@@ -94,10 +86,8 @@ fn reads_utf8(text: &[u8]) -> bool
     ensures { result ≡ is_utf8 text.now }
 {
     let mut q = Utf8::Between;
-    let mut i: usize = 0;
-    while i < text.len() {
-        q = utf8_step(q, text[i]);
-        i += 1;
+    for b in text {
+        q = utf8_step(q, *b);
     }
     is_between(q)
 }
@@ -106,8 +96,5 @@ fn reads_utf8(text: &[u8]) -> bool
 pub fn is_utf8(text: &[u8]) -> bool
     ensures { result ≡ is_utf8 text.now }
 {
-    if text_lines::has_high(text) {
-        return reads_utf8(text);
-    }
-    true
+    !text_lines::has_high(text) || reads_utf8(text)
 }

@@ -4,13 +4,13 @@ use Rattle.laws.proofs.Lists.{foldl_at, foldl_end}
 use Rattle.reader.specs.Text.{utf8_step, is_between, is_utf8}
 use Rattle.text_utf8.proofs.reads_utf8.Goals as goal
 
-pub loop-i-init : goal.loop-i-init
-loop-i-init c = refl
+pub loop-b-init : goal.loop-b-init
+loop-b-init c = refl
 
-pub loop-i-preserved : goal.loop-i-preserved
-loop-i-preserved c =
-    rw c.utf8_step-q.ensures (sym (foldl_at utf8_step _ _ _ 0 c.loop-i-test.true) ∙ c.loop-i.invariant)
+pub loop-b-preserved : goal.loop-b-preserved
+loop-b-preserved c =
+    rw c.utf8_step-q.ensures (sym (foldl_at utf8_step _ _ _ 0 c.loop-b-test.true) ∙ c.loop-b.invariant)
 
 pub returns : goal.returns
 unfolding is_utf8
-returns c = c.is_between.ensures ∙ ap is_between (sym (foldl_end utf8_step _ _ _ c.loop-i-test.false) ∙ c.loop-i.invariant)
+returns c = c.is_between.ensures ∙ ap is_between (sym (foldl_end utf8_step _ _ _ c.loop-b-test.false) ∙ c.loop-b.invariant)
