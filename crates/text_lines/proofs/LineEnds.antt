@@ -1,5 +1,5 @@
 -- The lines of a text, one after the other, by position; and a byte above 127.
-use Prim.Native.Nat.{ℕ, suc, ◌+◌, ◌-◌, ◌<◌, ◌≤◌, min}
+use Prim.Native.Nat.{ℕ, suc, ◌+◌, ◌-◌, ◌<◌, ◌≤◌, min, max}
 use mathlib.Core.Path.{◌≡◌, refl, sym, ap, ◌∙◌}
 use mathlib.Core.Bool.{Bool, cond, not, ◌||◌}
 use mathlib.Core.List.{List, [], ◌∷◌}
@@ -12,7 +12,7 @@ use lib.Seq.{drop-cons, drop-drop}
 use Rattle.laws.specs.Lists.{count_while}
 use Rattle.laws.specs.Bytes.{part}
 use Rattle.laws.specs.Spans.{end_in}
-use Rattle.laws.proofs.Bools.{by_test, or_left, or_none, or_assoc, or_false}
+use Rattle.laws.proofs.Bools.{by_test, or_left, or_assoc, or_false}
 use Rattle.laws.proofs.Spans.{count_while_yes, count_while_no}
 use Rattle.laws.proofs.Parts.{count_while_part, end_in_le}
 use Rattle.reader.specs.Text.{push, text_lines, has_high}
@@ -59,21 +59,17 @@ unfolding text_lines
 rows_over t i h = rw (drop_of_length-le t h)
 
 -- the greater of two is above 127 where one of them is
-pub high_second : (a b : ℕ) → a < b → ltb 127 b ≡ (ltb 127 a || ltb 127 b)
-high_second a b h =
-    by_test (ltb 127 a) (λ e. let k : 127 < a = ltb-true 127 a e in lt-ltb 127 b (omega arith) ∙ sym (or_left (ltb 127 a) (ltb 127 b) e)) (λ e. rw e)
-
-pub high_first : (a b : ℕ) → b ≤ a → ltb 127 a ≡ (ltb 127 a || ltb 127 b)
-high_first a b h =
-    by_test (ltb 127 a) (λ e. e ∙ sym (or_left (ltb 127 a) (ltb 127 b) e))
-    (λ e. let k : a ≤ 127 = ltb-false 127 a e in e ∙ sym (or_none (ltb 127 a) (ltb 127 b) e (le-ltb 127 b (omega arith))))
+high_max : (a b : ℕ) → ltb 127 (max a b) ≡ (ltb 127 a || ltb 127 b)
+high_max a b =
+    by_test (ltb 127 a) (λ e. let k : 127 < a = ltb-true 127 a e in lt-ltb 127 (max a b) (omega arith) ∙ sym (or_left (ltb 127 a) (ltb 127 b) e))
+    (λ e. let k : a ≤ 127 = ltb-false 127 a e in by_test (ltb 127 b) (λ f. let l : 127 < b = ltb-true 127 b f in rw (e, f) (lt-ltb 127 (max a b) (omega arith)))
+    (λ f. let l : b ≤ 127 = ltb-false 127 b f in rw (e, f) (le-ltb 127 (max a b) (omega arith))))
 
 -- the greatest byte so far
-pub high_next : (t : List ℕ) (i m n : ℕ) → i < length t → ltb 127 n ≡ (ltb 127 m || ltb 127 (get_or t i 0))
-    → (ltb 127 m || has_high (drop i t)) ≡ has_high t → (ltb 127 n || has_high (drop (i + 1) t)) ≡ has_high t
+pub high_next : (t : List ℕ) (i m : ℕ) → i < length t → (ltb 127 m || has_high (drop i t)) ≡ has_high t → (ltb 127 (max m (get_or t i 0)) || has_high (drop (i + 1) t)) ≡ has_high t
 unfolding has_high
-high_next t i m n h e k =
-    ap (λ (b : Bool). b || has_high (drop (i + 1) t)) e ∙ or_assoc (ltb 127 m) (ltb 127 (get_or t i 0)) (has_high (drop (i + 1) t))
+high_next t i m h k =
+    ap (λ (b : Bool). b || has_high (drop (i + 1) t)) (high_max m (get_or t i 0)) ∙ or_assoc (ltb 127 m) (ltb 127 (get_or t i 0)) (has_high (drop (i + 1) t))
     ∙ ap (λ (l : List ℕ). ltb 127 m || has_high l) (sym (drop-cons t i 0 h ∙ ap (λ (n : ℕ). get_or t i 0 ∷ drop n t) (sym (add-one i)))) ∙ k
 
 pub high_over : (t : List ℕ) (i m : ℕ) → length t ≤ i → (ltb 127 m || has_high (drop i t)) ≡ has_high t → ltb 127 m ≡ has_high t

@@ -17,7 +17,7 @@ struct Trim {
 }
 
 // A line's class by its first two bytes: V, K, L, M, X are voice, key, unit, meter, tune.
-#[derive(Clone, Copy)]
+#[derive(Clone, Copy, Debug, PartialEq, Eq)]
 pub enum Class {
     Blank,
     Lyric,
@@ -30,26 +30,14 @@ pub enum Class {
     Music,
 }
 
-// Still none of them is b, after the byte c.
-fn still(none: bool, c: u8, b: u8) -> bool
-    ensures { result ≡ (none && not_byte b c) }
-{
-    if c == b {
-        return false;
-    }
-    none
-}
-
 // None of the 16 bytes from `at` on is b. Without an exit the loop takes them all at once.
 fn lacks(text: &[u8], at: usize, b: u8) -> bool
     requires { at + 16 ≤ length text.now }
     ensures { result ≡ all (not_byte b) (between text.now at (at + 16)) }
 {
     let mut none = true;
-    let mut j: usize = 0;
-    while j < 16 {
-        none = still(none, text[at + j], b);
-        j += 1;
+    for j in 0..16 {
+        none &= text[at + j] != b;
     }
     none
 }
@@ -74,14 +62,7 @@ fn find_byte(text: &[u8], at: usize, end: usize, b: u8) -> usize
     requires { (at ≤ end) × (end ≤ length text.now) }
     ensures { result ≡ end_in (not_byte b) text.now at end }
 {
-    let mut i = pass_without(text, at, end, b);
-    while i < end {
-        if text[i] == b {
-            return i;
-        }
-        i += 1;
-    }
-    i
+    text_runs::find(text, pass_without(text, at, end, b), end, b)
 }
 
 // The position behind the line at `at`: past its line feed, or the text's end.
@@ -101,9 +82,7 @@ fn trim_step(t: Trim, b: u8, at: usize) -> Trim
     requires { at < 18446744073709551615 }
     ensures { TrimOn t.q t.end b at result.q result.end }
 {
-    let q = t.q;
-    let end = t.end;
-    let on = text_white::white_step(q, b);
+    let on = text_white::white_step(t.q, b);
     if text_white::is_other(on) {
         let first = text_white::white_step(text_white::White::White, b);
         if text_white::is_other(first) {
@@ -114,7 +93,7 @@ fn trim_step(t: Trim, b: u8, at: usize) -> Trim
         }
         return Trim { q: first, end: at };
     }
-    Trim { q: on, end }
+    Trim { q: on, end: t.end }
 }
 
 // The same, quickly for ASCII from `!` on: it is no byte of white space.
@@ -135,8 +114,7 @@ fn trim_byte(t: Trim, b: u8, at: usize) -> Trim
 fn trim_done(t: Trim, at: usize) -> usize
     ensures { result ≡ trim_from (as_white t.q) t.end at [] }
 {
-    let q = t.q;
-    if text_white::is_all_white(q) {
+    if text_white::is_all_white(t.q) {
         t.end
     } else {
         at
@@ -152,12 +130,10 @@ fn trim_bytes(text: &[u8], from: usize, to: usize) -> usize
         q: text_white::White::White,
         end: from,
     };
-    let mut i = from;
-    while i < to {
+    for i in from..to {
         t = trim_byte(t, text[i], i);
-        i += 1;
     }
-    trim_done(t, i)
+    trim_done(t, to)
 }
 
 // The same, from the end, as long as the bytes there are ASCII.
@@ -188,22 +164,13 @@ pub fn clean_end(text: &[u8], from: usize, to: usize) -> usize
     trim_end(text, from, cut)
 }
 
-// The greater of two: as far as its answer is above 127, one of them is.
-fn greater(a: u8, b: u8) -> u8
-    ensures { ltb 127 result ≡ (ltb 127 a || ltb 127 b) }
-{
-    if a < b { b } else { a }
-}
-
 // The line has a byte above 127: its greatest one is. Without an exit the loop takes many bytes at a time.
 pub fn has_high(line: &[u8]) -> bool
     ensures { result ≡ has_high line.now }
 {
     let mut most: u8 = 0;
-    let mut i: usize = 0;
-    while i < line.len() {
-        most = greater(most, line[i]);
-        i += 1;
+    for b in line {
+        most = most.max(*b);
     }
     127 < most
 }
@@ -220,28 +187,20 @@ pub fn is_high(text: &[u8], from: usize, end: usize) -> bool
 fn colon_class(b: u8) -> Class
     ensures { result ≡ colon_class b }
 {
-    if b == b'w' {
-        return Class::Lyric;
+    match b {
+        b'w' => Class::Lyric,
+        b'V' => Class::Voice,
+        b'K' => Class::Key,
+        b'L' => Class::Unit,
+        b'M' => Class::Meter,
+        b'X' => Class::Tune,
+        _ => {
+            if text_bytes::is_letter(b) {
+                return Class::Other;
+            }
+            Class::Music
+        }
     }
-    if text_bytes::is_letter(b) {
-        if b == b'V' {
-            return Class::Voice;
-        }
-        if b == b'K' {
-            return Class::Key;
-        }
-        if b == b'L' {
-            return Class::Unit;
-        }
-        if b == b'M' {
-            return Class::Meter;
-        }
-        if b == b'X' {
-            return Class::Tune;
-        }
-        return Class::Other;
-    }
-    Class::Music
 }
 
 // The class of a line that is cut and trimmed.

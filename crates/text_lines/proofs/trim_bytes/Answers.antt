@@ -1,25 +1,21 @@
 -- `text_lines::trim_bytes` meets its contract. The loop's invariant is `Trimming`.
+use mathlib.Core.Path.{◌≡◌, ap, ◌∙◌}
+use mathlib.Core.List.{[]}
+use Prim.Native.Nat.{ℕ}
 use native.Mathlib.Omega.{arith}
+use Rattle.text_white.specs.States.{as_white}
+use Rattle.text_lines.specs.Lines.{trim_from}
 use Rattle.text_lines.proofs.Cleaning.{trimming_start, trimming_on, trimming_end}
 use Rattle.text_lines.proofs.trim_bytes.Goals as goal
 
 pub loop-i-init : goal.loop-i-init
 loop-i-init c = trimming_start _ _ _ c.requires.0 c.requires.1
 
-pub bounds-text-i : goal.bounds-text-i
-bounds-text-i c = omega (arith, c.loop-i.invariant.fits)
-
-pub trim_byte-t-requires : goal.trim_byte-t-requires
-trim_byte-t-requires c = omega (arith, c.ranges.to)
-
-pub overflow_add-i : goal.overflow_add-i
-overflow_add-i c = omega (arith, c.ranges.to)
-
-pub loop-i-smaller : goal.loop-i-smaller
-loop-i-smaller c = omega arith
-
 pub loop-i-preserved : goal.loop-i-preserved
 loop-i-preserved c = trimming_on _ _ _ _ _ _ c.loop-i.invariant c.loop-i-test.true _ _ c.trim_byte-t.ensures
 
 pub returns : goal.returns
-returns c = trimming_end _ _ _ _ _ _ c.loop-i.invariant c.loop-i-test.false _ c.trim_done.ensures
+returns c =
+    let l = c.loop-i in
+    let e : c.args.to ≡ l.i = omega (arith, l.auto.i-end c.requires.0) in
+    trimming_end _ _ _ _ _ _ l.invariant c.loop-i-test.false _ (c.trim_done.ensures ∙ ap (λ (k : ℕ). trim_from (as_white l.t.q) l.t.end k []) e)
