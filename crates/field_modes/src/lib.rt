@@ -2,166 +2,140 @@
 // mode behind that or, where the word ends there, at the front of the second.
 #![tactic(auto)]
 
-ghost use Rattle.std.specs.Prelude.{◌≡◌, map, ◌≤◌, length};
-ghost use Rattle.laws.specs.Lists.{starts_with};
-ghost use Rattle.laws.specs.Bytes.{between};
+ghost use Rattle.std.specs.Prelude.{◌≡◌, ◌<◌, ◌∷◌, [], map, length, MatchOption};
 ghost use Rattle.standard.specs.Bytes.{lower};
 ghost use Rattle.standard.specs.Keys.{flatter};
-ghost use Rattle.field_modes.specs.Modes.{lone_m, name_of, named_in, mode_at, KeyWord, key_words, mode_from};
+ghost use Rattle.field_modes.specs.Modes.{mode_as, lone_m, named_in, mode_at, key_words, mode_from};
 
-use text_words::Part;
+// The modes in the order of the line of fifths: on one tonic lydian has a sharp more than major, which is ionian, and each next one a sharp fewer.
+#[derive(Clone, Copy, Debug, PartialEq, Eq)]
+pub enum Mode {
+    Lydian,
+    Ionian,
+    Mixolydian,
+    Dorian,
+    Aeolian,
+    Phrygian,
+    Locrian,
+}
 
-// A mode's name by its first three letters, and how many sharps fewer than lydian it has.
-#[derive(Clone, Copy)]
+impl Mode {
+    // How many sharps fewer than lydian.
+    #[tactic(auto, unfolding(standard::specs::Keys::flatter))]
+    pub fn flatter(self) -> u8
+        ensures { result ≡ flatter (mode_as self) }
+    {
+        match self {
+            Mode::Lydian => 0,
+            Mode::Ionian => 1,
+            Mode::Mixolydian => 2,
+            Mode::Dorian => 3,
+            Mode::Aeolian => 4,
+            Mode::Phrygian => 5,
+            Mode::Locrian => 6,
+        }
+    }
+}
+
+// A mode by its name's first three letters.
+#[derive(Clone, Copy, Debug, PartialEq, Eq)]
 struct ModeName {
-    first: u8,
-    second: u8,
-    third: u8,
-    mode: u8,
+    name: [u8; 3],
+    mode: Mode,
 }
 
 const MODES: [ModeName; 9] = [
     ModeName {
-        first: b'm',
-        second: b'a',
-        third: b'j',
-        mode: 1,
+        name: *b"maj",
+        mode: Mode::Ionian,
     },
     ModeName {
-        first: b'i',
-        second: b'o',
-        third: b'n',
-        mode: 1,
+        name: *b"ion",
+        mode: Mode::Ionian,
     },
     ModeName {
-        first: b'm',
-        second: b'i',
-        third: b'n',
-        mode: 4,
+        name: *b"min",
+        mode: Mode::Aeolian,
     },
     ModeName {
-        first: b'a',
-        second: b'e',
-        third: b'o',
-        mode: 4,
+        name: *b"aeo",
+        mode: Mode::Aeolian,
     },
     ModeName {
-        first: b'd',
-        second: b'o',
-        third: b'r',
-        mode: 3,
+        name: *b"dor",
+        mode: Mode::Dorian,
     },
     ModeName {
-        first: b'p',
-        second: b'h',
-        third: b'r',
-        mode: 5,
+        name: *b"phr",
+        mode: Mode::Phrygian,
     },
     ModeName {
-        first: b'l',
-        second: b'y',
-        third: b'd',
-        mode: 0,
+        name: *b"lyd",
+        mode: Mode::Lydian,
     },
     ModeName {
-        first: b'm',
-        second: b'i',
-        third: b'x',
-        mode: 2,
+        name: *b"mix",
+        mode: Mode::Mixolydian,
     },
     ModeName {
-        first: b'l',
-        second: b'o',
-        third: b'c',
-        mode: 6,
+        name: *b"loc",
+        mode: Mode::Locrian,
     },
 ];
 
-// The modes that have no name in the end: major and, by a lone m, minor.
-const IONIAN: u8 = 1;
-
-pub const AEOLIAN: u8 = 4;
-
-// Beside the modes: the name of none.
-const UNNAMED: u8 = 7;
-
-// An m or M begins the part, with no letter behind it.
-fn is_lone_m(line: &[u8], i: usize, e: usize) -> bool
-    requires { (i ≤ e) × (e ≤ length line.now) }
-    ensures { result ≡ lone_m (between line.now i e) }
+// An m or M begins the word, with no letter behind it.
+fn is_lone_m(word: &[u8]) -> bool
+    ensures { result ≡ lone_m word.now }
 {
-    if !text_names::says(line, i, e, b"m") {
-        return false;
-    }
-    if e <= i + 1 {
-        return true;
-    }
-    !text_bytes::is_letter(line[i + 1])
+    text_names::says(word, b"m") && !text_bytes::is_letter(text_bytes::byte_at(word, 1))
 }
 
-// The part begins with the name, in any case.
-fn is_mode(line: &[u8], i: usize, e: usize, m: ModeName) -> bool
-    requires { (i ≤ e) × (e ≤ length line.now) }
-    ensures { result ≡ starts_with (name_of m) (map lower (between line.now i e)) }
+// The mode by whose name the word begins, in any case.
+fn named_mode(word: &[u8], names: [ModeName; 9]) -> Option<Mode>
+    ensures { result ≡ named_in names (map lower word.now) }
 {
-    let name = [m.first, m.second, m.third];
-    text_names::says(line, i, e, &name)
-}
-
-// The mode by whose name the part begins, or UNNAMED.
-fn named_mode(line: &[u8], i: usize, e: usize, names: [ModeName; 9]) -> u8
-    requires { (i ≤ e) × (e ≤ length line.now) }
-    ensures { result ≡ named_in names (map lower (between line.now i e)) }
-{
-    for k in 0..9 {
-        let m = names[k];
-        if is_mode(line, i, e, m) {
-            return m.mode;
+    for known in names {
+        if text_names::says(word, &known.name) {
+            return Some(known.mode);
         }
     }
-    UNNAMED
+    None
 }
 
-// The mode at the front of the part; major if there is none.
-fn mode_at(line: &[u8], i: usize, e: usize) -> u8
-    requires { (i ≤ e) × (e ≤ length line.now) }
-    ensures { result ≡ flatter (mode_at (between line.now i e)) }
+// The mode at the front of the word; major if there is none.
+fn mode_at(word: &[u8]) -> Mode
+    ensures { mode_as result ≡ mode_at word.now }
 {
-    let mode = named_mode(line, i, e, MODES);
-    if mode != UNNAMED {
-        return mode;
-    }
-    if is_lone_m(line, i, e) {
-        AEOLIAN
-    } else {
-        IONIAN
+    match named_mode(word, MODES) {
+        Some(mode) => mode,
+        None if is_lone_m(word) => Mode::Aeolian,
+        None => Mode::Ionian,
     }
 }
 
-// The first word of the key text from `from` on; an empty part at `b` if there is none.
-pub fn key_word(line: &[u8], from: usize, b: usize) -> Part
-    requires { (from ≤ b) × (b ≤ length line.now) }
-    ensures { KeyWord line.now from b result }
+// The first word of the key text in the value, and what stands behind it.
+pub fn key_word(value: &[u8]) -> Option<(&[u8], &[u8])>
+    ensures { MatchOption result (key_words value.now ≡ []) (λ word. (0 < length word.0.now) × (key_words value.now ≡ word.0.now ∷ key_words word.1.now)) }
 {
-    let mut i = text_words::word_start(line, from, b);
-    while i < b {
-        let e = text_words::word_end(line, i, b);
-        if field_keys::is_key_word(line, i, e) {
-            return Part { start: i, end: e };
+    let mut rest = value;
+    while let Some((word, behind)) = text_words::split_word(rest) {
+        if field_keys::is_key_word(word) {
+            return Some((word, behind));
         }
-        i = text_words::word_start(line, e, b);
+        rest = behind;
     }
-    Part { start: b, end: b }
+    None
 }
 
-// The mode at `i` of a word that ends at `e`; where the word ends there, at the front of the key text's next word before `b`.
-pub fn mode_from(line: &[u8], i: usize, e: usize, b: usize) -> u8
-    requires { (i ≤ e) × (e ≤ b) × (b ≤ length line.now) }
-    ensures { result ≡ flatter (mode_from (between line.now i e) (key_words (between line.now e b))) }
+// The mode behind the key's name: in what is left of the name's word or, where the word ends there, in the key text's next word.
+pub fn mode_from(left: &[u8], behind: &[u8]) -> Mode
+    ensures { mode_as result ≡ mode_from left.now (key_words behind.now) }
 {
-    if i < e {
-        return mode_at(line, i, e);
+    if !left.is_empty() {
+        return mode_at(left);
     }
-    let w = key_word(line, e, b);
-    mode_at(line, w.start, w.end)
+    match key_word(behind) {
+        Some((word, _)) => mode_at(word),
+        None => Mode::Ionian,
+    }
 }

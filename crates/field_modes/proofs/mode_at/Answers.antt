@@ -1,15 +1,15 @@
--- `field_modes::mode_at` meets its contract: by name, else by a lone m.
+-- `field_modes::mode_at` meets its contract: a mode that is named, or that of a lone m.
 use mathlib.Core.Path.{sym, ◌∙◌}
 use Rattle.field_modes.proofs.Names.{mode_named, mode_unnamed}
 use Rattle.field_modes.proofs.mode_at.Goals as goal
 
-pub returns-then-mode-ne-UNNAMED : goal.returns-then-mode-ne-UNNAMED
-returns-then-mode-ne-UNNAMED c = c.named_mode-mode.ensures ∙ mode_named _ (λ e. c.if-mode-ne-UNNAMED.true (c.named_mode-mode.ensures ∙ e))
+pub returns-in-Some : goal.returns-in-Some
+returns-in-Some c = mode_named _ _ (sym c.named_mode.ensures ∙ c.in-Some.is)
 
-pub returns-then-is_lone_m : goal.returns-then-is_lone_m
-returns-then-is_lone_m c =
-    rw (mode_unnamed _ (sym c.named_mode-mode.ensures ∙ c.if-mode-ne-UNNAMED.false), sym c.is_lone_m.ensures ∙ c.if-is_lone_m.true)
+pub returns-in-None : goal.returns-in-None
+returns-in-None c =
+    rw (sym c.is_lone_m.ensures ∙ c.if-is_lone_m.true) at (mode_unnamed c.args.word.now (sym c.named_mode.ensures ∙ c.in-None.is))
 
-pub returns-else-is_lone_m : goal.returns-else-is_lone_m
-returns-else-is_lone_m c =
-    rw (mode_unnamed _ (sym c.named_mode-mode.ensures ∙ c.if-mode-ne-UNNAMED.false), sym c.is_lone_m.ensures ∙ c.if-is_lone_m.false)
+pub returns-in-None-2 : goal.returns-in-None-2
+returns-in-None-2 c =
+    rw (sym c.is_lone_m.ensures ∙ c.if-is_lone_m.false) at (mode_unnamed c.args.word.now (sym c.named_mode.ensures ∙ c.in-None.is))

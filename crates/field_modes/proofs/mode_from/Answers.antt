@@ -1,24 +1,24 @@
--- `field_modes::mode_from` meets its contract: in the word, or in the next one of the key text.
-use Prim.Native.Nat.{◌≤◌}
-use mathlib.Core.Path.{ap, ◌∙◌}
-use native.Mathlib.Omega.{arith}
-use lib.ListN.{length}
-use Rattle.laws.proofs.Parts.{between_first, between_none}
-use Rattle.standard.specs.Keys.{flatter}
-use Rattle.field_modes.specs.Modes.{mode_at, mode_from}
-use Rattle.field_modes.proofs.Words.{next_mode}
+-- `field_modes::mode_from` meets its contract: the mode stands in the name's word, or in the next one.
+use mathlib.Core.Path.{sym, ap, ◌∙◌}
+use mathlib.Core.List.{[]}
+use borrow.Author.Tests.{eqb-true, eqb-false}
+use Rattle.standard.specs.Keys.{mode_names, mode_in}
+use Rattle.reader.specs.Keys.{or_lone_m}
+use Rattle.field_modes.specs.Modes.{mode_from, mode_at}
+use Rattle.field_modes.proofs.Words.{from_left, from_next}
 use Rattle.field_modes.proofs.mode_from.Goals as goal
 
-pub returns-then-i-e : goal.returns-then-i-e
-unfolding mode_from
-returns-then-i-e c =
-    let l : c.args.e ≤ length c.args.line.now = omega (arith, c.requires.1, c.requires.2) in
-    rw (between_first c.args.line.now c.args.i c.args.e c.if-i-e.true l) (rw (← between_first c.args.line.now c.args.i c.args.e c.if-i-e.true l) c.mode_at.ensures)
+pub returns-then-not-is_empty : goal.returns-then-not-is_empty
+returns-then-not-is_empty c = c.mode_at.ensures ∙ from_left _ _ (eqb-false _ _ (sym c.is_empty.ensures ∙ c.if-not-is_empty.true))
 
-pub mode_at-requires-2 : goal.mode_at-requires-2
-mode_at-requires-2 c = (c.key_word-w.ensures.order, omega (arith, c.key_word-w.ensures.high, c.requires.2))
-
-pub returns : goal.returns
+pub returns-in-Some : goal.returns-in-Some
 unfolding mode_from
-returns c =
-    rw (between_none c.args.line.now c.args.i c.args.e c.if-i-e.false) (c.mode_at-2.ensures ∙ ap flatter (next_mode _ _ _ _ c.key_word-w.ensures))
+returns-in-Some c =
+    let empty = eqb-true _ _ (sym c.is_empty.ensures ∙ c.if-not-is_empty.false) in
+    c.mode_at-in-Some.ensures ∙ sym (from_next _ _ empty ∙ ap (mode_from []) c.in-Some.ensures.1)
+
+pub returns-in-None : goal.returns-in-None
+unfolding mode_from mode_at or_lone_m mode_in mode_names
+returns-in-None c =
+    let empty = eqb-true _ _ (sym c.is_empty.ensures ∙ c.if-not-is_empty.false) in
+    sym (from_next _ _ empty ∙ ap (mode_from []) c.in-None.ensures)

@@ -1,32 +1,28 @@
--- `field_modes::named_mode` meets its contract. The loop's invariant: the search of the table from k on gives the answer of the whole search.
+-- `field_modes::named_mode` meets its contract. The loop's invariant: the search of what is left of the table gives the answer of the whole search.
 use Prim.Native.Nat.{◌≤◌, ◌<◌}
-use mathlib.Core.Path.{refl, sym, ◌∙◌}
+use mathlib.Core.Path.{sym, ◌∙◌}
+use mathlib.Core.List.{[]}
 use native.Mathlib.Omega.{arith}
+use lib.ListN.{length}
+use Rattle.field_modes.specs.declared.Mode.TheVariants.{Lydian}
+use Rattle.field_modes.specs.declared.ModeName.{ModeName}
 use Rattle.field_modes.proofs.Names.{named_here, named_on, named_end}
 use Rattle.field_modes.proofs.named_mode.Goals as goal
 
-pub loop-k-init : goal.loop-k-init
-loop-k-init c = (omega arith, omega arith, refl)
+abbrev no_name : ModeName
+no_name = record { name = []; mode = Lydian }
 
-pub is_mode-requires : goal.is_mode-requires
-is_mode-requires c = c.requires
+pub returns-then-says : goal.returns-then-says
+returns-then-says c =
+    let inside : c.loop-known.known-index < length c.args.names = omega (arith, c.loop-known.invariant.long) in
+    sym (named_here _ _ _ no_name inside (sym c.says.ensures ∙ c.if-says.true)) ∙ c.loop-known.invariant.same
 
-pub returns-then-is_mode : goal.returns-then-is_mode
-returns-then-is_mode c =
-    let l = c.loop-k in
-    let h : l.k < 9 = omega arith in
-    sym (named_here _ _ _ _ (record { first = 0; second = 0; third = 0; mode = 0 }) l.invariant.1 h (sym c.is_mode.ensures ∙ c.if-is_mode.true)) ∙ l.invariant.2
-
-pub loop-k-preserved : goal.loop-k-preserved
-loop-k-preserved c =
-    let l = c.loop-k in
-    let h : l.k < 9 = omega arith in (
-      omega arith,
-      l.invariant.1,
-      sym (named_on _ _ _ _ (record { first = 0; second = 0; third = 0; mode = 0 }) l.invariant.1 h (sym c.is_mode.ensures ∙ c.if-is_mode.false)) ∙ l.invariant.2,
-    )
+pub loop-known-preserved : goal.loop-known-preserved
+loop-known-preserved c =
+    let inside : c.loop-known.known-index < length c.args.names = omega (arith, c.loop-known.invariant.long) in
+    record { long = c.loop-known.invariant.long; same = sym (named_on _ _ _ no_name inside (sym c.says.ensures ∙ c.if-says.false)) ∙ c.loop-known.invariant.same }
 
 pub returns : goal.returns
 returns c =
-    let past : 9 ≤ c.loop-k.k = omega arith in
-    sym (named_end _ _ _ _ c.loop-k.invariant.1 past) ∙ c.loop-k.invariant.2
+    let over : length c.args.names ≤ c.loop-known.known-index = omega (arith, c.loop-known.invariant.long) in
+    sym (named_end _ _ _ over) ∙ c.loop-known.invariant.same
