@@ -1,3 +1,4 @@
+pub mod Refusals
 pub mod Closed
 pub mod Ratio
 mod Bar

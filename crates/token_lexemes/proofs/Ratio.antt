@@ -15,11 +15,12 @@ use Rattle.editions.specs.declared.Edition.{Edition}
 use Rattle.reader.specs.Token.{tuplet, Taken}
 use Rattle.reader.specs.Tuplets.{positive, normal_for, counted, with_count, with_normal, with_actual, tuplet_of, or_slur, part_or}
 use Rattle.reader.specs.Tokens.{paren, token_as}
-use Rattle.token_symbols.specs.Tuplets.{tuplet_in, tuplet_for}
+use Rattle.std.specs.Prelude as code
+use Rattle.text_bytes.specs.declared.Read.{Read}
+use Rattle.token_symbols.specs.Tuplets.{tuplet_read, tuplet_in, tuplet_for}
 use Rattle.token_symbols.specs.declared.Tuplet.{Tuplet}
-use Rattle.token_symbols.specs.declared.Tuplet.TheVariants.{Read, Nothing}
 use Rattle.token_lexemes.specs.Lexemes.{lexeme_for, cut_for}
-use Rattle.token_lexemes.specs.declared.Lexeme.TheVariants as lexeme
+use Rattle.token_lexemes.specs.declared.Token.TheVariants as lexeme
 
 -- what is read, if anything is, is a tuplet
 pub record IsTuplet (t : Taken) : Type 0 where
@@ -63,33 +64,34 @@ unfolding tuplet_of
 form ed s = actual_form ed (1 + count_while is_digit s) (drop (count_while is_digit s) s) (positive 255 s)
 
 -- none
-none_by : (at : ℕ) (o : Option Taken) → Form o → tuplet_for at o ≡ Nothing → record { lexeme = lexeme.Slur; next = at + 1 } ≡ cut_for at (or_slur o)
+none_by : (at : ℕ) (o : Option Taken) → Form o → tuplet_for at o ≡ code.None → record { value = lexeme.Slur; next = at + 1 } ≡ cut_for at (or_slur o)
 unfolding Form tuplet_for tuplet_in or_slur lexeme_for
 none_by at none f e = refl
 none_by at (some t) f e =
-    let k : tuplet_in (at + t.used) (tuplet f.of) ≡ Nothing = rw f.is_it at e in
+    let k : tuplet_in (at + t.used) (tuplet f.of) ≡ code.None = rw f.is_it at e in
     let z : ◌≡◌ {A = ℕ} 0 1 = cc in absurd (omega arith)
 
 -- one
-one_by : (at : ℕ) (o : Option Taken) → Form o → (p q r n : ℕ) → tuplet_for at o ≡ Read p q r n → record { lexeme = lexeme.Tuplet p q r; next = n } ≡ cut_for at (or_slur o)
+one_by : (at : ℕ) (o : Option Taken) → Form o → (p q r n : ℕ) → tuplet_for at o ≡ tuplet_read p q r n → record { value = lexeme.Tuplet p q r; next = n } ≡ cut_for at (or_slur o)
 unfolding Form tuplet_for tuplet_in or_slur lexeme_for
 one_by at none f p q r n e = let z : ◌≡◌ {A = ℕ} 0 1 = cc in absurd (omega arith)
 one_by at (some t) f p q r n e =
-    let k : tuplet_in (at + t.used) (tuplet f.of) ≡ Read p q r n = rw f.is_it at e in
-    let a : p ≡ f.of.actual = cc in
-    let b : q ≡ f.of.normal = cc in
-    let d : r ≡ f.of.count = cc in
-    let m : n ≡ at + t.used = cc in
-    (λ j. record { lexeme = lexeme.Tuplet (a j) (b j) (d j); next = m j }) ∙ ap (λ x. record { lexeme = lexeme_for at x; next = at + t.used }) (sym f.is_it)
+    let k : tuplet_in (at + t.used) (tuplet f.of) ≡ tuplet_read p q r n = rw f.is_it at e in
+    let u : ◌≡◌ {A = Read Tuplet} (record { value = record { actual = p; normal = q; count = r }; next = n }) (record { value = record { actual = f.of.actual; normal = f.of.normal; count = f.of.count }; next = at + t.used }) = cc in
+    let a : p ≡ f.of.actual = ap (λ (y : Read Tuplet). y.value.actual) u in
+    let b : q ≡ f.of.normal = ap (λ (y : Read Tuplet). y.value.normal) u in
+    let d : r ≡ f.of.count = ap (λ (y : Read Tuplet). y.value.count) u in
+    let m : n ≡ at + t.used = ap (λ (y : Read Tuplet). y.next) u in
+    (λ j. record { value = lexeme.Tuplet (a j) (b j) (d j); next = m j }) ∙ ap (λ x. record { value = lexeme_for at x; next = at + t.used }) (sym f.is_it)
 
 module _ (ed : Edition) (line : List ℕ) (at : ℕ) where
   whole : tuplet_of ed (drop (at + 1) line) ≡ tuplet_of ed (drop 1 (drop at line))
   whole = ap (tuplet_of ed) (sym (drop-drop 1 at line))
 
-  pub slur_instead : tuplet_for at (tuplet_of ed (drop (at + 1) line)) ≡ Nothing → record { lexeme = lexeme.Slur; next = at + 1 } ≡ cut_for at (token_as ed paren (drop at line))
+  pub slur_instead : tuplet_for at (tuplet_of ed (drop (at + 1) line)) ≡ code.None → record { value = lexeme.Slur; next = at + 1 } ≡ cut_for at (token_as ed paren (drop at line))
   unfolding token_as
   slur_instead e = none_by at (tuplet_of ed (drop 1 (drop at line))) (form ed (drop 1 (drop at line))) (ap (tuplet_for at) (sym whole) ∙ e)
 
-  pub tuplet_read : (p q r n : ℕ) → tuplet_for at (tuplet_of ed (drop (at + 1) line)) ≡ Read p q r n → record { lexeme = lexeme.Tuplet p q r; next = n } ≡ cut_for at (token_as ed paren (drop at line))
+  pub tuplet_is_read : (p q r n : ℕ) → tuplet_for at (tuplet_of ed (drop (at + 1) line)) ≡ tuplet_read p q r n → record { value = lexeme.Tuplet p q r; next = n } ≡ cut_for at (token_as ed paren (drop at line))
   unfolding token_as
-  tuplet_read p q r n e = one_by at (tuplet_of ed (drop 1 (drop at line))) (form ed (drop 1 (drop at line))) p q r n (ap (tuplet_for at) (sym whole) ∙ e)
+  tuplet_is_read p q r n e = one_by at (tuplet_of ed (drop 1 (drop at line))) (form ed (drop 1 (drop at line))) p q r n (ap (tuplet_for at) (sym whole) ∙ e)

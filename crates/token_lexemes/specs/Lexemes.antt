@@ -1,17 +1,52 @@
 -- The definitions' tokens as the code has them.
-use Rattle.std.specs.Prelude.{ℕ, suc, ◌+◌, Bool, true, false, ◌&&◌, ◌||◌, List, ltb, length, get_or}
+use Rattle.std.specs.Prelude.{ℕ, suc, ◌+◌, Bool, true, false, ◌&&◌, ◌||◌, List, [], ◌∷◌, ltb, length, get_or}
 use Rattle.reader.specs.Text.{within}
 use Rattle.editions.specs.declared.Edition.{Edition}
 use Rattle.reader.specs.Lengths.{length_of, many_slashes}
 use Rattle.reader.specs.Token.{Token, space, overlay, quoted, broken, tuplet, slur, grace_open, grace_close, decoration, barline, volta, unit, meter, key, field, chord, rest, note, nothing, skipped, refused, Taken}
 use Rattle.reader.specs.Barlines.{left_of}
-use Rattle.reader.specs.Codes.{kind_code}
+use Rattle.standard.specs.Notes as Notes
+use Rattle.standard.specs.Notes.{NoteKind, sounded, invisible_rest, bar_rest, invisible_bar_rest}
+use Rattle.refusals.specs.declared.Refusal.{Refusal}
 use Rattle.reader.specs.Records.{pass_bits}
 use Rattle.token_symbols.specs.Bars.{barline_for}
 use Rattle.token_pitches.specs.Pitches.{pitch_for}
-use Rattle.token_lexemes.specs.declared.Lexeme.{Lexeme}
-use Rattle.token_lexemes.specs.declared.Lexeme.TheVariants.{Space, Overlay, Quoted, Broken, Tuplet, Slur, GraceOpen, GraceClose, Decoration, Barline, Volta, Unit, Meter, Key, Field, Chord, Rest, Note, Nothing, Skipped, Refused}
-use Rattle.token_lexemes.specs.declared.Cut.{Cut}
+use Rattle.text_bytes.specs.declared.Read.{Read}
+use Rattle.token_suffixes.specs.declared.Fraction.{Fraction}
+use Rattle.token_lexemes.specs.declared.NoteKind as kinds
+use Rattle.token_lexemes.specs.declared.NoteKind.TheVariants as kind
+use Rattle.token_lexemes.specs.declared.Token as code
+use Rattle.token_lexemes.specs.declared.Token.TheVariants.{Space, Overlay, Quoted, Broken, Tuplet, Slur, GraceOpen, GraceClose, Decoration, Barline, Volta, Unit, Meter, Key, Field, Chord, Rest, Note, Nothing, Skipped, Refused}
+
+-- the kind of a note in the code's type, and back
+abbrev pub kind_for : NoteKind → kinds.NoteKind
+kind_for sounded = kind.Sounded
+kind_for Notes.rest = kind.Rest
+kind_for invisible_rest = kind.InvisibleRest
+kind_for bar_rest = kind.BarRest
+kind_for invisible_bar_rest = kind.InvisibleBarRest
+
+abbrev pub as_kind : kinds.NoteKind → NoteKind
+as_kind kind.Sounded = sounded
+as_kind kind.Rest = Notes.rest
+as_kind kind.InvisibleRest = invisible_rest
+as_kind kind.BarRest = bar_rest
+as_kind kind.InvisibleBarRest = invisible_bar_rest
+
+-- the refusals by their numbers
+abbrev pub numbered : List Refusal
+numbered =
+    Refusal.NoMusic ∷ Refusal.NoMusic ∷ Refusal.TooLong ∷ Refusal.NotUtf8 ∷ Refusal.TooManyLines ∷ Refusal.LineTooLong ∷ Refusal.NotAscii ∷ Refusal.SecondTune ∷ Refusal.NoVoiceId
+    ∷ Refusal.TooManyVoices ∷ Refusal.Middle ∷ Refusal.TooManyNotes ∷ Refusal.Octave ∷ Refusal.BrokenRhythm ∷ Refusal.Passes ∷ Refusal.ScratchShort ∷ Refusal.ReadingShort
+    ∷ Refusal.PassRange ∷ Refusal.PassOrder ∷ Refusal.NoSuchPart ∷ Refusal.ListShort ∷ Refusal.KeyBeyond ∷ Refusal.ManySlashes ∷ []
+
+-- the refusal of a number from 1 to 22 (`refusal_back`: `number_of` gives the number again); no token is refused by another
+abbrev pub refusal_with : ℕ → Refusal
+refusal_with n = get_or numbered n Refusal.NoMusic
+
+-- a length as written
+abbrev pub fraction : ℕ → ℕ → Fraction
+fraction num den = record { num = num; den = den }
 
 -- right behind a note's letter: neither an octave mark nor a length nor a tie nor a slur end begins with this byte
 abbrev pub is_plain : ℕ → Bool
@@ -22,7 +57,7 @@ abbrev pub is_short : ℕ → ℕ → Bool
 is_short b c = within 47 57 b && is_plain c
 
 -- the token whose first byte stands at a position
-unfoldable pub lexeme_for : ℕ → Token → Lexeme
+unfoldable pub lexeme_for : ℕ → Token → code.Token Fraction
 lexeme_for at space = Space
 lexeme_for at overlay = Overlay
 lexeme_for at quoted = Quoted
@@ -38,21 +73,21 @@ lexeme_for at (unit u) = Unit u
 lexeme_for at (meter m) = Meter m.0 m.1
 lexeme_for at (key k) = Key k.fifths k.minor
 lexeme_for at field = Field
-lexeme_for at (chord ps l b) = Chord (at + 1) (length ps) l.num l.den b.tie b.slur
-lexeme_for at (rest k l) = Rest (kind_code k) l.num l.den
-lexeme_for at (note w l b) = Note (pitch_for w) l.num l.den b.tie b.slur
+lexeme_for at (chord ps l b) = Chord (at + 1) (length ps) (fraction l.num l.den) b.tie b.slur
+lexeme_for at (rest k l) = Rest (kind_for k) (fraction l.num l.den)
+lexeme_for at (note w l b) = Note (pitch_for w) (fraction l.num l.den) b.tie b.slur
 lexeme_for at nothing = Nothing
 lexeme_for at skipped = Skipped
-lexeme_for at (refused n) = Refused n
+lexeme_for at (refused n) = Refused (refusal_with n)
 
 -- with the position after it
-abbrev pub cut_for : ℕ → Taken → Cut
-cut_for at t = record { lexeme = lexeme_for at t.token; next = at + t.used }
+abbrev pub cut_for : ℕ → Taken → Read (code.Token Fraction)
+cut_for at t = record { value = lexeme_for at t.token; next = at + t.used }
 
--- a rest by the number of its kind, with the length at the front of s; or refusal 22
-unfoldable pub rest_for : Edition → ℕ → ℕ → List ℕ → Cut
-rest_for ed at kind s =
+-- a rest of a kind, with the length at the front of s; or refusal 22
+unfoldable pub rest_for : Edition → ℕ → kinds.NoteKind → List ℕ → Read (code.Token Fraction)
+rest_for ed at k s =
     elim (many_slashes ed s) [
-      | true ↦ record { lexeme = Refused 22; next = at + suc (length s) }
-      | false ↦ record { lexeme = Rest kind (length_of ed s).num (length_of ed s).den; next = at + suc (length_of ed s).used }
+      | true ↦ record { value = Refused Refusal.ManySlashes; next = at + suc (length s) }
+      | false ↦ record { value = Rest k (fraction (length_of ed s).num (length_of ed s).den); next = at + suc (length_of ed s).used }
     ]

@@ -7,17 +7,46 @@ ghost use Rattle.reader.specs.Token.{decoration, skipped, taken};
 ghost use Rattle.reader.specs.PassLists.{volta_of};
 ghost use Rattle.reader.specs.Sounds.{note_as, note_of};
 ghost use Rattle.reader.specs.Barlines.{barline_of};
+ghost use Rattle.reader.specs.Codes.{kind_code};
 ghost use Rattle.reader.specs.Tokens.{closed_by, quoted_of, broken_of, paren, token_as};
 ghost use Rattle.token_pitches.specs.Pitches.{sign_of};
-ghost use Rattle.token_lexemes.specs.Lexemes.{is_plain, is_short, cut_for, rest_for};
+ghost use Rattle.token_lexemes.specs.Lexemes.{as_kind, is_plain, is_short, cut_for, rest_for};
 
 use editions::Edition;
-use token_pitches::{Pitch, Sign};
+use refusals::Refusal;
+use text_bytes::Read;
+use token_pitches::{Accidental, Pitch};
+use token_suffixes::Fraction;
 use token_symbols::Barline;
 
-// A token with its length as written, num / den of the unit. A chord's pitches are read again from `place` on (`next_chord_pitch`): no array in an enum.
+// What a note of a record is: sounded, or a rest of one of four kinds.
+#[derive(Clone, Copy, Debug, PartialEq, Eq)]
+pub enum NoteKind {
+    Sounded,
+    Rest,
+    InvisibleRest,
+    BarRest,
+    InvisibleBarRest,
+}
+
+// Its number in the record.
+impl From<NoteKind> for u8 {
+    ghost from_gives = { λ kind number. number ≡ kind_code (as_kind kind) };
+
+    fn from(kind: NoteKind) -> u8 {
+        match kind {
+            NoteKind::Sounded => 0,
+            NoteKind::Rest => 1,
+            NoteKind::InvisibleRest => 2,
+            NoteKind::BarRest => 3,
+            NoteKind::InvisibleBarRest => 4,
+        }
+    }
+}
+
+// A token, with its length as it is written, a fraction of the unit, or by its written value. A chord's pitches are read again from `place` on (`next_chord_pitch`): no array in an enum.
 #[derive(Clone, Copy)]
-pub enum Lexeme {
+pub enum Token<L> {
     Space,
     Overlay,
     Quoted,
@@ -56,86 +85,76 @@ pub enum Lexeme {
     Chord {
         place: usize,
         count: usize,
-        num: u32,
-        den: u32,
+        length: L,
         tie: bool,
         slur: bool,
     },
     Rest {
-        kind: u8,
-        num: u32,
-        den: u32,
+        kind: NoteKind,
+        length: L,
     },
     Note {
         pitch: Pitch,
-        num: u32,
-        den: u32,
+        length: L,
         tie: bool,
         slur: bool,
     },
     Nothing,
     Skipped,
-    Refused(u8),
-}
-
-// A token and the position after it.
-#[derive(Clone, Copy)]
-pub struct Cut {
-    pub lexeme: Lexeme,
-    pub next: usize,
+    Refused(Refusal),
 }
 
 // A quoted text, or, unclosed, the rest of the line.
-pub fn quoted_text(line: &[u8], at: usize) -> Cut
+pub fn quoted_text(line: &[u8], at: usize) -> Read<Token<Fraction>>
     requires { at < length line.now }
     ensures { result ≡ cut_for at (quoted_of (drop at line.now)) }
 {
     let close = text_runs::find(line, at + 1, line.len(), b'"');
     if close < line.len() {
-        return Cut {
-            lexeme: Lexeme::Quoted,
+        return Read {
+            value: Token::Quoted,
             next: close + 1,
         };
     }
-    Cut {
-        lexeme: Lexeme::Quoted,
+    Read {
+        value: Token::Quoted,
         next: line.len(),
     }
 }
 
 // `!name!` or `+name+`; an unclosed `b` means nothing.
-pub fn decoration(line: &[u8], at: usize, b: u8) -> Cut
+pub fn decoration(line: &[u8], at: usize, b: u8) -> Read<Token<Fraction>>
     requires { at < length line.now }
     ensures { result ≡ cut_for at (closed_by (λ c. eqb c b) decoration (drop 1 (drop at line.now)) (taken skipped 1)) }
 {
     let close = text_runs::find(line, at + 1, line.len(), b);
     if close < line.len() {
-        return Cut {
-            lexeme: Lexeme::Decoration,
+        return Read {
+            value: Token::Decoration,
             next: close + 1,
         };
     }
-    Cut {
-        lexeme: Lexeme::Skipped,
+    Read {
+        value: Token::Skipped,
         next: at + 1,
     }
 }
 
 // Broken rhythm: the equal signs `b` from `at` on, 255 at most (refusal 13).
-pub fn broken(line: &[u8], at: usize, b: u8, up: bool) -> Cut
+pub fn broken(line: &[u8], at: usize, b: u8, up: bool) -> Read<Token<Fraction>>
     requires { at < length line.now }
     ensures { result ≡ cut_for at (broken_of up (suc (count_while (λ c. eqb c b) (drop 1 (drop at line.now)))) (drop at line.now)) }
 {
     let end = text_runs::run_end(line, at + 1, b);
     let count = end - at;
     if 255 < count {
-        return Cut {
-            lexeme: Lexeme::Refused(13),
+        return Read {
+            value: Token::Refused(Refusal::BrokenRhythm),
             next: line.len(),
         };
     }
-    Cut {
-        lexeme: Lexeme::Broken {
+    Read {
+        value: Token::Broken {
             up,
             count: count as u8,
         },
@@ -144,87 +163,85 @@ pub fn broken(line: &[u8], at: usize, b: u8, up: bool) -> Cut
 }
 
 // A tuplet, or a slur start instead.
-pub fn tuplet_or_slur(edition: Edition, line: &[u8], at: usize) -> Cut
+pub fn tuplet_or_slur(edition: Edition, line: &[u8], at: usize) -> Read<Token<Fraction>>
     requires { at < length line.now }
     ensures { result ≡ cut_for at (token_as edition paren (drop at line.now)) }
 {
-    let token_symbols::Tuplet::Read {
-        actual,
-        normal,
-        count,
-        next,
-    } = token_symbols::parse_abc_tuplet(edition, line, at)
-    else {
-        return Cut {
-            lexeme: Lexeme::Slur,
+    let Some(tuplet) = token_symbols::parse_abc_tuplet(edition, line, at) else {
+        return Read {
+            value: Token::Slur,
             next: at + 1,
         };
     };
-    Cut {
-        lexeme: Lexeme::Tuplet {
-            actual,
-            normal,
-            count,
+    Read {
+        value: Token::Tuplet {
+            actual: tuplet.value.actual,
+            normal: tuplet.value.normal,
+            count: tuplet.value.count,
         },
-        next,
+        next: tuplet.next,
     }
 }
 
 // A barline, and whether a measure opens behind it; a lone `:` means nothing.
-pub fn bar_line(line: &[u8], at: usize) -> Cut
+pub fn bar_line(line: &[u8], at: usize) -> Read<Token<Fraction>>
     requires { at < length line.now }
     ensures { result ≡ cut_for at (barline_of (drop at line.now)) }
 {
-    let token_symbols::Bar::Read { right, left, next } = token_symbols::parse_barline(line, at)
-    else {
-        return Cut {
-            lexeme: Lexeme::Skipped,
+    let Some(bar) = token_symbols::parse_barline(line, at) else {
+        return Read {
+            value: Token::Skipped,
             next: at + 1,
         };
     };
-    let opens = text_bytes::byte_at(line, next) != b']';
-    Cut {
-        lexeme: Lexeme::Barline { right, left, opens },
-        next,
+    let opens = text_bytes::byte_at(line, bar.next) != b']';
+    Read {
+        value: Token::Barline {
+            right: bar.value.right,
+            left: bar.value.left,
+            opens,
+        },
+        next: bar.next,
     }
 }
 
 // An ending with its passes, or refusal 14, 17 or 18.
-pub fn volta(line: &[u8], at: usize) -> Cut
+pub fn volta(line: &[u8], at: usize) -> Read<Token<Fraction>>
     requires { at < length line.now }
     ensures { result ≡ cut_for at (volta_of (drop (at + 1) line.now)) }
 {
-    let token_passes::Passes::Read { first, bits, next } = token_passes::parse_passes(line, at + 1)
-    else {
-        return Cut {
-            lexeme: Lexeme::Refused(token_passes::list_fault(line, at + 1)),
+    let Some(passes) = token_passes::parse_passes(line, at + 1) else {
+        return Read {
+            value: Token::Refused(token_passes::list_fault(line, at + 1)),
             next: line.len(),
         };
     };
-    Cut {
-        lexeme: Lexeme::Volta {
-            first,
-            passes: bits,
+    Read {
+        value: Token::Volta {
+            first: passes.value.first,
+            passes: passes.value.bits,
         },
-        next,
+        next: passes.next,
     }
 }
 
 // A rest and its length, or refusal 22.
-pub fn rest(edition: Edition, line: &[u8], at: usize, kind: u8) -> Cut
+pub fn rest(edition: Edition, line: &[u8], at: usize, kind: NoteKind) -> Read<Token<Fraction>>
     requires { at < length line.now }
     ensures { result ≡ rest_for edition at kind (drop (at + 1) line.now) }
 {
-    let suffix = token_suffixes::parse_duration_suffix(edition, line, at + 1);
-    let token_suffixes::Suffix::Read { num, den, next: to } = suffix else {
-        return Cut {
-            lexeme: Lexeme::Refused(22),
+    let Ok(suffix) = token_suffixes::parse_duration_suffix(edition, line, at + 1) else {
+        return Read {
+            value: Token::Refused(Refusal::ManySlashes),
             next: line.len(),
         };
     };
-    Cut {
-        lexeme: Lexeme::Rest { kind, num, den },
-        next: to,
+    Read {
+        value: Token::Rest {
+            kind,
+            length: suffix.value,
+        },
+        next: suffix.next,
     }
 }
 
@@ -246,58 +263,52 @@ pub fn is_short(b: u8, next: u8) -> bool
 }
 
 // A note from its letter on, which stands at `at`, with the accidental before it; or refusal 12 or 22. Most are a letter alone.
-fn note_from_letter(edition: Edition, line: &[u8], at: usize, sign: Sign) -> Cut
+fn note_from_letter(
+    edition: Edition,
+    line: &[u8],
+    at: usize,
+    sign: Option<Accidental>,
+) -> Read<Token<Fraction>>
     requires { at < length line.now }
     ensures { result ≡ cut_for at (note_as edition (record { sign = sign_of sign; used = 0 }) (get_or line.now at 0) (drop (at + 1) line.now)) }
 {
     let letter = token_pitches::abc_note_char(line[at]);
     if is_plain(text_bytes::byte_at(line, at + 1)) {
-        return Cut {
-            lexeme: Lexeme::Note {
+        return Read {
+            value: Token::Note {
                 pitch: Pitch {
                     step: letter.step,
                     octave: letter.octave,
                     sign,
                 },
-                num: 1,
-                den: 1,
+                length: Fraction { num: 1, den: 1 },
                 tie: false,
                 slur: false,
             },
             next: at + 1,
         };
     }
-    let token_pitches::Octave::At {
-        octave,
-        next: after_octave,
-    } = token_pitches::octave_marks(line, at + 1, letter.octave)
-    else {
-        return Cut {
-            lexeme: Lexeme::Refused(12),
+    let Ok(octave) = token_pitches::octave_marks(line, at + 1, letter.octave) else {
+        return Read {
+            value: Token::Refused(Refusal::Octave),
             next: line.len(),
         };
     };
-    let token_suffixes::Suffix::Read {
-        num,
-        den,
-        next: after_length,
-    } = token_suffixes::parse_duration_suffix(edition, line, after_octave)
-    else {
-        return Cut {
-            lexeme: Lexeme::Refused(22),
+    let Ok(suffix) = token_suffixes::parse_duration_suffix(edition, line, octave.next) else {
+        return Read {
+            value: Token::Refused(Refusal::ManySlashes),
             next: line.len(),
         };
     };
-    let behind = text_runs::apply_abc_note_annotations(line, after_length);
-    Cut {
-        lexeme: Lexeme::Note {
+    let behind = text_runs::apply_abc_note_annotations(line, suffix.next);
+    Read {
+        value: Token::Note {
             pitch: Pitch {
                 step: letter.step,
-                octave,
+                octave: octave.value,
                 sign,
             },
-            num,
-            den,
+            length: suffix.value,
             tie: behind.tie,
             slur: behind.slur,
         },
@@ -306,24 +317,24 @@ fn note_from_letter(edition: Edition, line: &[u8], at: usize, sign: Sign) -> Cut
 }
 
 // A note with its accidentals, which take the byte behind them even if that is no letter.
-pub fn note(edition: Edition, line: &[u8], at: usize) -> Cut
+pub fn note(edition: Edition, line: &[u8], at: usize) -> Read<Token<Fraction>>
     requires { at < length line.now }
     ensures { result ≡ cut_for at (note_of edition (drop at line.now)) }
 {
     let before = token_pitches::accidental_before(line, at);
-    let sign = before.sign;
+    let sign = before.value;
     let place = before.next;
     if line.len() <= place {
-        return Cut {
-            lexeme: Lexeme::Nothing,
+        return Read {
+            value: Token::Nothing,
             next: place,
         };
     }
     if token_pitches::is_letter(line[place]) {
         return note_from_letter(edition, line, place, sign);
     }
-    Cut {
-        lexeme: Lexeme::Nothing,
+    Read {
+        value: Token::Nothing,
         next: place + 1,
     }
 }

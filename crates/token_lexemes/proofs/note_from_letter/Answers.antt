@@ -14,15 +14,15 @@ returns-then-is_plain c =
 
 pub returns-in_default : goal.returns-in_default
 returns-in_default c =
-    letter_out c.args.edition c.args.line.now c.args.at c.requires c.args.sign c.abc_note_char-letter.result c.abc_note_char-letter.ensures (sym c.octave_marks.ensures ∙ c.in_default.is)
+    letter_out c.args.edition c.args.line.now c.args.at c.requires c.args.sign c.abc_note_char-letter.result c.abc_note_char-letter.ensures (λ x e. c.in_default.not-Ok x (c.octave_marks.ensures ∙ e))
 
 -- the octave marks, behind which the length begins
 pub returns-in_default-parse_duration_suffix : goal.returns-in_default-parse_duration_suffix
 returns-in_default-parse_duration_suffix c =
-    letter_many c.args.edition c.args.line.now c.args.at c.requires c.args.sign c.abc_note_char-letter.result c.abc_note_char-letter.ensures c.in-At.octave c.in-At.after_octave (sym c.octave_marks.ensures ∙ c.in-At.is)
-    (sym c.parse_duration_suffix.ensures ∙ c.in_default-parse_duration_suffix.is)
+    letter_many c.args.edition c.args.line.now c.args.at c.requires c.args.sign c.abc_note_char-letter.result c.abc_note_char-letter.ensures c.in-Ok.octave.value c.in-Ok.octave.next (sym c.octave_marks.ensures ∙ c.in-Ok.is)
+    (λ x e. c.in_default-parse_duration_suffix.not-Ok x (c.parse_duration_suffix.ensures ∙ e))
 
 pub returns : goal.returns
 returns c =
-    letter_in c.args.edition c.args.line.now c.args.at c.requires c.args.sign c.abc_note_char-letter.result c.abc_note_char-letter.ensures c.in-At.octave c.in-At.after_octave (sym c.octave_marks.ensures ∙ c.in-At.is)
-    c.in-Read.num c.in-Read.den c.in-Read.after_length (sym c.parse_duration_suffix.ensures ∙ c.in-Read.is) c.apply_abc_note_annotations-behind.result c.apply_abc_note_annotations-behind.ensures
+    letter_in c.args.edition c.args.line.now c.args.at c.requires c.args.sign c.abc_note_char-letter.result c.abc_note_char-letter.ensures c.in-Ok.octave.value c.in-Ok.octave.next (sym c.octave_marks.ensures ∙ c.in-Ok.is)
+    _ _ _ (sym c.parse_duration_suffix.ensures ∙ c.in-Ok-parse_duration_suffix.is) c.apply_abc_note_annotations-behind.result c.apply_abc_note_annotations-behind.ensures

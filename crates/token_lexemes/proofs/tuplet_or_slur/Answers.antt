@@ -1,6 +1,6 @@
 -- `token_lexemes::tuplet_or_slur` meets its contract.
 use mathlib.Core.Path.{sym, ◌∙◌}
-use Rattle.token_lexemes.proofs.Ratio.{slur_instead, tuplet_read}
+use Rattle.token_lexemes.proofs.Ratio.{slur_instead, tuplet_is_read}
 use Rattle.token_lexemes.proofs.tuplet_or_slur.Goals as goal
 
 pub returns-in_default : goal.returns-in_default
@@ -11,4 +11,4 @@ returns-in_default c =
 pub returns : goal.returns
 returns c =
     let a = c.args in
-    tuplet_read _ a.line.now a.at _ _ _ _ (sym c.parse_abc_tuplet.ensures ∙ c.in-Read.is)
+    tuplet_is_read _ a.line.now a.at _ _ _ _ (sym c.parse_abc_tuplet.ensures ∙ c.in-Some.is)

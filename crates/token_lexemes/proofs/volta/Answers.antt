@@ -1,6 +1,6 @@
 -- `token_lexemes::volta` meets its contract.
 use mathlib.Core.Path.{sym, ◌∙◌}
-use Rattle.token_lexemes.proofs.Ending.{no_passes, passes_read}
+use Rattle.token_lexemes.proofs.Ending.{no_passes, passes_are_read}
 use Rattle.token_lexemes.proofs.volta.Goals as goal
 
 pub returns-in_default : goal.returns-in_default
@@ -9,4 +9,4 @@ returns-in_default c =
 
 pub returns : goal.returns
 returns c =
-    passes_read c.args.line.now c.args.at c.requires _ _ _ (sym c.parse_passes.ensures ∙ c.in-Read.is)
+    passes_are_read c.args.line.now c.args.at c.requires _ _ _ (sym c.parse_passes.ensures ∙ c.in-Some.is)
