@@ -11,21 +11,11 @@ use Rattle.laws.specs.Bytes.{between}
 use Rattle.laws.proofs.Bools.{by_test}
 use Rattle.laws.proofs.Spans.{count_while_yes, count_while_no}
 use Rattle.laws.proofs.Parts.{between_first, run_between, behind_between}
-use Rattle.standard.specs.Lyrics.{Syllabic, single, begins, ends, middle, syllabic_of, syllable, syllables, syllable_text}
+use Rattle.standard.specs.Lyrics.{syllabic_of, syllable, syllables, syllable_text}
 use Rattle.reader.specs.Pieces.{pieces, words, separator}
 use Rattle.reader.specs.Lyrics.{or_skip}
-use Rattle.reader.specs.Codes.{syllabic_code}
 use Rattle.reader.proofs.WordLaws.{stretch, words_separator, words_word}
 use Rattle.lyric_spans.specs.Spans.{is_hyphen, no_hyphen}
-use Rattle.lyric_words.specs.Words.{as_syllabic}
-
--- a syllabic is that of its number
-pub syllabic_back : (c : Syllabic) → as_syllabic (syllabic_code c) ≡ c
-unfolding as_syllabic syllabic_code
-syllabic_back single = refl
-syllabic_back begins = refl
-syllabic_back ends = refl
-syllabic_back middle = refl
 
 -- no words in nothing
 pub words_none : (w : List ℕ → ℕ) → words w [] ≡ []

@@ -13,20 +13,19 @@ use Rattle.laws.proofs.Parts.{end_in_ge, end_in_stop, end_in_over}
 use Rattle.standard.specs.Bytes.{is}
 use Rattle.standard.specs.Lyrics.{syllabic_of}
 use Rattle.reader.specs.Text.{is_space}
-use Rattle.reader.specs.Codes.{syllabic_code}
 use Rattle.lyric_spans.specs.Spans.{is_hyphen, is_plain, WordStart, Closed, WordEnd}
 use Rattle.lyric_spans.proofs.Plain.{closed_here, plain_le, plain_word, plain_piece, plain_first, plain_last}
-use Rattle.lyric_words.specs.declared.Token.TheVariants as T
+use Rattle.lyric_words.specs.declared.Syllabic.TheVariants as S
 use Rattle.lyric_words.specs.declared.Cursor.{Cursor}
 use Rattle.lyric_words.specs.declared.Read.{Read}
-use Rattle.lyric_words.specs.Words.{is_sign, closed_at, one_syllable, SyllableRead, PlainRead, WordRead, Ready, TokenRead}
+use Rattle.lyric_words.specs.Words.{as_syllabic, is_sign, closed_at, one_syllable, SyllableRead, PlainRead, WordRead, Ready, TokenRead}
 use Rattle.lyric_words.proofs.Tokens as tokens
-use Rattle.lyric_words.proofs.Tokens.{cursor, read, syllable_last, word_long, word_byte, settle_past, token_first}
+use Rattle.lyric_words.proofs.Tokens.{cursor, read, syllable_at, syllable_last, word_long, word_byte, settle_past, token_first}
 
 -- no hyphen before it, none behind it
-single_code : 0 ≡ syllabic_code (syllabic_of false false)
-unfolding syllabic_code syllabic_of
-single_code = refl
+syllabic_alone : as_syllabic S.Single ≡ syllabic_of false false
+unfolding syllabic_of
+syllabic_alone = refl
 
 module _ (text : List ℕ) (end : ℕ) (l : end ≤ length text) (at plain : ℕ) (m : at < end) (e : plain ≡ end_in is_plain text at end) (one : one_syllable text at plain end ≡ true) where
   rest : (closed_at text plain end && not (eqb (plain - at) 1 && is_sign (get_or text at 0))) ≡ true
@@ -54,12 +53,12 @@ module _ (text : List ℕ) (end : ℕ) (l : end ≤ length text) (at plain : ℕ
   ends = not_true (is_hyphen (get_or text (plain - 1) 0)) (plain_last text end l at plain m e past)
 
   abbrev syllable : Read
-  syllable = read (T.Syllable at plain 0) (cursor plain plain true false)
+  syllable = read (syllable_at at plain S.Single) (cursor plain plain true false)
 
   syllable_read : SyllableRead text (cursor at plain false false) syllable
   syllable_read =
-      syllable_last text at plain false false plain plain 0 past (omega (arith, inside)) starts (sym (plain_piece text end l at plain m e (omega (arith, past))))
-      (sym (end_in_over is_hyphen text plain plain (omega arith))) (λ h. absurd (omega arith)) single_code
+      syllable_last text at plain false false plain plain S.Single past (omega (arith, inside)) starts (sym (plain_piece text end l at plain m e (omega (arith, past))))
+      (sym (end_in_over is_hyphen text plain plain (omega arith))) (λ h. absurd (omega arith)) syllabic_alone
 
   plain_read : PlainRead text at plain syllable
   plain_read =
@@ -86,7 +85,7 @@ module _ (text : List ℕ) (end : ℕ) (l : end ≤ length text) (at plain : ℕ
   word_is = plain_word text end l at plain m e past plain_closed
 
   -- A PLAIN WORD at a cursor
-  pub token_plain : (c : Cursor) → c.at ≡ at → Ready text end c → (c.at < c.word → ⊥) → (r : ℕ) → WordStart text plain end r → TokenRead text end c (read (T.Syllable at plain 0) (cursor r r false false))
+  pub token_plain : (c : Cursor) → c.at ≡ at → Ready text end c → (c.at < c.word → ⊥) → (r : ℕ) → WordStart text plain end r → TokenRead text end c (read (syllable_at at plain S.Single) (cursor r r false false))
   token_plain c f i h r w =
       token_first text end c i h plain (rw f word_is) syllable (rw f word_read) (cursor r r false false)
       (settle_past text end (cursor plain plain true false) word_read.gone.stands plain_closed (λ k. absurd (omega arith)) r w)

@@ -14,17 +14,17 @@ use Rattle.laws.proofs.Bools.{not_false}
 use Rattle.laws.proofs.Lists.{eq_text_length}
 use Rattle.laws.proofs.Parts.{length_between, get_d_between, between_none, between_first, end_in_ge, end_in_le, end_in_more, end_in_stops}
 use Rattle.standard.specs.Bytes.{ascii, first, last}
-use Rattle.standard.specs.Lyrics.{Syllabic, single, begins, ends, middle, syllabic_of, Word, skip, hold, bar, syllable, syllables, syllable_text}
+use Rattle.standard.specs.Lyrics.{syllabic_of, Word, skip, hold, bar, syllable, syllables, syllable_text}
 use Rattle.reader.specs.Pieces.{words, separator, white_at}
 use Rattle.reader.specs.Lyrics.{or_skip, word_of, words_of, lyric_words}
-use Rattle.reader.specs.Codes.{syllabic_code}
 use Rattle.lyric_spans.specs.Spans.{is_hyphen, no_hyphen, WordStart, Closed, WordEnd}
+use Rattle.lyric_words.specs.declared.Syllabic as code
 use Rattle.lyric_words.specs.declared.Token.{Token}
 use Rattle.lyric_words.specs.declared.Token.TheVariants as T
 use Rattle.lyric_words.specs.declared.Cursor.{Cursor}
 use Rattle.lyric_words.specs.declared.Read.{Read}
 use Rattle.lyric_words.specs.Words.{as_syllabic, Small, said, in_word, plain_of, ahead, InWord, GoneOn, SyllableRead, PlainRead, WordRead, Ready, Settled, TokenRead, First}
-use Rattle.lyric_words.proofs.Hyphens.{syllabic_back, words_none, hyphens_past, piece_first, last_syllable, next_syllable, or_skip_some}
+use Rattle.lyric_words.proofs.Hyphens.{words_none, hyphens_past, piece_first, last_syllable, next_syllable, or_skip_some}
 
 abbrev pub cursor : ℕ → ℕ → Bool → Bool → Cursor
 cursor at word led trailed = record { at = at; word = word; led = led; trailed = trailed }
@@ -32,20 +32,15 @@ cursor at word led trailed = record { at = at; word = word; led = led; trailed =
 abbrev pub read : Token → Cursor → Read
 read t c = record { token = t; cursor = c }
 
--- a syllabic's number is small
-code_small : (c : Syllabic) → syllabic_code c < 4
-unfolding syllabic_code
-code_small single = omega arith
-code_small begins = omega arith
-code_small ends = omega arith
-code_small middle = omega arith
+abbrev pub syllable_at : ℕ → ℕ → code.Syllabic → Token
+syllable_at at end syllabic = T.Syllable (record { at = at; end = end; syllabic = syllabic })
 
 -- a bound that is higher
 pub small_more : (a b : ℕ) (t : Token) → a ≤ b → Small a t → Small b t
 small_more a b T.Bar h s = tt
 small_more a b T.Skip h s = tt
 small_more a b T.Hold h s = tt
-small_more a b (T.Syllable at end code) h s = (omega (arith, s.0), omega (arith, s.1), s.2)
+small_more a b (T.Syllable y) h s = (omega (arith, s.0), omega (arith, s.1))
 
 -- behind the word no syllable is left
 pub word_done : (text : List ℕ) (c : Cursor) → c.word ≤ c.at → in_word text c ≡ []
@@ -53,7 +48,7 @@ unfolding in_word syllables
 word_done text c h = ap (λ (l : List ℕ). syllables c.led c.trailed (words (separator is_hyphen) l)) (between_none text c.at c.word h) ∙ ap (syllables c.led c.trailed) (words_none (separator is_hyphen))
 
 -- A SYLLABLE
-module _ (text : List ℕ) (at word : ℕ) (led trailed : Bool) (e q code : ℕ) (h : at < word) (l : word ≤ length text) (n : is_hyphen (get_or text at 0) ≡ false)
+module _ (text : List ℕ) (at word : ℕ) (led trailed : Bool) (e q : ℕ) (x : code.Syllabic) (h : at < word) (l : word ≤ length text) (n : is_hyphen (get_or text at 0) ≡ false)
     (ee : e ≡ end_in no_hyphen text at word) (qe : q ≡ end_in is_hyphen text e word) where
   -- the piece, and those behind it
   pieces_at : words (separator is_hyphen) (between text at word) ≡ between text at e ∷ words (separator is_hyphen) (between text q word)
@@ -88,36 +83,34 @@ module _ (text : List ℕ) (at word : ℕ) (led trailed : Bool) (e q code : ℕ)
   gone = record { stands = record { low = q_in; piece = at_piece }; same = refl; on = omega (arith, past, q_ge); far = far_on }
 
   -- another follows
-  pub syllable_next : q < word → code ≡ syllabic_code (syllabic_of led true) → SyllableRead text (cursor at word led trailed) (read (T.Syllable at e code) (cursor q word true trailed))
+  pub syllable_next : q < word → as_syllabic x ≡ syllabic_of led true → SyllableRead text (cursor at word led trailed) (read (syllable_at at e x) (cursor q word true trailed))
   unfolding in_word said
-  syllable_next r ce =
+  syllable_next r s =
       let p = between text at e in
-      let x = between text q (end_in no_hyphen text q word) in
+      let y = between text q (end_in no_hyphen text q word) in
       let ps = words (separator is_hyphen) (between text (end_in no_hyphen text q word) word) in
-      let more : words (separator is_hyphen) (between text q word) ≡ x ∷ ps = piece_first text q word r l (at_piece r) in
-      let s : as_syllabic code ≡ syllabic_of led true = ap as_syllabic ce ∙ syllabic_back (syllabic_of led true) in
+      let more : words (separator is_hyphen) (between text q word) ≡ y ∷ ps = piece_first text q word r l (at_piece r) in
       record {
         says =
             ap (syllables led trailed) (pieces_at ∙ ap (λ (ys : List (List ℕ)). p ∷ ys) more)
-            ∙ next_syllable led trailed p x ps
+            ∙ next_syllable led trailed p y ps
             ∙ (λ i. syllable (sym s i) (syllable_text p) ∷ syllables true trailed (sym more i));
-        small = (omega arith, omega (arith, e_in), rw ce (code_small _));
+        small = (omega arith, omega (arith, e_in));
         gone = gone;
       }
 
   -- it is the last
-  pub syllable_last : (q < word → ⊥) → code ≡ syllabic_code (syllabic_of led trailed) → SyllableRead text (cursor at word led trailed) (read (T.Syllable at e code) (cursor q word true trailed))
+  pub syllable_last : (q < word → ⊥) → as_syllabic x ≡ syllabic_of led trailed → SyllableRead text (cursor at word led trailed) (read (syllable_at at e x) (cursor q word true trailed))
   unfolding said in_word
-  syllable_last r ce =
+  syllable_last r s =
       let p = between text at e in
       let none : words (separator is_hyphen) (between text q word) ≡ [] = ap (words (separator is_hyphen)) (between_none text q word (omega arith)) ∙ words_none (separator is_hyphen) in
-      let s : as_syllabic code ≡ syllabic_of led trailed = ap as_syllabic ce ∙ syllabic_back (syllabic_of led trailed) in
       record {
         says =
             ap (syllables led trailed) (pieces_at ∙ ap (λ (ys : List (List ℕ)). p ∷ ys) none)
             ∙ last_syllable led trailed p
             ∙ (λ i. syllable (sym s i) (syllable_text p) ∷ sym (word_done text (cursor q word true trailed) (omega arith)) i);
-        small = (omega arith, omega (arith, e_in), rw ce (code_small _));
+        small = (omega arith, omega (arith, e_in));
         gone = gone;
       }
 

@@ -7,28 +7,37 @@ use Rattle.reader.specs.Text.{is_space}
 use Rattle.reader.specs.Pieces.{words, separator, white_at}
 use Rattle.reader.specs.Lyrics.{or_skip, word_of, lyric_words}
 use Rattle.lyric_spans.specs.Spans.{is_hyphen}
+use Rattle.lyric_words.specs.declared.Syllabic as code
+use Rattle.lyric_words.specs.declared.Syllabic.TheVariants as S
 use Rattle.lyric_words.specs.declared.Token.{Token}
 use Rattle.lyric_words.specs.declared.Token.TheVariants as T
 use Rattle.lyric_words.specs.declared.Cursor.{Cursor}
 use Rattle.lyric_words.specs.declared.Read.{Read}
 
--- a syllabic by its number
-unfoldable pub as_syllabic : ℕ → Syllabic
-as_syllabic n = cond (eqb n 0) single (cond (eqb n 1) begins (cond (eqb n 2) ends middle))
+-- where a syllable stands in its word
+abbrev pub as_syllabic : code.Syllabic → Syllabic
+as_syllabic S.Single = single
+as_syllabic S.Begins = begins
+as_syllabic S.Ends = ends
+as_syllabic S.Middle = middle
+
+-- a cursor between two words
+abbrev pub cursor_between : ℕ → Cursor
+cursor_between at = record { at = at; word = at; led = false; trailed = false }
 
 -- the word that a token says
 unfoldable pub said : List ℕ → Token → List Word
 said text T.Bar = bar ∷ []
 said text T.Skip = skip ∷ []
 said text T.Hold = hold ∷ []
-said text (T.Syllable at end code) = syllable (as_syllabic code) (syllable_text (between text at end)) ∷ []
+said text (T.Syllable y) = syllable (as_syllabic y.syllabic) (syllable_text (between text y.at y.end)) ∷ []
 
--- a syllable's place is within b bytes, and its number a syllabic's
+-- a syllable's place is within b bytes
 abbrev pub Small : ℕ → Token → Type 0
 Small b T.Bar = Unit {0}
 Small b T.Skip = Unit {0}
 Small b T.Hold = Unit {0}
-Small b (T.Syllable at end code) = (at ≤ b) × (end ≤ b) × (code < 4)
+Small b (T.Syllable y) = (y.at ≤ b) × (y.end ≤ b)
 
 -- the syllables still to come of the word at the cursor
 unfoldable pub in_word : List ℕ → Cursor → List Word

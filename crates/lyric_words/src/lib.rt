@@ -5,20 +5,67 @@ ghost use Rattle.std.specs.Prelude.{◌≤◌, ◌<◌, ◌≡◌, false, length
 ghost use Rattle.standard.specs.Lyrics.{syllabic_of};
 ghost use Rattle.reader.specs.Codes.{syllabic_code};
 ghost use Rattle.lyric_spans.specs.Spans.{is_hyphen, Closed};
-ghost use Rattle.lyric_words.specs.Words.{InWord, SyllableRead, PlainRead, WordRead, is_sign, closed_at, one_syllable, Ready, Settled, TokenRead, First};
+ghost use Rattle.lyric_words.specs.Words.{InWord, SyllableRead, PlainRead, WordRead, is_sign, closed_at, one_syllable, as_syllabic, cursor_between, Ready, Settled, TokenRead, First};
 
-// One word, or one syllable of a word: where it stands, and its syllabic's number.
-#[derive(Clone, Copy)]
+// Where a syllable stands in its word.
+#[derive(Clone, Copy, Debug, PartialEq, Eq)]
+pub enum Syllabic {
+    Single,
+    Begins,
+    Ends,
+    Middle,
+}
+
+impl Syllabic {
+    // By the hyphens before and behind the syllable.
+    #[tactic(auto, unfolding(standard::specs::Lyrics::syllabic_of))]
+    fn by_hyphens(before: bool, behind: bool) -> Syllabic
+        ensures { as_syllabic result ≡ syllabic_of before behind }
+    {
+        match (before, behind) {
+            (false, false) => Syllabic::Single,
+            (false, true) => Syllabic::Begins,
+            (true, false) => Syllabic::Ends,
+            (true, true) => Syllabic::Middle,
+        }
+    }
+}
+
+// Its number.
+impl From<Syllabic> for u8 {
+    ghost from_gives = { λ syllabic number. number ≡ syllabic_code (as_syllabic syllabic) };
+
+    #[tactic(auto, unfolding(reader::specs::Codes::syllabic_code))]
+    fn from(syllabic: Syllabic) -> u8 {
+        match syllabic {
+            Syllabic::Single => 0,
+            Syllabic::Begins => 1,
+            Syllabic::Ends => 2,
+            Syllabic::Middle => 3,
+        }
+    }
+}
+
+// A syllable of a lyric line: the place of its text, and where it stands in its word.
+#[derive(Clone, Copy, Debug, PartialEq, Eq)]
+pub struct Syllable {
+    pub at: usize,
+    pub end: usize,
+    pub syllabic: Syllabic,
+}
+
+// One word, or one syllable of a word.
+#[derive(Clone, Copy, Debug, PartialEq, Eq)]
 pub enum Token {
     Bar,
     Skip,
     Hold,
-    Syllable(usize, usize, u8),
+    Syllable(Syllable),
 }
 
 // Where a reading of a line stands: at a syllable of the word that ends at `word`, or, where both are the same, between two words. A hyphen
 // stands before the syllable; one stands at the end of the word.
-#[derive(Clone, Copy)]
+#[derive(Clone, Copy, Debug, PartialEq, Eq)]
 pub struct Cursor {
     pub at: usize,
     pub word: usize,
@@ -26,49 +73,46 @@ pub struct Cursor {
     pub trailed: bool,
 }
 
-#[derive(Clone, Copy)]
+impl Cursor {
+    // Between two words.
+    fn between(at: usize) -> Cursor
+        ensures { result ≡ cursor_between at }
+    {
+        Cursor {
+            at,
+            word: at,
+            led: false,
+            trailed: false,
+        }
+    }
+}
+
+// A token, and the cursor behind it.
+#[derive(Clone, Copy, Debug, PartialEq, Eq)]
 pub struct Read {
     pub token: Token,
     pub cursor: Cursor,
 }
 
-// The number of a syllabic, by the hyphens before and behind the syllable.
-fn syllabic(before: bool, behind: bool) -> u8
-    ensures { result ≡ syllabic_code (syllabic_of before behind) }
-{
-    if before {
-        if behind {
-            return 3;
-        }
-        return 2;
-    }
-    if behind { 1 } else { 0 }
-}
-
 // The syllable at the cursor, which stands at one.
-fn syllable(text: &[u8], from: Cursor) -> Read
+fn read_syllable(text: &[u8], from: Cursor) -> Read
     requires { (from.at < from.word) × (from.word ≤ length text.now) × (is_hyphen (get_or text.now from.at 0) ≡ false) }
     ensures { SyllableRead text.now from result }
 {
     let end = lyric_spans::piece_end(text, from.at, from.word);
     let next = lyric_spans::hyphens_end(text, end, from.word);
-    let cursor = Cursor {
-        at: next,
-        word: from.word,
-        led: true,
-        trailed: from.trailed,
-    };
-    if next < from.word {
-        let code = syllabic(from.led, true);
-        return Read {
-            token: Token::Syllable(from.at, end, code),
-            cursor,
-        };
-    }
-    let code = syllabic(from.led, from.trailed);
+    let behind = next < from.word || from.trailed;
     Read {
-        token: Token::Syllable(from.at, end, code),
-        cursor,
+        token: Token::Syllable(Syllable {
+            at: from.at,
+            end,
+            syllabic: Syllabic::by_hyphens(from.led, behind),
+        }),
+        cursor: Cursor {
+            at: next,
+            led: true,
+            ..from
+        },
     }
 }
 
@@ -81,23 +125,16 @@ fn plain_word(text: &[u8], at: usize, word: usize) -> Read
     if next == word {
         return Read {
             token: Token::Skip,
-            cursor: Cursor {
-                at: word,
-                word,
-                led: false,
-                trailed: false,
-            },
+            cursor: Cursor::between(word),
         };
     }
-    let led = text[at] == b'-';
-    let trailed = text[word - 1] == b'-';
     let from = Cursor {
         at: next,
         word,
-        led,
-        trailed,
+        led: text[at] == b'-',
+        trailed: text[word - 1] == b'-',
     };
-    syllable(text, from)
+    read_syllable(text, from)
 }
 
 // The first token of the word from `at` to `word`.
@@ -108,32 +145,16 @@ fn word_token(text: &[u8], at: usize, word: usize) -> Read
     if word - at != 1 {
         return plain_word(text, at, word);
     }
-    let first = text[at];
-    let cursor = Cursor {
-        at: word,
-        word,
-        led: false,
-        trailed: false,
+    let token = match text[at] {
+        b'|' => Token::Bar,
+        b'*' => Token::Skip,
+        b'_' => Token::Hold,
+        _ => return plain_word(text, at, word),
     };
-    if first == b'|' {
-        return Read {
-            token: Token::Bar,
-            cursor,
-        };
+    Read {
+        token,
+        cursor: Cursor::between(word),
     }
-    if first == b'*' {
-        return Read {
-            token: Token::Skip,
-            cursor,
-        };
-    }
-    if first == b'_' {
-        return Read {
-            token: Token::Hold,
-            cursor,
-        };
-    }
-    plain_word(text, at, word)
 }
 
 // A PLAIN WORD: one syllable, without a hyphen
@@ -142,13 +163,7 @@ fn word_token(text: &[u8], at: usize, word: usize) -> Read
 fn is_sign(b: u8) -> bool
     ensures { result ≡ is_sign b }
 {
-    if b == b'|' {
-        return true;
-    }
-    if b == b'*' {
-        return true;
-    }
-    b == b'_'
+    b == b'|' || b == b'*' || b == b'_'
 }
 
 // A word ends at `at`: a space stands there, or the line is over.
@@ -156,10 +171,7 @@ fn is_closed(text: &[u8], at: usize, end: usize) -> bool
     requires { end ≤ length text.now }
     ensures { result ≡ closed_at text.now at end }
 {
-    if end <= at {
-        return true;
-    }
-    text_bytes::is_space(text[at])
+    end <= at || text_bytes::is_space(text[at])
 }
 
 // The plain bytes from `at` up to `plain` are a word, and one that is a syllable.
@@ -167,16 +179,7 @@ fn is_one_syllable(text: &[u8], at: usize, plain: usize, end: usize) -> bool
     requires { (at < end) × (at ≤ plain) × (end ≤ length text.now) }
     ensures { result ≡ one_syllable text.now at plain end }
 {
-    if plain == at {
-        return false;
-    }
-    if !is_closed(text, plain, end) {
-        return false;
-    }
-    if plain - at != 1 {
-        return true;
-    }
-    !is_sign(text[at])
+    plain != at && is_closed(text, plain, end) && !(plain - at == 1 && is_sign(text[at]))
 }
 
 // The cursor past white space, where it stands behind a word.
@@ -187,13 +190,7 @@ fn settle(text: &[u8], from: Cursor, end: usize) -> Cursor
     if from.at < from.word {
         return from;
     }
-    let at = lyric_spans::word_start(text, from.word, end);
-    Cursor {
-        at,
-        word: at,
-        led: false,
-        trailed: false,
-    }
+    Cursor::between(lyric_spans::word_start(text, from.word, end))
 }
 
 // The cursor at the beginning of a line's text.
@@ -201,13 +198,7 @@ pub fn first_cursor(text: &[u8], at: usize, end: usize) -> Cursor
     requires { (at ≤ end) × (end ≤ length text.now) }
     ensures { First text.now at end result }
 {
-    let start = lyric_spans::next_start(text, at, end);
-    Cursor {
-        at: start,
-        word: start,
-        led: false,
-        trailed: false,
-    }
+    Cursor::between(lyric_spans::next_start(text, at, end))
 }
 
 // The token at the cursor, one of those that 000's `abc_lyric_tokens` lists, and the cursor behind it.
@@ -216,28 +207,27 @@ pub fn abc_lyric_token(text: &[u8], from: Cursor, end: usize) -> Read
     ensures { TokenRead text.now end from result }
 {
     if from.at < from.word {
-        let r = syllable(text, from);
-        let token = r.token;
-        let cursor = settle(text, r.cursor, end);
-        return Read { token, cursor };
+        let read = read_syllable(text, from);
+        return Read {
+            cursor: settle(text, read.cursor, end),
+            ..read
+        };
     }
     let plain = lyric_spans::plain_end(text, from.at, end);
     if is_one_syllable(text, from.at, plain, end) {
-        let at = lyric_spans::next_start(text, plain, end);
-        let cursor = Cursor {
-            at,
-            word: at,
-            led: false,
-            trailed: false,
-        };
         return Read {
-            token: Token::Syllable(from.at, plain, 0),
-            cursor,
+            token: Token::Syllable(Syllable {
+                at: from.at,
+                end: plain,
+                syllabic: Syllabic::Single,
+            }),
+            cursor: Cursor::between(lyric_spans::next_start(text, plain, end)),
         };
     }
     let word = lyric_spans::word_end(text, from.at, end);
-    let r = word_token(text, from.at, word);
-    let token = r.token;
-    let cursor = settle(text, r.cursor, end);
-    Read { token, cursor }
+    let read = word_token(text, from.at, word);
+    Read {
+        cursor: settle(text, read.cursor, end),
+        ..read
+    }
 }

@@ -23,16 +23,13 @@ fn gather_items(text: &[u8], scratch: &mut [u8], n: usize, part: u8) -> usize
     ensures { Gathered text.now scratch.old n part scratch.new result }
 {
     let mut count = 0;
-    let mut i = 0;
-    while i < n {
+    for i in 0..n {
         if scan_table::part_of(scratch, i) != part {
-            i += 1;
             continue;
         }
         let row = scan_table::get_item(text, scratch, i);
         scan_table::put_item(scratch, n + VOICE_ROWS + count, row);
         count += 1;
-        i += 1;
     }
     count
 }

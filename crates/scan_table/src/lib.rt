@@ -137,13 +137,13 @@ fn get_voice<'t>(text: &'t [u8], scratch: &[u8], i: usize) -> &'t [u8]
     &text[place.at..place.end]
 }
 
-// The identifier of voice n, one more: the bytes from `a` up to `b`.
-pub fn push_voice(scratch: &mut [u8], n: usize, a: usize, b: usize)
-    requires { (voice_row_width * n + voice_row_width ≤ length scratch.old) × (a < 2 ^ 32) × (b < 2 ^ 32) }
-    ensures { scratch.new ≡ splice scratch.old (voice_row_width * n) (le32 a ++ le32 b) }
+// The place of the identifier of voice n, one more.
+pub fn push_voice(scratch: &mut [u8], n: usize, id: Place)
+    requires { (voice_row_width * n + voice_row_width ≤ length scratch.old) × (id.at < 2 ^ 32) × (id.end < 2 ^ 32) }
+    ensures { scratch.new ≡ splice scratch.old (voice_row_width * n) (le32 id.at ++ le32 id.end) }
 {
-    store::put_u32(scratch, VOICE * n, a as u32);
-    store::put_u32(scratch, VOICE * n + VOICE_END, b as u32);
+    store::put_u32(scratch, VOICE * n, id.at as u32);
+    store::put_u32(scratch, VOICE * n + VOICE_END, id.end as u32);
 }
 
 // The first of the n voices that has these bytes as its identifier.

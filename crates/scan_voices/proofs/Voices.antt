@@ -7,6 +7,7 @@ use native.Mathlib.Omega.{arith}
 use lib.Dec.{leb}
 use lib.ListN.{length}
 use borrow.Author.Tests.{le-leb, lt-leb}
+use Rattle.std.specs.Prelude.{Ok, Err, Some, None}
 use Rattle.laws.specs.Lists.{elem, index_of}
 use Rattle.laws.specs.Bytes.{between, splice, le32}
 use Rattle.laws.proofs.Bools.{by_test}
@@ -16,12 +17,12 @@ use Rattle.laws.proofs.Splices.{length_splice}
 use Rattle.reader.specs.Lines.{voice}
 use Rattle.reader.specs.Steps.{on, first}
 use Rattle.reader.specs.Scan.{Item, Items, voice_declared, reset, with_unnamed, voices_before, voice_on, act}
+use Rattle.refusals.specs.declared.Refusal.TheVariants as Refusal
 use Rattle.scan_table.specs.declared.Row.{Row}
-use Rattle.scan_table.specs.Rows.{voice_row_width, item_row_width, row_from, voices_in, item_in, items_in, enc_item}
+use Rattle.scan_table.specs.Rows.{voice_row_width, item_row_width, row_from, voices_in, FoundVoice, item_in, items_in, enc_item}
 use Rattle.scan_table.proofs.Rows.{length_voice, length_voices, voices_none, voices_push, voices_below, items_push, items_above}
 use Rattle.scan_states.specs.declared.State.{State}
-use Rattle.scan_states.specs.declared.Step.TheVariants.{On, Refused}
-use Rattle.scan_states.specs.States.{state_with, state_in, out_in, Stepped}
+use Rattle.scan_states.specs.States.{state_with, state_in, out_in, refused_in, Stepped}
 use Rattle.scan_voices.specs.Voices.{moved_to, Unnamed, Moved}
 
 -- THE UNNAMED VOICE
@@ -88,7 +89,7 @@ has_past v vs h = by_test (elem v vs) (λ e. absurd (no (index_lt v vs e))) (λ 
     no : index_of v vs < length vs → ⊥
     no e = omega arith
 
-module _ (text s : List ℕ) (st : State) (s₁ : List ℕ) (n : ℕ) (u : Unnamed text s st s₁ n) (v : List ℕ) (i : ℕ) (f : i ≡ index_of v (voices_in text s₁ n)) where
+module _ (text s : List ℕ) (st : State) (s₁ : List ℕ) (n : ℕ) (u : Unnamed text s st s₁ n) (v : List ℕ) where
   abbrev vs : List (List ℕ)
   vs = voices_in text s₁ n
 
@@ -97,11 +98,11 @@ module _ (text s : List ℕ) (st : State) (s₁ : List ℕ) (n : ℕ) (u : Unnam
   unfolding act voices_before
   line known full mid k g = ap (λ (ws : List (List ℕ)). voice_on (state_in text s st) v ws (elem v ws) (leb 32 (length ws)) mid) (sym u.voices) ∙ (λ j. voice_on (state_in text s st) v vs (k j) (g j) mid)
 
-  is_known : i < n → elem v vs ≡ true
-  is_known h = has_below v vs (rw (← f, length_voices) h)
+  is_known : (i : ℕ) → FoundVoice v vs (Some i) → elem v vs ≡ true
+  is_known i f = has_below v vs (omega (arith, f.0, f.1))
 
-  is_new : n ≤ i → elem v vs ≡ false
-  is_new h = has_past v vs (rw (← f, length_voices) h)
+  is_new : FoundVoice v vs None → elem v vs ≡ false
+  is_new f = has_past v vs (omega (arith, f))
 
   is_full : 32 ≤ n → leb 32 (length vs) ≡ true
   is_full h = rw length_voices (le-leb 32 n h)
@@ -110,33 +111,33 @@ module _ (text s : List ℕ) (st : State) (s₁ : List ℕ) (n : ℕ) (u : Unnam
   not_full h = rw length_voices (lt-leb 32 n h)
 
   -- refusals 10 and 9
-  pub known_middle : i < n → (s₂ : List ℕ) → Stepped text s st (act (state_in text s st) (voice v true) st.in_header) s₂ (Refused 10 (suc st.lines))
+  pub known_middle : (i : ℕ) → FoundVoice v vs (Some i) → (s₂ : List ℕ) → Stepped text s st (act (state_in text s st) (voice v true) st.in_header) s₂ (Err (refused_in st Refusal.Middle))
   unfolding voice_on
-  known_middle h s₂ = record { is = sym (ap (first (items_in text s st.items)) (line true _ true (is_known h) refl)); follows = tt }
+  known_middle i f s₂ = record { is = sym (ap (first (items_in text s st.items)) (line true _ true (is_known i f) refl)); follows = tt }
 
-  pub too_many : (mid : Bool) → n ≤ i → 32 ≤ n → (s₂ : List ℕ) → Stepped text s st (act (state_in text s st) (voice v mid) st.in_header) s₂ (Refused 9 (suc st.lines))
+  pub too_many : (mid : Bool) → FoundVoice v vs None → 32 ≤ n → (s₂ : List ℕ) → Stepped text s st (act (state_in text s st) (voice v mid) st.in_header) s₂ (Err (refused_in st Refusal.TooManyVoices))
   unfolding voice_on
   too_many mid h k s₂ = record { is = sym (ap (first (items_in text s st.items)) (line false true mid (is_new h) (is_full k))); follows = tt }
 
-  pub new_middle : n ≤ i → n < 32 → (s₂ : List ℕ) → Stepped text s st (act (state_in text s st) (voice v true) st.in_header) s₂ (Refused 10 (suc st.lines))
+  pub new_middle : FoundVoice v vs None → n < 32 → (s₂ : List ℕ) → Stepped text s st (act (state_in text s st) (voice v true) st.in_header) s₂ (Err (refused_in st Refusal.Middle))
   unfolding voice_on
   new_middle h k s₂ = record { is = sym (ap (first (items_in text s st.items)) (line false false true (is_new h) (not_full k))); follows = tt }
 
   -- a voice that is known
-  pub on_known : i < n → (s₂ : List ℕ) (r : State) → Moved st n i (st.items + 1) r
-      → out_in text s₂ (On r) ≡ on (state_with vs (moved_to st i)) (items_in text s₁ st.items ++ ((i, reset) ∷ []))
-      → Stepped text s st (act (state_in text s st) (voice v false) st.in_header) s₂ (On r)
+  pub on_known : (i : ℕ) → FoundVoice v vs (Some i) → (s₂ : List ℕ) (r : State) → Moved st n i (st.items + 1) r
+      → out_in text s₂ (Ok r) ≡ on (state_with vs (moved_to st i)) (items_in text s₁ st.items ++ ((i, reset) ∷ []))
+      → Stepped text s st (act (state_in text s st) (voice v false) st.in_header) s₂ (Ok r)
   unfolding voice_on
-  on_known h s₂ r m e =
+  on_known i f s₂ r m e =
       record {
-        is = e ∙ (λ j. on (state_with vs (moved_to st (f j))) (u.items j ++ ((f j, reset) ∷ []))) ∙ sym (ap (first (items_in text s st.items)) (line true _ false (is_known h) refl));
-        follows = (m.lines, (omega (arith, m.voices, u.high), (omega (arith, m.part, u.high), omega (arith, m.items, m.voices, u.low))));
+        is = e ∙ (λ j. on (state_with vs (moved_to st (f.1 j))) (u.items j ++ ((f.1 j, reset) ∷ []))) ∙ sym (ap (first (items_in text s st.items)) (line true _ false (is_known i f) refl));
+        follows = (m.lines, (omega (arith, m.voices, u.high), (omega (arith, m.part, u.high, f.0, length_voices text s₁ n), omega (arith, m.items, m.voices, u.low))));
       }
 
   -- a voice that is new
-  pub on_new : n ≤ i → n < 32 → (s₂ : List ℕ) (r : State) → Moved st (n + 1) n (st.items + 2) r
-      → out_in text s₂ (On r) ≡ on (state_with (vs ++ (v ∷ [])) (moved_to st n)) (items_in text s₁ st.items ++ ((n, voice_declared st.in_header) ∷ ((n, reset) ∷ [])))
-      → Stepped text s st (act (state_in text s st) (voice v false) st.in_header) s₂ (On r)
+  pub on_new : FoundVoice v vs None → n < 32 → (s₂ : List ℕ) (r : State) → Moved st (n + 1) n (st.items + 2) r
+      → out_in text s₂ (Ok r) ≡ on (state_with (vs ++ (v ∷ [])) (moved_to st n)) (items_in text s₁ st.items ++ ((n, voice_declared st.in_header) ∷ ((n, reset) ∷ [])))
+      → Stepped text s st (act (state_in text s st) (voice v false) st.in_header) s₂ (Ok r)
   unfolding voice_on
   on_new h k s₂ r m e =
       let c : n ≡ length vs = sym (length_voices text s₁ n) in

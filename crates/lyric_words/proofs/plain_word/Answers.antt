@@ -11,10 +11,10 @@ use Rattle.lyric_words.proofs.plain_word.Goals as goal
 pub returns-then-next-word : goal.returns-then-next-word
 returns-then-next-word c =
     let a = c.args in
-    plain_skip a.text.now a.at a.word c.requires.0 c.requires.1 _ c.hyphens_end-next.ensures c.if-next-word.true
+    rw c.between.ensures (plain_skip a.text.now a.at a.word c.requires.0 c.requires.1 _ c.hyphens_end-next.ensures c.if-next-word.true)
 
-pub syllable-requires : goal.syllable-requires
-syllable-requires c =
+pub read_syllable-requires : goal.read_syllable-requires
+read_syllable-requires c =
     let a = c.args in
     let p = c.requires in
     let e = c.hyphens_end-next.ensures in
@@ -28,4 +28,4 @@ returns c =
     let p = c.requires in
     let e = c.hyphens_end-next.ensures in
     let low = end_in_le is_hyphen a.text.now a.at a.word (omega arith) in
-    plain_first a.text.now a.at a.word p.0 p.1 _ e (omega (arith, e, low, c.if-next-word.false)) _ c.syllable.ensures
+    plain_first a.text.now a.at a.word p.0 p.1 _ e (omega (arith, e, low, c.if-next-word.false)) _ c.read_syllable.ensures

@@ -9,12 +9,12 @@ returns-then-from c =
     let p = c.requires in
     settle_in a.text.now a.end a.from p.0 p.1 c.if-from.true
 
-pub word_start-at-requires : goal.word_start-at-requires
-word_start-at-requires c = (c.requires.1.high, c.requires.2)
+pub word_start-requires : goal.word_start-requires
+word_start-requires c = (c.requires.1.high, c.requires.2)
 
 pub returns : goal.returns
 returns c =
     let a = c.args in
     let p = c.requires in
     let left = c.if-from.false in
-    settle_past a.text.now a.end a.from p.0 p.1 (λ h. absurd (omega arith)) _ c.word_start-at.ensures
+    rw c.between.ensures (settle_past a.text.now a.end a.from p.0 p.1 (λ h. absurd (omega arith)) _ c.word_start.ensures)

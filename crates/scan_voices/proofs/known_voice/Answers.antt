@@ -6,6 +6,6 @@ use Rattle.scan_voices.proofs.known_voice.Goals as goal
 pub returns : goal.returns
 unfolding item_in item_as
 returns c = record {
-  moved = rw c.add_item.ensures.value (record { lines = refl; voices = refl; part = refl; items = refl });
-  by_index = λ text. c.add_item.ensures.by_index text;
+  moved = rw (c.add_item.ensures.state, c.of.ensures) (record { lines = refl; voices = refl; part = refl; items = refl });
+  items = λ text. rw (← c.of.ensures) (c.add_item.ensures.items text);
 }

@@ -3,6 +3,7 @@ use mathlib.Core.Path.{refl, ◌∙◌}
 use native.Mathlib.Omega.{arith}
 use Rattle.reader.specs.Scan.{voice_declared}
 use Rattle.scan_table.specs.Rows.{item_in, item_as}
+use Rattle.scan_states.proofs.Items.{flag_is}
 use Rattle.scan_voices.specs.Voices.{moved_to}
 use Rattle.scan_voices.proofs.Voices.{new_voice}
 use borrow.Author.Rules.{rules}
@@ -13,8 +14,8 @@ unfolding item_in item_as
 returns c =
     let a = c.args in
     record {
-      moved = rw c.add_item.ensures.value (record { lines = refl; voices = refl; part = refl; items = omega arith });
-      by_index = λ text. c.add_item.ensures.by_index text
-          ∙ new_voice text a.scratch.now _ _ a.n a.st.items a.a a.b _ a.st.in_header c.push_voice.ensures c.put_item.ensures (search rules) (search rules) (search rules)
-          (search rules) (search rules) (search rules) (λ i. (a.n, voice_declared (c.flag.ensures i))) (search rules) (moved_to a.st a.n) _ refl;
+      moved = rw c.add_item.ensures.state (record { lines = refl; voices = refl; part = refl; items = omega arith });
+      items = λ text. c.add_item.ensures.items text
+          ∙ new_voice text a.scratch.now _ _ a.n a.st.items a.id.at a.id.end _ a.st.in_header c.push_voice.ensures c.put_item.ensures (search rules) (search rules) (search rules)
+          (search rules) (search rules) (search rules) (λ i. (a.n, voice_declared (flag_is _ _ c.from.ensures i))) (search rules) (moved_to a.st a.n) _ refl;
     }
