@@ -1,6 +1,7 @@
 -- LYRIC LINES AMONG THE ITEMS: the words of an item, one item more, and what a write behind the items leaves.
 use Prim.Native.Nat.{ℕ, ◌+◌, ◌*◌, ◌≤◌}
-use mathlib.Core.Path.{◌≡◌, sym, ap, ◌∙◌}
+use mathlib.Core.Bool.{true, false, false≢true}
+use mathlib.Core.Path.{◌≡◌, refl, sym, ap, ◌∙◌}
 use mathlib.Core.List.{List, [], ◌∷◌, ◌++◌, map}
 use lib.ListN.{take}
 use Rattle.laws.specs.Lists.{filter}
@@ -8,9 +9,30 @@ use Rattle.laws.specs.Bytes.{between, rows}
 use Rattle.laws.proofs.Lists.{map_append, filter_append}
 use Rattle.laws.proofs.Rows.{rows_more, rows_front}
 use Rattle.reader.specs.Scan.{Item, voice_declared, reset, key_in_header, key_change, meter_change, lyric_line, music_line}
+use Rattle.scan_table.specs.declared.Kind.{Kind}
+use Rattle.scan_table.specs.declared.Kind.TheVariants as K
 use Rattle.scan_table.specs.declared.Row as items
-use Rattle.scan_table.specs.Rows.{items_from, item_row_width, lyric_line_kind, dec_item, item_at, item_as, item_in, RowIs}
-use Rattle.lyrics.specs.Items.{is_line, line_in, line_of, lines_in}
+use Rattle.scan_table.specs.Rows.{items_from, item_row_width, dec_item, item_at, item_as, item_in, RowIs}
+use Rattle.lyrics.specs.Items.{is_lyric, is_line, line_in, line_of, lines_in}
+
+-- the kind of a lyric line, and any other
+pub lyric_kind : (k : Kind) → is_lyric k ≡ true → k ≡ K.LyricLine
+lyric_kind K.LyricLine e = refl
+lyric_kind K.VoiceDeclared e = absurd (false≢true e)
+lyric_kind K.Reset e = absurd (false≢true e)
+lyric_kind K.KeyInHeader e = absurd (false≢true e)
+lyric_kind K.KeyChange e = absurd (false≢true e)
+lyric_kind K.MeterChange e = absurd (false≢true e)
+lyric_kind K.MusicLine e = absurd (false≢true e)
+
+pub no_lyric_kind : (k : Kind) → (k ≡ K.LyricLine → ⊥) → is_lyric k ≡ false
+no_lyric_kind K.LyricLine n = absurd (n refl)
+no_lyric_kind K.VoiceDeclared n = refl
+no_lyric_kind K.Reset n = refl
+no_lyric_kind K.KeyInHeader n = refl
+no_lyric_kind K.KeyChange n = refl
+no_lyric_kind K.MeterChange n = refl
+no_lyric_kind K.MusicLine n = refl
 
 -- the words of a lyric item
 words_of_item : Item → List ℕ
@@ -22,12 +44,12 @@ words_of_item (meter_change t) = []
 words_of_item (lyric_line p t) = t
 words_of_item (music_line u t l) = []
 
-lyric_words_lem : (text : List ℕ) (r : items.Row) (k : ℕ) → k ≡ lyric_line_kind → words_of_item (item_as k text r) ≡ between text r.at r.end
+lyric_words_lem : (text : List ℕ) (r : items.Row) (k : Kind) → k ≡ K.LyricLine → words_of_item (item_as k text r) ≡ between text r.at r.end
 unfolding item_as words_of_item
-lyric_words_lem text r k e = ap (λ (j : ℕ). words_of_item (item_as j text r)) e
+lyric_words_lem text r k e = ap (λ (j : Kind). words_of_item (item_as j text r)) e
 
 -- the place that was read of a lyric item has its words
-pub item_words : (text : List ℕ) (q r : items.Row) → RowIs text q r → r.kind ≡ lyric_line_kind → between text r.at r.end ≡ between text q.at q.end
+pub item_words : (text : List ℕ) (q r : items.Row) → RowIs text q r → r.kind ≡ K.LyricLine → between text r.at r.end ≡ between text q.at q.end
 unfolding item_in
 item_words text q r i e =
     sym (lyric_words_lem text r r.kind e) ∙ ap (λ (x : ℕ × Item). words_of_item x.1) i.item ∙ lyric_words_lem text q q.kind (sym i.kind ∙ e)

@@ -17,9 +17,13 @@ use Rattle.laws.proofs.Splices.{length_splice, take_splice, drop_splice_past, pa
 use Rattle.laws.proofs.Numbers.{length_little, little_at_little, little_at_own}
 use Rattle.laws.proofs.Rows.{length_rows, rows_below, rows_put, rows_get}
 use Rattle.reader.specs.Lyrics.{Syllable}
+use Rattle.std.specs.Prelude.{Option, Some, None}
+use Rattle.reader.specs.Codes.{syllabic_code}
+use Rattle.lyric_words.specs.declared.Syllabic as code
+use Rattle.lyric_words.specs.declared.Syllabic.TheVariants as S
 use Rattle.lyrics.specs.declared.Sheet.{Sheet}
 use Rattle.lyrics.specs.declared.Row.{Row}
-use Rattle.lyrics.specs.Sheet.{lyric_head_width, lyric_stop_width, lyric_row_width, stops_from, with_count, row_bytes, row_of, next_of, row_at, apply_row, sung_from, head_of, heads_in, syllables_in, Kept, Room, Outside, RowAppended}
+use Rattle.lyrics.specs.Sheet.{lyric_head_width, lyric_stop_width, lyric_row_width, stops_from, with_count, row_bytes, code_of, syllabic_in, row_of, next_of, row_at, apply_row, sung_from, head_of, heads_in, syllables_in, Kept, Room, Outside, RowAppended}
 
 -- A ROW
 pub length_row : (r : Row) (next : ℕ) → length (row_bytes r next) ≡ lyric_row_width
@@ -27,9 +31,17 @@ unfolding row_bytes little
 length_row r next = refl
 
 -- it is read back
+syllabic_back : (o : Option code.Syllabic) → syllabic_in (code_of o) ≡ o
+unfolding syllabic_code
+syllabic_back (Some S.Single) = refl
+syllabic_back (Some S.Begins) = refl
+syllabic_back (Some S.Ends) = refl
+syllabic_back (Some S.Middle) = refl
+syllabic_back None = refl
+
 pub row_back : (r : Row) (next : ℕ) → r.at < 2 ^ 32 → r.end < 2 ^ 32 → row_of (row_bytes r next) ≡ r
-unfolding row_bytes row_of little little_at
-row_back r next h k = λ i. record { verse = r.verse; code = r.code; at = little_at_little 4 r.at h i; end = little_at_little 4 r.end k i }
+unfolding row_bytes row_of little little_at syllabic_code
+row_back r next h k = λ i. record { verse = r.verse; syllabic = syllabic_back r.syllabic i; at = little_at_little 4 r.at h i; end = little_at_little 4 r.end k i }
 
 pub next_back : (r : Row) (next : ℕ) → next < 2 ^ 32 → next_of (row_bytes r next) ≡ next
 unfolding row_bytes next_of little little_at

@@ -1,17 +1,28 @@
 -- THE LYRIC LINES OF A PART, among the items of the line table.
-use Rattle.std.specs.Prelude.{ℕ, ◌+◌, ◌*◌, ◌≤◌, ◌<◌, ◌^◌, Bool, ◌&&◌, List, [], ◌∷◌, map, eqb, length}
+use Rattle.std.specs.Prelude.{ℕ, ◌+◌, ◌*◌, ◌≤◌, ◌<◌, ◌^◌, Bool, true, false, ◌&&◌, List, [], ◌∷◌, map, eqb, length}
 use Rattle.laws.specs.Lists.{filter, sum}
 use Rattle.laws.specs.Bytes.{between, rows}
 use Rattle.reader.specs.State as reader
+use Rattle.scan_table.specs.declared.Kind.{Kind}
+use Rattle.scan_table.specs.declared.Kind.TheVariants as K
 use Rattle.scan_table.specs.declared.Row as items
-use Rattle.scan_table.specs.Rows.{items_from, item_row_width, table_end, lyric_line_kind, dec_item}
+use Rattle.scan_table.specs.Rows.{items_from, item_row_width, table_end, dec_item}
 use Rattle.lyrics.specs.declared.Sheet.{Sheet}
 use Rattle.lyrics.specs.Sheet.{lyric_stop_width, lyric_row_width, stops_from}
 use Rattle.lyrics.specs.Lines.{rows_for}
 
+abbrev pub is_lyric : Kind → Bool
+is_lyric K.VoiceDeclared = false
+is_lyric K.Reset = false
+is_lyric K.KeyInHeader = false
+is_lyric K.KeyChange = false
+is_lyric K.MeterChange = false
+is_lyric K.LyricLine = true
+is_lyric K.MusicLine = false
+
 -- an item that is a lyric line of the part
 unfoldable pub is_line : ℕ → items.Row → Bool
-is_line p r = eqb r.kind lyric_line_kind && eqb r.part p
+is_line p r = is_lyric r.kind && eqb r.part p
 
 -- its line: the first note stands where a music line has its unit, the verse in b
 unfoldable pub line_in : List ℕ → items.Row → reader.Sung

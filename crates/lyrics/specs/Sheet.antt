@@ -1,10 +1,13 @@
 -- THE SYLLABLES OF A PART IN SCRATCH, as a function of its bytes: a chain of rows for each note that sounds, the newest first.
-use Rattle.std.specs.Prelude.{ℕ, zero, suc, ◌+◌, ◌*◌, ◌^◌, ◌≤◌, ◌<◌, ◌≡◌, true, false, List, [], ◌∷◌, ◌++◌, map, eqb, length, get_or, take, drop}
+use Rattle.std.specs.Prelude.{ℕ, zero, suc, ◌+◌, ◌*◌, ◌^◌, ◌≤◌, ◌<◌, ◌≡◌, cond, true, false, List, [], ◌∷◌, ◌++◌, map, eqb, length, get_or, take, drop, Option, Some, None}
 use Rattle.laws.specs.Lists.{All, alter_at}
 use Rattle.laws.specs.Bytes.{part, between, rows, le32, u32_at}
 use Rattle.standard.specs.Lyrics.{syllable_text}
 use Rattle.reader.specs.Lyrics.{Syllable, put, held}
 use Rattle.bounds.specs.Weights as bounds
+use Rattle.reader.specs.Codes.{syllabic_code}
+use Rattle.lyric_words.specs.declared.Syllabic as code
+use Rattle.lyric_words.specs.declared.Syllabic.TheVariants as S
 use Rattle.lyric_words.specs.Words.{as_syllabic}
 use Rattle.lyrics.specs.declared.Sheet.{Sheet}
 use Rattle.lyrics.specs.declared.Row.{Row}
@@ -42,12 +45,24 @@ next_at = 12
 abbrev pub hold_code : ℕ
 hold_code = 4
 
+-- the byte of a row for its syllabic, which a hold has not; and the syllabic for which a byte stands
+abbrev pub code_of : Option code.Syllabic → ℕ
+code_of (Some c) = syllabic_code (as_syllabic c)
+code_of None = hold_code
+
+abbrev pub syllabic_in : ℕ → Option code.Syllabic
+syllabic_in n =
+    cond (eqb n 0) (Some S.Single)
+    (cond (eqb n 1) (Some S.Begins)
+    (cond (eqb n 2) (Some S.Ends)
+    (cond (eqb n hold_code) None (Some S.Middle))))
+
 -- A ROW: verse, number, two zeros, the text's place, and the place, from 1, of the row before it in its chain
 unfoldable pub row_bytes : Row → ℕ → List ℕ
-row_bytes r next = r.verse ∷ r.code ∷ 0 ∷ 0 ∷ (le32 r.at ++ (le32 r.end ++ le32 next))
+row_bytes r next = r.verse ∷ code_of r.syllabic ∷ 0 ∷ 0 ∷ (le32 r.at ++ (le32 r.end ++ le32 next))
 
 unfoldable pub row_of : List ℕ → Row
-row_of b = record { verse = get_or b verse_at 0; code = get_or b code_at 0; at = u32_at b start_at; end = u32_at b end_at }
+row_of b = record { verse = get_or b verse_at 0; syllabic = syllabic_in (get_or b code_at 0); at = u32_at b start_at; end = u32_at b end_at }
 
 unfoldable pub next_of : List ℕ → ℕ
 next_of b = u32_at b next_at
@@ -56,13 +71,17 @@ next_of b = u32_at b next_at
 abbrev pub row_at : List ℕ → ℕ → ℕ → List ℕ
 row_at s log m = part s (log + lyric_row_width * m) lyric_row_width
 
--- the syllable of a row
-unfoldable pub syllable_of : List ℕ → Row → Syllable
-syllable_of text r = record { verse = r.verse; syllabic = as_syllabic r.code; extend = false; text = syllable_text (between text r.at r.end) }
+-- the syllable of a row that is no hold
+unfoldable pub syllable_of : List ℕ → Row → code.Syllabic → Syllable
+syllable_of text r c = record { verse = r.verse; syllabic = as_syllabic c; extend = false; text = syllable_text (between text r.at r.end) }
 
 -- what a row does to what was sung to its note before
-unfoldable pub apply_row : List ℕ → Row → List Syllable → List Syllable
-apply_row text r ys = elim (eqb r.code hold_code) [ true ↦ map (held r.verse) ys | false ↦ put (syllable_of text r) ys ]
+unfoldable pub apply_as : Option code.Syllabic → List ℕ → Row → List Syllable → List Syllable
+apply_as None text r ys = map (held r.verse) ys
+apply_as (Some c) text r ys = put (syllable_of text r c) ys
+
+abbrev pub apply_row : List ℕ → Row → List Syllable → List Syllable
+apply_row text r ys = apply_as r.syllabic text r ys
 
 -- what the chain from row k on (from 1; 0 for none) says, if k is among the first n rows: a chain goes down
 unfoldable pub sung_from : List ℕ → List ℕ → ℕ → ℕ → ℕ → List Syllable

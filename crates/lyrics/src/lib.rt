@@ -4,7 +4,9 @@
 
 ghost use Rattle.std.specs.Prelude.{◌+◌, ◌*◌, ◌^◌, ◌≤◌, ◌<◌, ◌≡◌, length};
 ghost use Rattle.laws.specs.Bytes.{splice};
-ghost use Rattle.lyrics.specs.Sheet.{lyric_row_width, row_bytes, Room, RowAppended};
+ghost use Rattle.lyrics.specs.Sheet.{lyric_row_width, row_bytes, code_of, syllabic_in, Room, RowAppended};
+
+use lyric_words::Syllabic;
 
 // The number of a hold, in a row, where a syllable has its syllabic's.
 pub const HOLD: u8 = 4;
@@ -25,7 +27,7 @@ pub const NEXT: usize = 12;
 
 // Where the chains of a part stand: a head for each of its notes that sound (the place, from 1, of the note's newest row; 0 for none), and the log
 // of rows, of which `count` are written.
-#[derive(Clone, Copy)]
+#[derive(Clone, Copy, Debug, PartialEq, Eq)]
 pub struct Sheet {
     pub heads: usize,
     pub sounded: usize,
@@ -33,17 +35,17 @@ pub struct Sheet {
     pub count: usize,
 }
 
-// A row: its verse, the syllabic's number or HOLD, and the place of the syllable in the text.
-#[derive(Clone, Copy)]
+// A row: its verse, where its syllable stands in its word, and the place of the syllable in the text. A row with no syllabic is a hold.
+#[derive(Clone, Copy, Debug, PartialEq, Eq)]
 pub struct Row {
     pub verse: u8,
-    pub code: u8,
+    pub syllabic: Option<Syllabic>,
     pub at: u32,
     pub end: u32,
 }
 
 // A lyric line: its first note, its verse, and the place of its text.
-#[derive(Clone, Copy)]
+#[derive(Clone, Copy, Debug, PartialEq, Eq)]
 pub struct Line {
     pub start: usize,
     pub verse: u8,
@@ -51,12 +53,35 @@ pub struct Line {
     pub end: usize,
 }
 
+// The byte of a row for its syllabic: the syllabic's number, or HOLD.
+fn code_of(syllabic: Option<Syllabic>) -> u8
+    ensures { result ≡ code_of syllabic }
+{
+    match syllabic {
+        Some(syllabic) => u8::from(syllabic),
+        None => HOLD,
+    }
+}
+
+// The syllabic for which that byte stands.
+pub fn syllabic_in(code: u8) -> Option<Syllabic>
+    ensures { result ≡ syllabic_in code }
+{
+    match code {
+        0 => Some(Syllabic::Single),
+        1 => Some(Syllabic::Begins),
+        2 => Some(Syllabic::Ends),
+        HOLD => None,
+        _ => Some(Syllabic::Middle),
+    }
+}
+
 // Writes a row, before which stands the row `next`.
 fn put_row(scratch: &mut [u8], at: usize, row: Row, next: u32)
     requires { at + lyric_row_width ≤ length scratch.old }
     ensures { scratch.new ≡ splice scratch.old at (row_bytes row next) }
 {
-    store::put_4(scratch, at, row.verse, row.code, 0, 0);
+    store::put_4(scratch, at, row.verse, code_of(row.syllabic), 0, 0);
     store::put_u32(scratch, at + AT, row.at);
     store::put_u32(scratch, at + END, row.end);
     store::put_u32(scratch, at + NEXT, next);
