@@ -5,7 +5,6 @@ use mathlib.Core.Bool.{true, false}
 use mathlib.Core.List.{List, [], ◌∷◌, ◌++◌, map}
 use native.Mathlib.Omega.{arith}
 use native.Mathlib.Nat.{add-zero}
-use lib.Dec.{eqb}
 use lib.ListN.{length, get_or, take, drop, replicate, get_or-replicate}
 use borrow.Author.Tests.{eq-eqb, ne_eqb}
 use Rattle.laws.specs.Lists.{All, filter}
@@ -20,8 +19,9 @@ use Rattle.editions.specs.declared.Edition.{Edition}
 use Rattle.editions.specs.declared.Edition.TheVariants.{First, Second}
 use Rattle.reader.specs.State as reader
 use Rattle.reader.specs.Lyrics.{Syllable, sung_by, sung_by_bars, sung_in}
+use Rattle.scan_table.specs.declared.Kind.TheVariants as K
 use Rattle.scan_table.specs.declared.Row as items
-use Rattle.scan_table.specs.Rows.{items_from, item_row_width, row_from, lyric_line_kind, dec_item, item_at, RowIs}
+use Rattle.scan_table.specs.Rows.{items_from, item_row_width, row_from, dec_item, item_at, RowIs}
 use Rattle.lyric_stops.specs.declared.Stop.{Stop}
 use Rattle.lyric_stops.specs.declared.Stops.{Stops}
 use Rattle.lyric_stops.specs.Stops.{stops_in, left_from, Hints}
@@ -30,9 +30,9 @@ use Rattle.lyrics.specs.declared.Sheet.{Sheet}
 use Rattle.lyrics.specs.declared.Line.{Line}
 use Rattle.lyrics.specs.Sheet.{lyric_head_width, lyric_stop_width, lyric_row_width, stops_from, with_count, sung_from, head_of, heads_in, syllables_in, Kept, Outside}
 use Rattle.lyrics.specs.Lines.{rows_for, LineFits}
-use Rattle.lyrics.specs.Items.{is_line, line_in, line_of, lines_in, rows_of, Fits}
+use Rattle.lyrics.specs.Items.{is_lyric, is_line, line_in, line_of, lines_in, rows_of, Fits}
 use Rattle.lyrics.proofs.Sheets.{outside_none, outside_next}
-use Rattle.lyrics.proofs.Items.{item_words, item_part, lines_more, lines_front}
+use Rattle.lyrics.proofs.Items.{no_lyric_kind, item_words, item_part, lines_more, lines_front}
 use Rattle.lyric_lines.specs.Stands.{stops_of}
 use Rattle.lyric_lines.specs.Lines.{Known, LineSung}
 use Rattle.lyric_items.specs.Items.{LineFrom, ItemFits, ItemSung, AllSung}
@@ -81,18 +81,18 @@ skipped ed text s p i h kept e =
     }
 
 module _ (ed : Edition) (text s : List ℕ) (p i : ℕ) (h : Sheet) (r : items.Row) (is : RowIs text (item_at s i) r) where
-  pub other_kind : Kept s h → (r.kind ≡ lyric_line_kind → ⊥) → ItemSung ed text s s p i h h.count
+  pub other_kind : Kept s h → (r.kind ≡ K.LyricLine → ⊥) → ItemSung ed text s s p i h h.count
   unfolding is_line
-  other_kind kept n = skipped ed text s p i h kept (and_no_left _ _ (ne_eqb (item_at s i).kind lyric_line_kind (λ e. n (is.kind ∙ e))))
+  other_kind kept n = skipped ed text s p i h kept (and_no_left _ _ (no_lyric_kind (item_at s i).kind (λ e. n (is.kind ∙ e))))
 
   pub other_part : Kept s h → (r.part ≡ p → ⊥) → ItemSung ed text s s p i h h.count
   unfolding is_line
-  other_part kept n = skipped ed text s p i h kept (and_no_right (eqb (item_at s i).kind lyric_line_kind) _ (ne_eqb (item_at s i).part p (λ e. n (item_part text (item_at s i) r is ∙ e))))
+  other_part kept n = skipped ed text s p i h kept (and_no_right (is_lyric (item_at s i).kind) _ (ne_eqb (item_at s i).part p (λ e. n (item_part text (item_at s i) r is ∙ e))))
 
-  module _ (k : r.kind ≡ lyric_line_kind) (o : r.part ≡ p) (l : Line) (f : LineFrom r l) where
+  module _ (k : r.kind ≡ K.LyricLine) (o : r.part ≡ p) (l : Line) (f : LineFrom r l) where
     yes_line : is_line p (item_at s i) ≡ true
     unfolding is_line
-    yes_line = and_both _ _ (eq-eqb (item_at s i).kind lyric_line_kind (sym is.kind ∙ k)) (eq-eqb (item_at s i).part p (sym (item_part text (item_at s i) r is) ∙ o))
+    yes_line = and_both _ _ (ap is_lyric (sym is.kind ∙ k)) (eq-eqb (item_at s i).part p (sym (item_part text (item_at s i) r is) ∙ o))
 
     -- the line's text
     same_text : between text l.at l.end ≡ between text (item_at s i).at (item_at s i).end

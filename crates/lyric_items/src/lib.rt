@@ -8,6 +8,7 @@ ghost use Rattle.lyric_items.specs.Items.{LineFrom, ItemFits, ItemSung, AllSung}
 
 use editions::Edition;
 use lyrics::{Line, Sheet};
+use scan_table::Kind;
 
 // The lyric line of an item: its verse and its first note stand in its row since the part was read.
 fn line_of(item: scan_table::Row) -> Line
@@ -34,14 +35,13 @@ fn sing_item(
     ensures { ItemSung edition text.now scratch.old scratch.new part i sheet result }
 {
     let item = scan_table::get_item(text, scratch, i);
-    if item.kind != scan_table::LYRIC_LINE {
+    if item.kind != Kind::LyricLine {
         return sheet.count;
     }
     if item.part != part {
         return sheet.count;
     }
-    let line = line_of(item);
-    lyric_lines::sing_line(edition, text, scratch, sheet, line)
+    lyric_lines::sing_line(edition, text, scratch, sheet, line_of(item))
 }
 
 // The lyric lines of a part, which are among the first n items, in order.
@@ -57,16 +57,9 @@ fn sing_items(
     ensures { AllSung edition text.now scratch.old scratch.new n part sheet (syllables_in text.now scratch.old (with_count sheet 0)) result }
 {
     let mut count: usize = 0;
-    let mut i: usize = 0;
-    while i < n {
-        let now = Sheet {
-            heads: sheet.heads,
-            sounded: sheet.sounded,
-            log: sheet.log,
-            count,
-        };
+    for i in 0..n {
+        let now = Sheet { count, ..sheet };
         count = sing_item(edition, text, scratch, i, part, now);
-        i += 1;
     }
     count
 }

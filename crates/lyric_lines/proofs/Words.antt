@@ -1,25 +1,27 @@
 -- A WORD SUNG, in either edition.
-use Prim.Native.Nat.{ℕ, zero, suc, ◌+◌, ◌-◌, ◌*◌, ◌≤◌, ◌<◌}
+use Prim.Native.Nat.{ℕ, zero, suc, ◌+◌, ◌-◌, ◌*◌, ◌≤◌}
 use mathlib.Core.Path.{◌≡◌, refl, sym, ap, subst, ◌∙◌}
 use mathlib.Core.List.{List}
 use native.Mathlib.Omega.{arith}
 use lib.ListN.{length}
-use borrow.Author.Tests.{ne_eqb}
 use Rattle.laws.specs.Lists.{alter_at}
 use Rattle.laws.specs.Bytes.{between}
 use Rattle.editions.specs.declared.Edition.{Edition}
 use Rattle.standard.specs.Lyrics.{syllable_text}
-use Rattle.reader.specs.Lyrics.{Syllable, held_at, sung_at}
+use Rattle.reader.specs.Lyrics.{held_at, sung_at}
+use Rattle.std.specs.Prelude.{Option, Some, None}
+use Rattle.lyric_words.specs.declared.Syllabic as code
+use Rattle.lyric_words.specs.declared.Syllable.{Syllable}
 use Rattle.lyric_words.specs.declared.Token.TheVariants as T
 use Rattle.lyric_words.specs.Words.{as_syllabic, said}
 use Rattle.lyric_stops.specs.declared.Stop.{Stop}
 use Rattle.lyric_stops.specs.Stops.{Inside, farthest, note_at}
 use Rattle.lyric_stops.proofs.Table.{how_many, stops_same}
+use Rattle.lyrics.specs.declared.Row.{Row}
 use Rattle.lyrics.specs.declared.Sheet.{Sheet}
-use Rattle.lyrics.specs.Sheet.{lyric_row_width, hold_code, syllable_of, apply_row, syllables_in, Kept, RowAppended}
+use Rattle.lyrics.specs.Sheet.{lyric_row_width, syllable_of, apply_as, apply_row, syllables_in, Kept, RowAppended}
 use Rattle.lyrics.proofs.Sheets as sheets
 use Rattle.lyrics.proofs.Sheets.{outside_none}
-use Rattle.lyrics.proofs.Rows.{row, happens_put}
 use Rattle.lyric_lines.specs.declared.Place.{Place}
 use Rattle.lyric_lines.specs.declared.Sung.{Sung}
 use Rattle.lyric_lines.specs.Stands.{stops_of, stops_by}
@@ -51,14 +53,17 @@ held_none s h v place k e =
       outside = outside_none s h.heads (h.log + lyric_row_width * h.count);
     }
 
-pub held_row : (s t : List ℕ) (h : Sheet) (v place n : ℕ) → (place ≡ 0 → ⊥) → RowAppended s t h (place - 1) (row v hold_code 0 0) n → Held s t h v place n
-unfolding note_at held_at apply_row
+abbrev pub row : ℕ → Option code.Syllabic → ℕ → ℕ → Row
+row verse syllabic at end = record { verse = verse; syllabic = syllabic; at = at; end = end }
+
+pub held_row : (s t : List ℕ) (h : Sheet) (v place n : ℕ) → (place ≡ 0 → ⊥) → RowAppended s t h (place - 1) (row v None 0 0) n → Held s t h v place n
+unfolding note_at held_at apply_as
 held_row s t h v zero n some m = absurd (some refl)
 held_row s t h v (suc j) n some m =
     let e : suc j - 1 ≡ j = omega arith in
     record {
       kept = m.kept;
-      sung = λ text. m.sung text ∙ ap (λ (k : ℕ). alter_at k (apply_row text (row v hold_code 0 0)) (syllables_in text s h)) e;
+      sung = λ text. m.sung text ∙ ap (λ (k : ℕ). alter_at k (apply_row text (row v None 0 0)) (syllables_in text s h)) e;
       more = m.more;
       one = m.one;
       stops = stops_same s t (stops_of h) m.stops;
@@ -124,19 +129,18 @@ module _ (ed : Edition) (s : List ℕ) (h : Sheet) (v : ℕ) (p q : Place) where
         outside = m.outside;
       }
 
-  pub sung_syllable : (u : List ℕ) (n at end code : ℕ) → code < 4 → RowAppended s u h p.note (row v code at end) n → TakenPlace ed (stops_by u h) p.note q
-      → WordSung ed s u h v p (T.Syllable at end code) (sung q n)
-  unfolding said syllable_of sung_at
-  sung_syllable u n at end code c m t₁ =
+  pub sung_syllable : (u : List ℕ) (n : ℕ) (y : Syllable) → RowAppended s u h p.note (row v (Some y.syllabic) y.at y.end) n → TakenPlace ed (stops_by u h) p.note q
+      → WordSung ed s u h v p (T.Syllable y) (sung q n)
+  unfolding said syllable_of sung_at apply_as
+  sung_syllable u n y m t₁ =
       let same : stops_by u h ≡ xs = stops_same s u (stops_of h) m.stops in
       let t : TakenPlace ed xs p.note q = subst (λ (ys : List Stop). TakenPlace ed ys p.note q) same t₁ in
-      let other : code ≡ hold_code → ⊥ = λ e. absurd (omega (arith, e)) in
       record {
         kept = m.kept;
         stands = λ start. stands_next ed start xs p q t;
         sung = λ start hints st text ws.
-            ap (sing_at ed start v xs q ws) (m.sung text ∙ ap (λ (f : List Syllable → List Syllable). alter_at p.note f (syllables_in text s h)) (happens_put text (row v code at end) (ne_eqb code hold_code other)))
-            ∙ place_put ed start xs p q v ws t st hints (as_syllabic code) (syllable_text (between text at end)) (syllables_in text s h) (lists text);
+            ap (sing_at ed start v xs q ws) (m.sung text)
+            ∙ place_put ed start xs p q v ws t st hints (as_syllabic y.syllabic) (syllable_text (between text y.at y.end)) (syllables_in text s h) (lists text);
         near = taken_near t;
         more = m.more;
         one = m.one;

@@ -15,11 +15,12 @@ ghost use Rattle.lyric_lines.specs.Lines.{Held, WordSung, LineSung};
 
 use editions::Edition;
 use lyric_stops::Stops;
+use lyric_words::{Syllable, Token};
 use lyrics::{Line, Row, Sheet};
 
 // Where a line stands: the note that the next word goes to, at the last note's number or beyond where there is none; the note before it, by its place from 1, 0 for
 // none; and the note last reached, which is the next one where no word has taken it yet.
-#[derive(Clone, Copy)]
+#[derive(Clone, Copy, Debug, PartialEq, Eq)]
 pub struct Place {
     pub note: usize,
     pub before: usize,
@@ -27,7 +28,7 @@ pub struct Place {
 }
 
 // Where it stands after a word, and how many rows are written.
-#[derive(Clone, Copy)]
+#[derive(Clone, Copy, Debug, PartialEq, Eq)]
 pub struct Sung {
     pub place: Place,
     pub count: usize,
@@ -51,10 +52,7 @@ fn note_from(edition: Edition, scratch: &[u8], sheet: Sheet, note: usize) -> usi
 {
     match edition {
         Edition::First => note,
-        Edition::Second => {
-            let stops = stops_of(sheet);
-            lyric_stops::seek_taker(scratch, stops, note)
-        }
+        Edition::Second => lyric_stops::seek_taker(scratch, stops_of(sheet), note),
     }
 }
 
@@ -116,7 +114,7 @@ fn put_hold(scratch: &mut [u8], sheet: Sheet, verse: u8, place: usize) -> usize
     }
     let row = Row {
         verse,
-        code: lyrics::HOLD,
+        syllabic: None,
         at: 0,
         end: 0,
     };
@@ -129,9 +127,8 @@ fn sing_hold(edition: Edition, scratch: &mut [u8], sheet: Sheet, verse: u8, plac
     ensures { WordSung edition scratch.old scratch.new sheet verse place Token.Hold result }
 {
     let count = put_hold(scratch, sheet, verse, place.before);
-    let after = taken(edition, scratch, sheet, place.note);
     Sung {
-        place: after,
+        place: taken(edition, scratch, sheet, place.note),
         count,
     }
 }
@@ -143,23 +140,20 @@ fn sing_syllable(
     sheet: Sheet,
     verse: u8,
     place: Place,
-    at: usize,
-    end: usize,
-    code: u8,
+    syllable: Syllable,
 ) -> Sung
-    requires { (Room scratch.old sheet) × (Near place) × (at < 2 ^ 32) × (end < 2 ^ 32) × (code < 4) }
-    ensures { WordSung edition scratch.old scratch.new sheet verse place (Token.Syllable at end code) result }
+    requires { (Room scratch.old sheet) × (Near place) × (syllable.at < 2 ^ 32) × (syllable.end < 2 ^ 32) }
+    ensures { WordSung edition scratch.old scratch.new sheet verse place (Token.Syllable syllable) result }
 {
     let row = Row {
         verse,
-        code,
-        at: at as u32,
-        end: end as u32,
+        syllabic: Some(syllable.syllabic),
+        at: syllable.at as u32,
+        end: syllable.end as u32,
     };
     let count = lyrics::append_row(scratch, sheet, place.note, row);
-    let after = taken(edition, scratch, sheet, place.note);
     Sung {
-        place: after,
+        place: taken(edition, scratch, sheet, place.note),
         count,
     }
 }
@@ -182,30 +176,22 @@ fn sing_token(
     sheet: Sheet,
     verse: u8,
     place: Place,
-    token: lyric_words::Token,
+    token: Token,
 ) -> Sung
     requires { (Room scratch.old sheet) × (Near place) × (Small 4294967295 token) }
     ensures { WordSung edition scratch.old scratch.new sheet verse place token result }
 {
     match token {
-        lyric_words::Token::Bar => {
-            let after = sing_bar(edition, scratch, sheet, place);
-            Sung {
-                place: after,
-                count: sheet.count,
-            }
-        }
-        lyric_words::Token::Skip => {
-            let after = taken(edition, scratch, sheet, place.note);
-            Sung {
-                place: after,
-                count: sheet.count,
-            }
-        }
-        lyric_words::Token::Hold => sing_hold(edition, scratch, sheet, verse, place),
-        lyric_words::Token::Syllable(at, end, code) => sing_syllable(
-            edition, scratch, sheet, verse, place, at, end, code,
-        ),
+        Token::Bar => Sung {
+            place: sing_bar(edition, scratch, sheet, place),
+            count: sheet.count,
+        },
+        Token::Skip => Sung {
+            place: taken(edition, scratch, sheet, place.note),
+            count: sheet.count,
+        },
+        Token::Hold => sing_hold(edition, scratch, sheet, verse, place),
+        Token::Syllable(syllable) => sing_syllable(edition, scratch, sheet, verse, place, syllable),
     }
 }
 
@@ -225,14 +211,8 @@ pub fn sing_line(
     let mut count = sheet.count;
     while cursor.at < line.end {
         let read = lyric_words::abc_lyric_token(text, cursor, line.end);
-        let token = read.token;
-        let now = Sheet {
-            heads: sheet.heads,
-            sounded: sheet.sounded,
-            log: sheet.log,
-            count,
-        };
-        let sung = sing_token(edition, scratch, now, line.verse, place, token);
+        let now = Sheet { count, ..sheet };
+        let sung = sing_token(edition, scratch, now, line.verse, place, read.token);
         place = sung.place;
         count = sung.count;
         cursor = read.cursor;

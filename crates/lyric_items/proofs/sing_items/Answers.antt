@@ -1,5 +1,4 @@
 -- `lyric_items::sing_items` meets its contract.
-use native.Mathlib.Omega.{arith}
 use Rattle.lyric_items.proofs.Applying.{applying_start, item_fits_lem, applying_next, applying_end}
 use Rattle.lyric_items.proofs.sing_items.Goals as goal
 
@@ -13,12 +12,6 @@ sing_item-count-requires c =
     let a = c.args in
     let l = c.loop-i in
     item_fits_lem a.edition a.text.now a.scratch.now a.n a.part a.sheet _ c.requires.0 l.scratch l.count l.i l.invariant c.loop-i-test.true
-
-pub overflow_add-i : goal.overflow_add-i
-overflow_add-i c = omega (arith, c.loop-i-test.true, c.ranges.n)
-
-pub loop-i-smaller : goal.loop-i-smaller
-loop-i-smaller c = omega (arith, c.loop-i-test.true)
 
 pub loop-i-preserved : goal.loop-i-preserved
 loop-i-preserved c =

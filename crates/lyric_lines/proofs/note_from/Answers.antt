@@ -6,7 +6,7 @@ use Rattle.lyric_stops.specs.Walks.{TakerFrom}
 use Rattle.lyric_lines.proofs.note_from.Goals as goal
 
 pub seek_taker-requires : goal.seek_taker-requires
-seek_taker-requires c = rw c.stops_of-stops.ensures c.requires
+seek_taker-requires c = rw c.stops_of.ensures c.requires
 
 pub returns-in-First : goal.returns-in-First
 returns-in-First c = rw c.in-First.is refl
@@ -15,4 +15,4 @@ pub returns-in-Second : goal.returns-in-Second
 returns-in-Second c =
     let a = c.args in
     rw c.in-Second.is
-    (subst (λ (t : Stops). TakerFrom (stops_in a.scratch.now t) a.note c.seek_taker.result) c.stops_of-stops.ensures c.seek_taker.ensures)
+    (subst (λ (t : Stops). TakerFrom (stops_in a.scratch.now t) a.note c.seek_taker.result) c.stops_of.ensures c.seek_taker.ensures)

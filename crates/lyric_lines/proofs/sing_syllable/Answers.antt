@@ -6,8 +6,8 @@ use Rattle.lyric_lines.proofs.sing_syllable.Goals as goal
 pub append_row-count-requires : goal.append_row-count-requires
 append_row-count-requires c = (c.requires.0, c.requires.2, c.requires.3)
 
-pub taken-after-requires : goal.taken-after-requires
-taken-after-requires c =
+pub taken-requires : goal.taken-requires
+taken-requires c =
     let a = c.args in
     let m = c.append_row-count in
     (stops_inside _ (with_count a.sheet m.result) m.ensures.kept, c.requires.1.0)
@@ -15,4 +15,4 @@ taken-after-requires c =
 pub returns : goal.returns
 returns c =
     let a = c.args in
-    sung_syllable a.edition a.scratch.now a.sheet a.verse a.place _ _ _ a.at a.end a.code c.requires.4 c.append_row-count.ensures c.taken-after.ensures
+    sung_syllable a.edition a.scratch.now a.sheet a.verse a.place _ _ _ a.syllable c.append_row-count.ensures c.taken.ensures
