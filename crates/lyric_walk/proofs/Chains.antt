@@ -16,11 +16,13 @@ use Rattle.laws.proofs.Parts.{get_d_part}
 use Rattle.laws.proofs.Numbers.{little_at_own, little_at_part}
 use Rattle.laws.proofs.Rows.{rows_get, length_rows}
 use Rattle.reader.specs.Lyrics.{Syllable, put, held}
+use Rattle.std.specs.Prelude.{Option}
+use Rattle.lyric_words.specs.declared.Syllabic.{Syllabic}
 use Rattle.lyrics.specs.declared.Sheet.{Sheet}
 use Rattle.lyrics.specs.declared.Row.{Row}
-use Rattle.lyrics.specs.Sheet.{lyric_head_width, lyric_row_width, verse_at, code_at, start_at, end_at, next_at, hold_code, row_of, next_of, row_at, syllable_of, apply_row, sung_from, head_of, heads_in, syllables_in}
+use Rattle.lyrics.specs.Sheet.{lyric_head_width, lyric_row_width, verse_at, code_at, start_at, end_at, next_at, syllabic_in, row_of, next_of, row_at, syllable_of, apply_as, apply_row, sung_from, head_of, heads_in, syllables_in}
 use Rattle.lyric_walk.specs.Walks.{chain, HeadIs, LinkIs}
-use Rattle.lyric_walk.proofs.Verses.{held_verse}
+use Rattle.lyric_walk.proofs.Verses.{held_verse, by_syllabic}
 
 module _ (text s : List ℕ) (log : ℕ) where
   -- a chain that begins among the first n rows is the same among more
@@ -87,30 +89,31 @@ capped k x r e h = go (dec_lt x k)
         omega arith
 
 -- ROW k, from 1, by its bytes
-row_is : (s : List ℕ) (p at end : ℕ) → at ≡ u32_at s (p + start_at) → end ≡ u32_at s (p + end_at) → row_of (part s p lyric_row_width) ≡ record { verse = get_or s p 0; code = get_or s (p + code_at) 0; at = at; end = end }
+row_is : (s : List ℕ) (p : ℕ) (o : Option Syllabic) (at end : ℕ) → o ≡ syllabic_in (get_or s (p + code_at) 0) → at ≡ u32_at s (p + start_at) → end ≡ u32_at s (p + end_at) → row_of (part s p lyric_row_width) ≡ record { verse = get_or s p 0; syllabic = o; at = at; end = end }
 unfolding row_of
-row_is s p at end a e =
+row_is s p o at end c a e =
     let z : p + verse_at ≡ p = omega arith in
     let v : get_or (part s p lyric_row_width) verse_at 0 ≡ get_or s p 0 = get_d_part s p lyric_row_width verse_at (omega arith) ∙ ap (λ (x : ℕ). get_or s x 0) z in
+    let w : syllabic_in (get_or (part s p lyric_row_width) code_at 0) ≡ o = ap syllabic_in (get_d_part s p lyric_row_width code_at (omega arith)) ∙ sym c in
     let x : u32_at (part s p lyric_row_width) start_at ≡ at = little_at_part 4 s p lyric_row_width start_at (omega arith) ∙ sym a in
     let y : u32_at (part s p lyric_row_width) end_at ≡ end = little_at_part 4 s p lyric_row_width end_at (omega arith) ∙ sym e in
-    λ i. record { verse = v i; code = get_d_part s p lyric_row_width code_at (omega arith) i; at = x i; end = y i }
+    λ i. record { verse = v i; syllabic = w i; at = x i; end = y i }
 
 next_is : (s : List ℕ) (p : ℕ) → next_of (part s p lyric_row_width) ≡ u32_at s (p + next_at)
 unfolding next_of
 next_is s p = little_at_part 4 s p lyric_row_width next_at (omega arith)
 
-pub link_is : (s : List ℕ) (log k : ℕ) → 1 ≤ k → (at end place next : ℕ) → at ≡ u32_at s (log + lyric_row_width * (k - 1) + start_at) → end ≡ u32_at s (log + lyric_row_width * (k - 1) + end_at)
+pub link_is : (s : List ℕ) (log k : ℕ) → 1 ≤ k → (o : Option Syllabic) (at end place next : ℕ) → o ≡ syllabic_in (get_or s (log + lyric_row_width * (k - 1) + code_at) 0) → at ≡ u32_at s (log + lyric_row_width * (k - 1) + start_at) → end ≡ u32_at s (log + lyric_row_width * (k - 1) + end_at)
     → place ≡ u32_at s (log + lyric_row_width * (k - 1) + next_at) → next ≡ cond (ltb place k) place 0
-    → LinkIs s log k (record { verse = get_or s (log + lyric_row_width * (k - 1)) 0; code = get_or s (log + lyric_row_width * (k - 1) + code_at) 0; at = at; end = end; next = next })
-link_is s log k low at end place next a e p n =
+    → LinkIs s log k (record { verse = get_or s (log + lyric_row_width * (k - 1)) 0; syllabic = o; at = at; end = end; next = next })
+link_is s log k low o at end place next b a e p n =
     let one : k ≡ k - 1 + 1 = omega arith in
     let q : place ≡ next_of (row_at s log (k - 1)) = p ∙ sym (next_is s (log + lyric_row_width * (k - 1))) in
     let c : next ≡ cond (ltb (next_of (row_at s log (k - 1))) (k - 1 + 1)) (next_of (row_at s log (k - 1))) 0 = n ∙ (λ i. cond (ltb (q i) (one i)) (q i) 0) in
     record {
       low = capped k place next n (omega arith);
-      row = sym (row_is s (log + lyric_row_width * (k - 1)) at end a e);
-      sung = λ text. chain_row text s log (k - 1) k next one c ∙ ap (λ (r : Row). apply_row text r (chain text s log next)) (row_is s (log + lyric_row_width * (k - 1)) at end a e);
+      row = sym (row_is s (log + lyric_row_width * (k - 1)) o at end b a e);
+      sung = λ text. chain_row text s log (k - 1) k next one c ∙ ap (λ (r : Row). apply_row text r (chain text s log next)) (row_is s (log + lyric_row_width * (k - 1)) o at end b a e);
     }
 
 -- THE HEAD of a note
@@ -148,9 +151,9 @@ module _ (Q : ℕ → Type 0) where
   held_all v (y ∷ ys) a = (subst Q (sym (held_verse v y)) a.0, held_all v ys a.1)
 
   pub row_all : (text : List ℕ) (r : Row) (ys : List Syllable) → Q r.verse → All (λ (y : Syllable). Q y.verse) ys → All (λ (y : Syllable). Q y.verse) (apply_row text r ys)
-  unfolding apply_row syllable_of
+  unfolding apply_as syllable_of
   row_all text r ys h a =
-      by_test (eqb r.code hold_code) (λ e. rw (e, apply_row) (held_all r.verse ys a)) (λ e. rw (e, apply_row) (put_all (λ (y : Syllable). Q y.verse) (syllable_of text r) ys h a))
+      by_syllabic r.syllabic (λ e. rw (e, apply_as) (held_all r.verse ys a)) (λ c e. rw (e, apply_as) (put_all (λ (y : Syllable). Q y.verse) (syllable_of text r c) ys h a))
 
 -- verses are bytes
 pub verses_small : (text s : List ℕ) (log n k : ℕ) → ((i : ℕ) → get_or s i 0 < 256) → All (λ (y : Syllable). y.verse < 256) (sung_from text s log n k)

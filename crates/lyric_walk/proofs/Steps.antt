@@ -3,7 +3,12 @@ use Prim.Native.Nat.{ℕ, zero, suc, ◌+◌, ◌≤◌, ◌<◌, min, max}
 use mathlib.Core.Path.{◌≡◌, refl, sym, ap, subst, ◌∙◌}
 use mathlib.Core.Bool.{Bool, true, false, cond}
 use mathlib.Core.List.{List, [], ◌∷◌}
+use native.Mathlib.Decide.{dec_lt}
 use native.Mathlib.Omega.{arith}
+use Rattle.std.specs.declared.cmp.Ordering.{Ordering}
+use Rattle.std.specs.declared.cmp.Ordering.TheVariants.{Less, Equal, Greater}
+use Rattle.std.specs.Ordering.{ord_max, nat_cmp, is_lt}
+use Rattle.std.specs.Cmp.{nat_cmp_is}
 use lib.Dec.{eqb}
 use lib.ListN.{get_or, set, replicate, length-set, length-replicate}
 use lib.Seq.{get_or-set_same, get_or-set_other}
@@ -11,12 +16,29 @@ use borrow.Author.Tests.{eq-eqb, ne_eqb, eqb-true, eqb-false}
 use Rattle.laws.specs.Lists.{All}
 use Rattle.laws.proofs.Bools.{by_test}
 use Rattle.reader.specs.Lyrics.{Syllable, held}
+use Rattle.std.specs.Prelude.{Option, Some}
+use Rattle.lyric_words.specs.declared.Syllabic.{Syllabic}
 use Rattle.lyrics.specs.declared.Row.{Row}
-use Rattle.lyrics.specs.Sheet.{hold_code, syllable_of, apply_row}
+use Rattle.lyrics.specs.Sheet.{syllable_of, apply_row}
 use Rattle.lyric_walk.specs.declared.Link.{Link}
 use Rattle.lyric_walk.specs.Walks.{chain, row_of_link, LinkIs, of_verse, syllable_is, found_of, found_at, first_place, held_since, window, Wide, Clear, TakesRow, InSpan, Gathered}
 use Rattle.lyric_walk.proofs.Chains.{chain_none, row_all}
-use Rattle.lyric_walk.proofs.Verses.{rising_chain, held_by, of_other, of_hold, of_found}
+use Rattle.lyric_walk.proofs.Verses.{by_syllabic, rising_chain, held_by, of_other, of_hold, of_found}
+
+-- the library's greater of two numbers
+pub greater_is : (a b r : ℕ) → r ≡ ord_max nat_cmp a b → r ≡ max a b
+greater_is a b r e = e ∙ go (dec_lt b a) (dec_lt a b)
+  where
+    by_answer : (o : Ordering) → o ≡ nat_cmp b a → ord_max nat_cmp a b ≡ cond (is_lt o) a b
+    by_answer o f = ap (λ (x : Ordering). cond (is_lt x) a b) (sym f)
+
+    go : Dec (b < a) → Dec (a < b) → ord_max nat_cmp a b ≡ max a b
+    go (yes h) l = let m : a ≡ max a b = omega arith in by_answer Less (nat_cmp_is b a Less h) ∙ m
+    go (no h) (yes l) = let m : b ≡ max a b = omega arith in by_answer Greater (nat_cmp_is b a Greater l) ∙ m
+    go (no h) (no l) =
+        let same : b ≡ a = omega arith in
+        let m : b ≡ max a b = omega arith in
+        by_answer Equal (nat_cmp_is b a Equal same) ∙ m
 
 -- A VERSE: what the rows down to `place` say of it, the rest being ahead
 abbrev pub SoFar : List ℕ → List ℕ → ℕ → ℕ → ℕ → Bool → ℕ → List Syllable
@@ -30,10 +52,10 @@ noting_start : (s : List ℕ) (log k v p : ℕ) (x : Bool) → p ≡ 0 → x ≡
 noting_start s log k v p x e f = record { low = omega (arith, e); ahead = λ text. rw (e, f) }
 
 -- the syllable of a row
-found_is : (text : List ℕ) (r : Row) (v : ℕ) (x : Bool) → r.verse ≡ v → held_by v x (syllable_of text r ∷ []) ≡ syllable_is text (found_of r x) ∷ []
+found_is : (text : List ℕ) (r : Row) (c : Syllabic) (v : ℕ) (x : Bool) → r.syllabic ≡ Some c → r.verse ≡ v → held_by v x (syllable_of text r c ∷ []) ≡ syllable_is text (found_of r x) ∷ []
 unfolding syllable_of syllable_is held
-found_is text r v true e = rw (eq-eqb r.verse v e)
-found_is text r v false e = refl
+found_is text r c v true f e = rw (f, eq-eqb r.verse v e)
+found_is text r c v false f e = rw f
 
 module _ (s : List ℕ) (log k v p : ℕ) (x : Bool) (place : ℕ) (w : Noting s log k v p x place) (r : Link) (i : LinkIs s log place r) where
   -- a row of another verse
@@ -48,21 +70,21 @@ module _ (s : List ℕ) (log k v p : ℕ) (x : Bool) (place : ℕ) (w : Noting s
       }
 
   -- one of this verse
-  noting_here : r.verse ≡ v → 0 < place → place ≤ k → Noting s log k v (first_place p r.code place) (held_since p x r.code) r.next
+  noting_here : r.verse ≡ v → 0 < place → place ≤ k → Noting s log k v (first_place p r.syllabic place) (held_since p x r.syllabic) r.next
   noting_here d h l =
       by_test (eqb p 0)
-      (λ e. by_test (eqb r.code hold_code)
+      (λ e. by_syllabic r.syllabic
       (λ f. rw (e, f) (record { low = omega arith; ahead = λ text. here text e ∙ of_hold text (row_of_link r) v (chain text s log r.next) x d f }))
-      (λ f. rw (e, f) (record { low = l; ahead = λ text. here text e ∙ sung text f })))
+      (λ c f. rw (e, f) (record { low = l; ahead = λ text. here text e ∙ sung text c f })))
       (λ e. rw e (record { low = w.low; ahead = λ text. w.ahead text ∙ rw e }))
     where
       here : (text : List ℕ) → eqb p 0 ≡ true → of_verse v (chain text s log k) ≡ held_by v x (of_verse v (apply_row text (row_of_link r) (chain text s log r.next)))
       here text e = w.ahead text ∙ rw e (ap (λ (ys : List Syllable). held_by v x (of_verse v ys)) (i.sung text))
 
-      sung : (text : List ℕ) → eqb r.code hold_code ≡ false → held_by v x (of_verse v (apply_row text (row_of_link r) (chain text s log r.next))) ≡ SoFar text s log v place x r.next
-      sung text f =
-          ap (held_by v x) (of_found text (row_of_link r) v (chain text s log r.next) d f (rising_chain text s log r.next r.next))
-          ∙ found_is text (row_of_link r) v x d
+      sung : (text : List ℕ) (c : Syllabic) → r.syllabic ≡ Some c → held_by v x (of_verse v (apply_row text (row_of_link r) (chain text s log r.next))) ≡ SoFar text s log v place x r.next
+      sung text c f =
+          ap (held_by v x) (of_found text (row_of_link r) v (chain text s log r.next) c d f (rising_chain text s log r.next r.next))
+          ∙ found_is text (row_of_link r) c v x f d
           ∙ ap (λ (q : Row). syllable_is text (found_of q x) ∷ []) i.row
           ∙ sym (rw (ne_eqb place 0 (λ z. absurd (omega (arith, z)))))
 
@@ -97,7 +119,7 @@ gathering_start s log k from places held least c =
     record { wide = c.wide; span = spanning_start s log k least; each = λ i h. noting_start s log k (from + i) (get_or places i 0) (get_or held i false) (c.none i h) (c.loose i h) }
 
 pub gathering_next : (s : List ℕ) (log k from : ℕ) (places : List ℕ) (held : List Bool) (least most place : ℕ) → Gathering s log k from places held least most place → 0 < place
-    → (r : Link) → LinkIs s log place r → r.verse < 256 → (q : List ℕ) (y : List Bool) → TakesRow from r.verse r.code place places held q y
+    → (r : Link) → LinkIs s log place r → r.verse < 256 → (q : List ℕ) (y : List Bool) → TakesRow from r.verse r.syllabic place places held q y
     → Gathering s log k from q y (min least r.verse) (max most r.verse) r.next
 gathering_next s log k from places held least most place g h r i byte q y t =
     record { wide = t.wide; span = spanning_next s log k least most place g.span r i byte; each = λ j l. by_test (eqb (from + j) r.verse) (λ e. go_yes j l (eqb-true (from + j) r.verse e)) (λ e. go_no j l (eqb-false (from + j) r.verse e)) }
@@ -133,17 +155,17 @@ gathering_end s log k from places held least most place g h =
     none text v b = ap (λ (ys : List Syllable). held_by v b (of_verse v ys)) (nil text) ∙ no_one v b
 
 -- a row outside of the window; one in it
-pub takes_none_lem : (from verse code place : ℕ) (p : List ℕ) (x : List Bool) → Wide p x → ((i : ℕ) → i < window → from + i ≡ verse → ⊥) → TakesRow from verse code place p x p x
-takes_none_lem from verse code place p x w d = record { wide = w; here = λ i h e. absurd (d i h e); other = λ i h e. (refl, refl) }
+pub takes_none_lem : (from verse : ℕ) (o : Option Syllabic) (place : ℕ) (p : List ℕ) (x : List Bool) → Wide p x → ((i : ℕ) → i < window → from + i ≡ verse → ⊥) → TakesRow from verse o place p x p x
+takes_none_lem from verse o place p x w d = record { wide = w; here = λ i h e. absurd (d i h e); other = λ i h e. (refl, refl) }
 
-pub takes_one : (from verse code place j : ℕ) (p : List ℕ) (x : List Bool) → Wide p x → j < window → from + j ≡ verse → (a : ℕ) (b : Bool)
-    → a ≡ first_place (get_or p j 0) code place → b ≡ held_since (get_or p j 0) (get_or x j false) code → TakesRow from verse code place p x (set p j a) (set x j b)
-takes_one from verse code place j p x w h e a b f g =
+pub takes_one : (from verse : ℕ) (o : Option Syllabic) (place j : ℕ) (p : List ℕ) (x : List Bool) → Wide p x → j < window → from + j ≡ verse → (a : ℕ) (b : Bool)
+    → a ≡ first_place (get_or p j 0) o place → b ≡ held_since (get_or p j 0) (get_or x j false) o → TakesRow from verse o place p x (set p j a) (set x j b)
+takes_one from verse o place j p x w h e a b f g =
     record {
       wide = record { places_long = length-set p j a ∙ w.places_long; held_long = length-set x j b ∙ w.held_long };
       here = λ i l t.
           let s : i ≡ j = omega (arith, t, e) in
-          subst (λ (i : ℕ). (get_or (set p j a) i 0 ≡ first_place (get_or p i 0) code place) × (get_or (set x j b) i false ≡ held_since (get_or p i 0) (get_or x i false) code)) (sym s)
+          subst (λ (i : ℕ). (get_or (set p j a) i 0 ≡ first_place (get_or p i 0) o place) × (get_or (set x j b) i false ≡ held_since (get_or p i 0) (get_or x i false) o)) (sym s)
           (get_or-set_same p j a 0 (omega (arith, w.places_long)) ∙ f, get_or-set_same x j b false (omega (arith, w.held_long)) ∙ g);
       other = λ i l t.
           let d : i ≡ j → ⊥ = λ s. t (omega (arith, s)) in

@@ -11,7 +11,9 @@ use Rattle.laws.specs.Lists.{All}
 use Rattle.laws.proofs.Bools.{by_test}
 use Rattle.reader.specs.Lyrics.{Syllable, put, held}
 use Rattle.lyrics.specs.declared.Row.{Row}
-use Rattle.lyrics.specs.Sheet.{hold_code, syllable_of, apply_row, sung_from, row_of, row_at, next_of}
+use Rattle.std.specs.Prelude.{Option, Some, None}
+use Rattle.lyric_words.specs.declared.Syllabic.{Syllabic}
+use Rattle.lyrics.specs.Sheet.{syllable_of, apply_as, apply_row, sung_from, row_of, row_at, next_of}
 use Rattle.lyric_walk.specs.Walks.{of_verse, within, InSpan}
 
 -- RISING VERSES
@@ -38,10 +40,14 @@ rising_held : (low v : ℕ) (ys : List Syllable) → Rising low ys → Rising lo
 rising_held low v [] r = tt
 rising_held low v (y ∷ ys) r = rw (held_verse v y) (r.0, rising_held (suc y.verse) v ys r.1)
 
+-- a row by its syllabic: a hold has none
+pub by_syllabic : {P : Type 0} (o : Option Syllabic) → (o ≡ None → P) → ((c : Syllabic) → o ≡ Some c → P) → P
+by_syllabic None f g = f refl
+by_syllabic (Some c) f g = g c refl
+
 pub rising_row : (text : List ℕ) (r : Row) (ys : List Syllable) → Rising 0 ys → Rising 0 (apply_row text r ys)
-unfolding apply_row
-rising_row text r ys h =
-    by_test (eqb r.code hold_code) (λ e. rw (e, apply_row) (rising_held 0 r.verse ys h)) (λ e. rw (e, apply_row) (rising_put 0 (syllable_of text r) ys (omega arith) h))
+unfolding apply_as syllable_of
+rising_row text r ys h = by_syllabic r.syllabic (λ e. rw (e, apply_as) (rising_held 0 r.verse ys h)) (λ c e. rw (e, apply_as) (rising_put 0 (syllable_of text r c) ys (omega arith) h))
 
 pub rising_chain : (text s : List ℕ) (log n k : ℕ) → Rising 0 (sung_from text s log n k)
 unfolding sung_from
@@ -131,19 +137,19 @@ held_by_lem v false ys = refl
 -- A ROW of another verse; a hold of this verse; its syllable
 module _ (text : List ℕ) (r : Row) (v : ℕ) (ys : List Syllable) where
   pub of_other : (r.verse ≡ v → ⊥) → of_verse v (apply_row text r ys) ≡ of_verse v ys
-  unfolding apply_row syllable_of
+  unfolding apply_as syllable_of
   of_other d =
-      by_test (eqb r.code hold_code) (λ e. rw (e, apply_row) (of_held v r.verse ys ∙ held_other v r.verse ys d))
-      (λ e. rw (e, apply_row) (of_put_other v (syllable_of text r) ys d))
+      by_syllabic r.syllabic (λ e. rw (e, apply_as) (of_held v r.verse ys ∙ held_other v r.verse ys d))
+      (λ c e. rw (e, apply_as) (of_put_other v (syllable_of text r c) ys d))
 
-  pub of_hold : (x : Bool) → r.verse ≡ v → eqb r.code hold_code ≡ true → held_by v x (of_verse v (apply_row text r ys)) ≡ held_by v true (of_verse v ys)
-  unfolding apply_row
+  pub of_hold : (x : Bool) → r.verse ≡ v → r.syllabic ≡ None → held_by v x (of_verse v (apply_row text r ys)) ≡ held_by v true (of_verse v ys)
+  unfolding apply_as
   of_hold x d e =
-      rw (e, apply_row) (ap (held_by v x) (of_held v r.verse ys) ∙ ap (λ (u : ℕ). held_by v x (map (held u) (of_verse v ys))) d ∙ held_by_lem v x (of_verse v ys))
+      rw (e, apply_as) (ap (held_by v x) (of_held v r.verse ys) ∙ ap (λ (u : ℕ). held_by v x (map (held u) (of_verse v ys))) d ∙ held_by_lem v x (of_verse v ys))
 
-  pub of_found : r.verse ≡ v → eqb r.code hold_code ≡ false → Rising 0 ys → of_verse v (apply_row text r ys) ≡ syllable_of text r ∷ []
-  unfolding apply_row syllable_of
-  of_found d e rising = rw (e, apply_row) (of_put_same v 0 (syllable_of text r) ys d rising)
+  pub of_found : (c : Syllabic) → r.verse ≡ v → r.syllabic ≡ Some c → Rising 0 ys → of_verse v (apply_row text r ys) ≡ syllable_of text r c ∷ []
+  unfolding apply_as syllable_of
+  of_found c d e rising = rw (e, apply_as) (of_put_same v 0 (syllable_of text r c) ys d rising)
 
 -- VERSES FROM ONE ON, BELOW ANOTHER
 module _ (a b : ℕ) (y : Syllable) (ys : List Syllable) where

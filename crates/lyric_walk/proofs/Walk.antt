@@ -4,13 +4,14 @@ use mathlib.Core.Path.{◌≡◌, refl, sym, ap, ◌∙◌}
 use mathlib.Core.Bool.{false}
 use mathlib.Core.List.{List, [], ◌∷◌, ◌++◌, map}
 use lib.ListN.{length, get_or, length-map}
-use borrow.Author.Tests.{eq-eqb, ne_eqb}
 use Rattle.laws.specs.Bytes.{part, between}
 use Rattle.laws.proofs.Lists.{map_append}
 use Rattle.laws.proofs.Parts.{length_between, part_suc}
 use Rattle.standard.specs.Lyrics.{syllable_text}
 use Rattle.reader.specs.Lyrics.{Syllable, put}
-use Rattle.lyrics.specs.Sheet.{hold_code, syllable_of, apply_row}
+use Rattle.std.specs.Prelude.{Some, None}
+use Rattle.lyric_words.specs.declared.Syllabic.{Syllabic}
+use Rattle.lyrics.specs.Sheet.{syllable_of, apply_as, apply_row}
 use Rattle.lyric_walk.specs.declared.Found.{Found}
 use Rattle.lyric_walk.specs.declared.Sole.TheVariants as S
 use Rattle.lyric_walk.specs.declared.Link.{Link}
@@ -30,14 +31,14 @@ module _ (text s : List ℕ) (log k : ℕ) (r : Link) (is : LinkIs s log k r) (l
   alone : chain text s log k ≡ apply_row text (row_of_link r) []
   alone = is.sung text ∙ ap (apply_row text (row_of_link r)) (ap (chain text s log) last ∙ chain_none text s log)
 
-  pub sole_hold : r.code ≡ hold_code → SoleIs text s log k S.Nothing
-  unfolding apply_row
-  sole_hold e = record { says = alone ∙ rw (eq-eqb r.code hold_code e, apply_row) }
+  pub sole_hold : r.syllabic ≡ None → SoleIs text s log k S.Nothing
+  unfolding apply_as
+  sole_hold e = record { says = alone ∙ rw (e, apply_as) }
 
-  pub sole_one : (r.code ≡ hold_code → ⊥) → (f : Found) → InText (length text) (found_of (row_of_link r) false) f → SoleIs text s log k (S.One f)
-  unfolding apply_row put syllable_of syllable_is
-  sole_one n f i =
-      let one : apply_row text (row_of_link r) [] ≡ syllable_is text (found_of (row_of_link r) false) ∷ [] = rw (ne_eqb r.code hold_code n, apply_row) in
+  pub sole_one : (c : Syllabic) → r.syllabic ≡ Some c → (f : Found) → InText (length text) (found_of (row_of_link r) false) f → SoleIs text s log k (S.One f)
+  unfolding apply_as put syllable_of syllable_is
+  sole_one c e f i =
+      let one : apply_row text (row_of_link r) [] ≡ syllable_is text (found_of (row_of_link r) false) ∷ [] = rw (e, apply_as) in
       record { says = (alone ∙ one ∙ ap (λ (y : Syllable). y ∷ []) (sym (same_syllable text (found_of (row_of_link r) false) f i)), i.cut.order, i.cut.high) }
 
 -- ITS TEXT

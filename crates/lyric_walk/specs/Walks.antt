@@ -1,15 +1,16 @@
 -- A note's syllables by their verses.
-use Rattle.std.specs.Prelude.{ℕ, ◌+◌, ◌-◌, ◌*◌, ◌≤◌, ◌<◌, ◌≡◌, Bool, true, false, cond, ◌&&◌, List, [], ◌∷◌, eqb, leb, ltb, length, get_or}
+use Rattle.std.specs.Prelude.{ℕ, ◌+◌, ◌-◌, ◌*◌, ◌≤◌, ◌<◌, ◌≡◌, Bool, true, false, cond, ◌&&◌, List, [], ◌∷◌, eqb, leb, ltb, length, get_or, Option, is_some, unwrap_or}
 use Rattle.laws.specs.Lists.{All, filter}
 use Rattle.laws.specs.Bytes.{between}
 use Rattle.standard.specs.Bytes.{is}
 use Rattle.standard.specs.Lyrics.{syllable_text}
 use Rattle.scan_table.specs.Rows.{Cut}
 use Rattle.reader.specs.Lyrics.{Syllable}
+use Rattle.lyric_words.specs.declared.Syllabic.{Syllabic}
 use Rattle.lyric_words.specs.Words.{as_syllabic}
 use Rattle.lyrics.specs.declared.Sheet.{Sheet}
 use Rattle.lyrics.specs.declared.Row.{Row}
-use Rattle.lyrics.specs.Sheet.{lyric_head_width, lyric_row_width, hold_code, row_of, row_at, apply_row, sung_from, syllables_in}
+use Rattle.lyrics.specs.Sheet.{lyric_head_width, lyric_row_width, row_of, row_at, apply_row, sung_from, syllables_in}
 use Rattle.lyric_walk.specs.declared.Found.{Found}
 use Rattle.lyric_walk.specs.declared.Span.{Span}
 use Rattle.lyric_walk.specs.declared.Sole.{Sole}
@@ -31,7 +32,7 @@ pub record HeadIs (s : List ℕ) (h : Sheet) (note k : ℕ) : Type 0 where
   pub sung : (text : List ℕ) → get_or (syllables_in text s h) note [] ≡ chain text s h.log k
 
 abbrev pub row_of_link : Link → Row
-row_of_link r = record { verse = r.verse; code = r.code; at = r.at; end = r.end }
+row_of_link r = record { verse = r.verse; syllabic = r.syllabic; at = r.at; end = r.end }
 
 -- r is row k, and the chain goes on below it
 pub record LinkIs (s : List ℕ) (log k : ℕ) (r : Link) : Type 0 where
@@ -51,9 +52,9 @@ of_verse v ys = filter (λ (y : Syllable). eqb y.verse v) ys
 abbrev pub within : ℕ → ℕ → List Syllable → List Syllable
 within a b ys = filter (λ (y : Syllable). leb a y.verse && ltb y.verse b) ys
 
--- row p of the log, from 1, as a syllable; held, or not
+-- row p of the log, from 1, as a syllable, which no hold is; held, or not
 abbrev pub found_of : Row → Bool → Found
-found_of r x = record { verse = r.verse; syllabic = r.code; extend = x; at = r.at; end = r.end }
+found_of r x = record { verse = r.verse; syllabic = unwrap_or r.syllabic Syllabic.Middle; extend = x; at = r.at; end = r.end }
 
 abbrev pub found_at : List ℕ → ℕ → ℕ → Bool → Found
 found_at s log p x = found_of (row_of (row_at s log (p - 1))) x
@@ -64,11 +65,11 @@ sung_at text s log p x = cond (eqb p 0) [] (syllable_is text (found_at s log p x
 
 -- ONE WALK
 -- the first row that sings a verse, and whether a hold of the verse stands before it, after a row of that verse
-abbrev pub first_place : ℕ → ℕ → ℕ → ℕ
-first_place p code place = cond (eqb p 0) (cond (eqb code hold_code) 0 place) p
+abbrev pub first_place : ℕ → Option Syllabic → ℕ → ℕ
+first_place p o place = cond (eqb p 0) (cond (is_some o) place 0) p
 
-abbrev pub held_since : ℕ → Bool → ℕ → Bool
-held_since p x code = cond (eqb p 0) (cond (eqb code hold_code) true x) x
+abbrev pub held_since : ℕ → Bool → Option Syllabic → Bool
+held_since p x o = cond (eqb p 0) (cond (is_some o) x true) x
 
 -- how many verses a window has
 abbrev pub window : ℕ
@@ -86,9 +87,9 @@ pub record Clear (places : List ℕ) (held : List Bool) : Type 0 where
   pub loose : (i : ℕ) → i < window → get_or held i false ≡ false
 
 -- the row at `place`, of a verse, is taken into the window from `from` on: q and y were p and x; other verses are as they were
-pub record TakesRow (from verse code place : ℕ) (p : List ℕ) (x : List Bool) (q : List ℕ) (y : List Bool) : Type 0 where
+pub record TakesRow (from verse : ℕ) (o : Option Syllabic) (place : ℕ) (p : List ℕ) (x : List Bool) (q : List ℕ) (y : List Bool) : Type 0 where
   pub wide : Wide q y
-  pub here : (i : ℕ) → i < window → from + i ≡ verse → (get_or q i 0 ≡ first_place (get_or p i 0) code place) × (get_or y i false ≡ held_since (get_or p i 0) (get_or x i false) code)
+  pub here : (i : ℕ) → i < window → from + i ≡ verse → (get_or q i 0 ≡ first_place (get_or p i 0) o place) × (get_or y i false ≡ held_since (get_or p i 0) (get_or x i false) o)
   pub other : (i : ℕ) → i < window → (from + i ≡ verse → ⊥) → (get_or q i 0 ≡ get_or p i 0) × (get_or y i false ≡ get_or x i false)
 
 -- the verse of a syllable is one from least to most

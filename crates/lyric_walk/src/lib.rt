@@ -1,9 +1,11 @@
 // What is sung to a note, read from scratch: one walk along the rows of its chain finds the row of each verse.
 #![tactic(auto)]
 
-ghost use Rattle.std.specs.Prelude.{◌+◌, ◌*◌, ◌≤◌, ◌<◌, min, max, ◌≡◌, cond, ltb, length};
+ghost use Rattle.std.specs.Prelude.{◌+◌, ◌*◌, ◌≤◌, ◌<◌, ◌≡◌, cond, ltb, length};
 ghost use Rattle.lyrics.specs.Sheet.{lyric_row_width};
-ghost use Rattle.lyric_walk.specs.Walks.{Tables, HeadIs, LinkIs, first_place, held_since, Wide, Clear, TakesRow, Gathered, found_at, with_place, InText, SoleIs, sung_byte};
+ghost use Rattle.lyric_walk.specs.Walks.{Tables, HeadIs, LinkIs, first_place, held_since, Wide, Clear, TakesRow, Gathered, row_of_link, found_of, found_at, InText, SoleIs, sung_byte};
+
+use lyric_words::Syllabic;
 
 // The verses that one walk finds: a window of them, which holds all that a tune has (0 to 32).
 pub const WINDOW: usize = 33;
@@ -11,36 +13,36 @@ pub const WINDOW: usize = 33;
 // Past every verse: a whole number of windows.
 pub const VERSES: usize = 264;
 
-// A syllable: its verse, its syllabic's number, whether a later note holds it, and its place in the text.
-#[derive(Clone, Copy)]
+// A syllable: its verse, where it stands in its word, whether a later note holds it, and its place in the text.
+#[derive(Clone, Copy, Debug, PartialEq, Eq)]
 pub struct Found {
     pub verse: u8,
-    pub syllabic: u8,
+    pub syllabic: Syllabic,
     pub extend: bool,
     pub at: usize,
     pub end: usize,
 }
 
 // The least and the greatest verse in a chain.
-#[derive(Clone, Copy)]
+#[derive(Clone, Copy, Debug, PartialEq, Eq)]
 pub struct Span {
     pub least: usize,
     pub most: usize,
 }
 
 // What is sung to a note, if its chain has no more than one row.
-#[derive(Clone, Copy)]
+#[derive(Clone, Copy, Debug, PartialEq, Eq)]
 pub enum Sole {
     Nothing,
     One(Found),
     Several,
 }
 
-// A row of a chain, and the place, from 1, of the row below it, 0 for none.
-#[derive(Clone, Copy)]
+// A row of a chain, which has no syllabic if it is a hold, and the place, from 1, of the row below it, 0 for none.
+#[derive(Clone, Copy, Debug, PartialEq, Eq)]
 struct Link {
     verse: u8,
-    code: u8,
+    syllabic: Option<Syllabic>,
     at: usize,
     end: usize,
     next: usize,
@@ -74,49 +76,37 @@ fn get_link(scratch: &[u8], log: usize, k: usize) -> Link
     let next = below(k, place as usize);
     Link {
         verse: scratch[from],
-        code: scratch[from + lyrics::CODE],
+        syllabic: lyrics::syllabic_in(scratch[from + lyrics::CODE]),
         at: at as usize,
         end: end as usize,
         next,
     }
 }
 
-pub fn lesser(a: usize, b: usize) -> usize
-    ensures { result ≡ min a b }
-{
-    if a < b { a } else { b }
-}
-
-pub fn greater(a: usize, b: usize) -> usize
-    ensures { result ≡ max a b }
-{
-    if a < b { b } else { a }
-}
-
 // The place, from 1, of the first row so far that sings a verse, after a row of that verse at `place`; 0 for none.
-fn first_place(found: usize, code: u8, place: usize) -> usize
-    ensures { result ≡ first_place found code place }
+fn first_place(found: usize, syllabic: Option<Syllabic>, place: usize) -> usize
+    ensures { result ≡ first_place found syllabic place }
 {
     if found != 0 {
         return found;
     }
-    if code == lyrics::HOLD {
-        return 0;
+    match syllabic {
+        Some(_) => place,
+        None => 0,
     }
-    place
 }
 
 // A hold of the verse stands before that row, after a row of that verse.
-fn is_held(found: usize, held: bool, code: u8) -> bool
-    ensures { result ≡ held_since found held code }
+fn is_held(found: usize, held: bool, syllabic: Option<Syllabic>) -> bool
+    ensures { result ≡ held_since found held syllabic }
 {
     if found != 0 {
         return held;
     }
-    if code == lyrics::HOLD {
-        return true;
+    match syllabic {
+        Some(_) => held,
+        None => true,
     }
-    held
 }
 
 // Takes the row at `place` into the window of verses from `from` on.
@@ -125,11 +115,11 @@ fn take_row(
     held: &mut [bool; 33],
     from: usize,
     verse: usize,
-    code: u8,
+    syllabic: Option<Syllabic>,
     place: usize,
 )
     requires { Wide places.old held.old }
-    ensures { TakesRow from verse code place places.old held.old places.new held.new }
+    ensures { TakesRow from verse syllabic place places.old held.old places.new held.new }
 {
     if verse < from {
         return;
@@ -140,8 +130,8 @@ fn take_row(
     }
     let found = places[i];
     let extend = held[i];
-    places[i] = first_place(found, code, place);
-    held[i] = is_held(found, extend, code);
+    places[i] = first_place(found, syllabic, place);
+    held[i] = is_held(found, extend, syllabic);
 }
 
 // Walks along the chain from row k on: for each verse of the window from `from` on the place of its row, 0 for none, and whether it is held.
@@ -162,41 +152,37 @@ pub fn gather(
     while 0 < place {
         let row = get_link(scratch, log, place);
         let verse = row.verse as usize;
-        take_row(places, held, from, verse, row.code, place);
-        least = lesser(least, verse);
-        most = greater(most, verse);
+        take_row(places, held, from, verse, row.syllabic, place);
+        least = least.min(verse);
+        most = most.max(verse);
         place = row.next;
     }
     Span { least, most }
-}
-
-// The same syllable at another place.
-fn placed(f: Found, at: usize, end: usize) -> Found
-    ensures { result ≡ with_place f at end }
-{
-    Found {
-        verse: f.verse,
-        syllabic: f.syllabic,
-        extend: f.extend,
-        at,
-        end,
-    }
 }
 
 // The same syllable, its place cut to a text of `len` bytes.
 fn in_text(len: usize, f: Found) -> Found
     ensures { InText len f result }
 {
-    if f.end <= f.at {
-        return placed(f, 0, 0);
+    let place = scan_table::cut_place(len, f.at, f.end);
+    Found {
+        at: place.at,
+        end: place.end,
+        ..f
     }
-    if len <= f.at {
-        return placed(f, 0, 0);
+}
+
+// The syllable of a row, which no hold is; held, or not.
+fn found_of(row: Link, held: bool) -> Found
+    ensures { result ≡ found_of (row_of_link row) held }
+{
+    Found {
+        verse: row.verse,
+        syllabic: row.syllabic.unwrap_or(Syllabic::Middle),
+        extend: held,
+        at: row.at,
+        end: row.end,
     }
-    if len < f.end {
-        return placed(f, f.at, len);
-    }
-    f
 }
 
 // The syllable of row `place` of the log, from 1, in the text.
@@ -205,14 +191,7 @@ pub fn syllable_at(text: &[u8], scratch: &[u8], log: usize, place: usize, held: 
     ensures { InText (length text.now) (found_at scratch.now log place held) result }
 {
     let row = get_link(scratch, log, place);
-    let found = Found {
-        verse: row.verse,
-        syllabic: row.code,
-        extend: held,
-        at: row.at,
-        end: row.end,
-    };
-    in_text(text.len(), found)
+    in_text(text.len(), found_of(row, held))
 }
 
 // What is sung to a note whose chain begins at row k, at once where it has one row or none.
@@ -227,18 +206,10 @@ pub fn sole_syllable(text: &[u8], scratch: &[u8], log: usize, k: usize) -> Sole
     if row.next != 0 {
         return Sole::Several;
     }
-    if row.code == lyrics::HOLD {
-        return Sole::Nothing;
+    match row.syllabic {
+        None => Sole::Nothing,
+        Some(_) => Sole::One(in_text(text.len(), found_of(row, false))),
     }
-    let found = Found {
-        verse: row.verse,
-        syllabic: row.code,
-        extend: false,
-        at: row.at,
-        end: row.end,
-    };
-    let f = in_text(text.len(), found);
-    Sole::One(f)
 }
 
 // A byte of a syllable as it is written: `~` is a space.

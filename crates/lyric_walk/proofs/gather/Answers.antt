@@ -1,6 +1,6 @@
 -- `lyric_walk::gather` meets its contract: row after row.
 use native.Mathlib.Omega.{arith}
-use Rattle.lyric_walk.proofs.Steps.{gathering_start, gathering_next, gathering_end}
+use Rattle.lyric_walk.proofs.Steps.{greater_is, gathering_start, gathering_next, gathering_end}
 use Rattle.lyric_walk.proofs.gather.Goals as goal
 
 pub loop-place-init : goal.loop-place-init
@@ -21,7 +21,7 @@ pub loop-place-preserved : goal.loop-place-preserved
 loop-place-preserved c =
     let a = c.args in
     let l = c.loop-place in
-    rw (c.greater-most.ensures, c.lesser-least.ensures)
+    rw (greater_is l.most c.get_link-row.result.verse _ c.max-most.ensures, c.min-least.ensures)
     (gathering_next a.scratch.now a.log a.k a.from l.places l.held l.least l.most l.place l.invariant (omega (arith, c.loop-place-test.true)) _ c.get_link-row.ensures (omega arith) _ _ c.take_row.ensures)
 
 pub returns : goal.returns

@@ -8,4 +8,4 @@ use Rattle.lyric_walk.proofs.syllable_at.Goals as goal
 pub returns : goal.returns
 returns c =
     let a = c.args in
-    subst (λ (r : Row). InText (length a.text.now) (found_of r a.held) c.in_text.result) c.get_link-row.ensures.row c.in_text.ensures
+    subst (λ (r : Row). InText (length a.text.now) (found_of r a.held) c.in_text.result) c.get_link-row.ensures.row (rw c.found_of.ensures at c.in_text.ensures)

@@ -12,4 +12,4 @@ returns-then-i-ge-WINDOW c = takes_none_lem _ _ _ _ _ _ c.requires (λ i h e. ab
 pub returns : goal.returns
 returns c =
     let a = c.args in
-    takes_one a.from a.verse a.code a.place _ a.places.now a.held.now c.requires (omega (arith, c.if-i-ge-WINDOW.false)) (omega (arith, c.if-verse-from.false)) _ _ c.first_place.ensures c.is_held.ensures
+    takes_one a.from a.verse a.syllabic a.place _ a.places.now a.held.now c.requires (omega (arith, c.if-i-ge-WINDOW.false)) (omega (arith, c.if-verse-from.false)) _ _ c.first_place.ensures c.is_held.ensures
