@@ -5,28 +5,23 @@ use mathlib.Core.Bool.{Bool, true, false, cond, ◌||◌, true≢false}
 use mathlib.Core.Option.{Option, none, some}
 use mathlib.Core.List.{List, [], ◌∷◌, ◌++◌, map, append-nil}
 use native.Mathlib.Omega.{arith}
-use native.Mathlib.Decide.{dec_lt}
-use lib.Dec.{eqb}
 use lib.ListN.{length, take, drop}
 use lib.Seq.{take-append-le, drop-append-le}
-use borrow.Author.Tests.{eqb-true, eqb-false}
+use borrow.Author.Tests.{ne_eqb}
 use Rattle.laws.specs.Lists.{all, All}
 use Rattle.laws.proofs.Bools.{by_test, and_left, and_right, not_true}
 use Rattle.laws.proofs.Lists.{All-filter}
-use Rattle.laws.proofs.Parts.{between_none}
-use Rattle.laws.specs.Bytes.{between}
 use Rattle.standard.specs.Bytes.{is, first, lower}
 use Rattle.standard.specs.Pitches.{step_of}
-use Rattle.standard.specs.Keys.{Key, plain_key, place, tonic, Mode, mode_names, mode_in, aeolian, ionian, fifths_in, flatter}
+use Rattle.standard.specs.Keys.{Key, plain_key, place, tonic, Mode, mode_names, mode_in, lydian, ionian, mixolydian, dorian, aeolian, phrygian, locrian, fifths_in, flatter}
 use Rattle.editions.specs.declared.Edition.TheVariants.{Second}
 use Rattle.reader.specs.Text.{is_space, within}
 use Rattle.reader.specs.Pieces.{field_words, trim_start}
-use Rattle.reader.specs.Keys.{is_key_word, joined, key_text, name_length, or_lone_m, mode_of, key_on, modal_key, key_of}
+use Rattle.reader.specs.Keys.{is_key_word, joined, key_text, name_length, or_lone_m, mode_of, is_minor, key_on, modal_key, key_of}
 use Rattle.text_words.specs.Words.{not_space}
 use Rattle.field_keys.proofs.KeyTexts.{IsWord, words_are, joined_first, start_stays}
 use Rattle.field_modes.specs.Modes.{key_words, mode_at, mode_from, lone_m}
-use Rattle.field_modal.specs.ModalKeys.{mark_behind, tonic_with, word_key}
-use Rattle.field_modes.proofs.Names.{minor_is}
+use Rattle.field_modal.specs.ModalKeys.{NoTonic, TonicIs, word_key}
 
 -- what stands behind a word of the key text
 abbrev spaced : List (List ℕ) → List ℕ
@@ -122,60 +117,79 @@ pub modal_none : (v : List ℕ) → key_words v ≡ [] → key_of Second v ≡ p
 unfolding key_of key_text modal_key joined name_length key_on tonic
 modal_none v e = ap (λ (x : List (List ℕ)). modal_key (joined x)) e
 
--- THE TONIC of a word that begins with c: no letter from A to G, or one with what stands behind it
-pub no_tonic : (c : ℕ) (s : List ℕ) (ws : List (List ℕ)) → within 65 71 c ≡ false → word_key (c ∷ s) ws ≡ plain_key
-unfolding word_key name_length tonic key_on
-no_tonic c s ws e = rw e
+-- THE TONIC of a word
+pub empty_tonic : (w : List ℕ) → length w ≡ 0 → NoTonic w
+unfolding name_length tonic
+empty_tonic [] h = refl
+empty_tonic (c ∷ w) h = absurd (omega (arith, h))
 
-tonic_plain : (c : ℕ) (s : List ℕ) → within 65 71 c ≡ true → mark_behind s ≡ 0 → (name_length (c ∷ s) ≡ 1) × (tonic (take (name_length (c ∷ s)) (c ∷ s)) ≡ some (127 + place (step_of c)))
-unfolding name_length tonic mark_behind
-tonic_plain c s e m =
-    by_test (is "#" (first s) || is "b" (first s))
-    (λ f. let z : first s ≡ 0 = rw f at m in absurd (true≢false (sym (rw z at f))))
-    (λ f. (rw (e, f), rw (e, f) (rw (e, tonic))))
+pub other_tonic : (w s : List ℕ) (c : ℕ) → w ≡ c ∷ s → within 65 71 c ≡ false → NoTonic w
+unfolding name_length tonic
+other_tonic w s c q e = rw q (rw e)
 
-tonic_marked : (c : ℕ) (s : List ℕ) → within 65 71 c ≡ true → (mark_behind s ≡ 0 → ⊥)
-    → (name_length (c ∷ s) ≡ 2) × (tonic (take (name_length (c ∷ s)) (c ∷ s)) ≡ some (tonic_with (127 + place (step_of c)) (mark_behind s)))
-unfolding name_length tonic mark_behind tonic_with
-tonic_marked c [] e m = absurd (m refl)
-tonic_marked c (d ∷ s) e m =
-    by_test (is "#" d) (λ f. (rw (e, f), rw (e, f) (rw (e, f, tonic))))
-    (λ f. by_test (is "b" d) (λ g. (rw (e, f, g), rw (e, f, g) (rw (e, f, g, tonic)))) (λ g. absurd (m (rw (f, g)))))
-
--- both: the name's bytes, and the tonic that it names
-tonic_is : (c : ℕ) (s : List ℕ) → within 65 71 c ≡ true
-    → (name_length (c ∷ s) ≡ cond (eqb (mark_behind s) 0) 1 2) × (tonic (take (name_length (c ∷ s)) (c ∷ s)) ≡ some (tonic_with (127 + place (step_of c)) (mark_behind s)))
-unfolding tonic_with
-tonic_is c s e =
-    by_test (eqb (mark_behind s) 0)
-    (λ z. let m : mark_behind s ≡ 0 = eqb-true (mark_behind s) 0 z in let p = tonic_plain c s e m in rw (z, m) (p.0, p.1))
-    (λ z. let p = tonic_marked c s e (eqb-false (mark_behind s) 0 z) in rw z (p.0, p.1))
-
--- A KEY WITH A NAME, as the code makes it
-pub key_named_lem : (c : ℕ) (s : List ℕ) (ws : List (List ℕ)) (m : ℕ) → within 65 71 c ≡ true → m ≡ flatter (mode_from (drop (cond (eqb (mark_behind s) 0) 1 2) (c ∷ s)) ws)
-    → ◌≡◌ {A = Key} (record { fifths = tonic_with (127 + place (step_of c)) (mark_behind s) + 1 - m; minor = eqb m 4 }) (word_key (c ∷ s) ws)
-unfolding word_key key_on fifths_in
-key_named_lem c s ws m e h =
-    let t = tonic_is c s e in
-    let x = mode_from (drop (cond (eqb (mark_behind s) 0) 1 2) (c ∷ s)) ws in
-    (λ i. record { fifths = tonic_with (127 + place (step_of c)) (mark_behind s) + 1 - h i; minor = (ap (λ (n : ℕ). eqb n 4) h ∙ sym (minor_is x)) i })
-    ∙ sym (λ i. key_on (t.1 i) (mode_from (drop (t.0 i) (c ∷ s)) ws))
-
--- a name of two bytes ends within its word
-pub name_inside : (s : List ℕ) (i e : ℕ) → i < e → i + cond (eqb (mark_behind (between s (i + 1) e)) 0) 1 2 ≤ e
-unfolding mark_behind
-name_inside s i e h = by_lt (dec_lt (i + 1) e)
-  where
-    by_lt : Dec (i + 1 < e) → i + cond (eqb (mark_behind (between s (i + 1) e)) 0) 1 2 ≤ e
-    by_lt (yes k) = by_test (eqb (mark_behind (between s (i + 1) e)) 0) (λ z. rw z (omega arith)) (λ z. rw z (omega arith))
-    by_lt (no k) = rw (between_none s (i + 1) e (omega arith)) (omega arith)
-
--- a letter's fifths, and with a mark, fit a byte
-pub place_small : (step : ℕ) → place step < 7
+place_small : (step : ℕ) → place step < 7
 unfolding place
 place_small step = omega arith
 
-pub tonic_small : (t m : ℕ) → 127 ≤ t → t ≤ 133 → (120 ≤ tonic_with t m) × (tonic_with t m ≤ 140)
-unfolding tonic_with
-tonic_small t m l h =
-    by_test (is "#" m) (λ e. rw e (omega arith, omega arith)) (λ e. rw e (by_test (is "b" m) (λ f. rw f (omega arith, omega arith)) (λ f. rw f (omega arith, omega arith))))
+-- a letter with a sharp, a flat or neither; t: its fifths in major
+module _ (c t : ℕ) (s : List ℕ) (e : within 65 71 c ≡ true) (h : t ≡ 127 + place (step_of c)) where
+  sharp_tonic : TonicIs (c ∷ 35 ∷ s) (t + 7) s
+  unfolding name_length tonic
+  sharp_tonic =
+      let p = place_small (step_of c) in
+      record { named = rw e (rw (e, tonic) (ap (λ n. some (n + 7)) (sym h))); left = rw e; low = omega (arith, h); high = omega (arith, h, p) }
+
+  flat_tonic : TonicIs (c ∷ 98 ∷ s) (t - 7) s
+  unfolding name_length tonic
+  flat_tonic =
+      let p = place_small (step_of c) in
+      record { named = rw e (rw (e, tonic) (ap (λ n. some (n - 7)) (sym h))); left = rw e; low = omega (arith, h); high = omega (arith, h, p) }
+
+  plain_tonic : (is "#" (first s) || is "b" (first s)) ≡ false → TonicIs (c ∷ s) t s
+  unfolding name_length tonic
+  plain_tonic f =
+      let p = place_small (step_of c) in
+      record { named = rw (e, f) (rw (e, tonic) (ap some (sym h))); left = rw (e, f); low = omega (arith, h); high = omega (arith, h, p) }
+
+-- the same of a word, by the byte behind its letter
+module _ (w behind : List ℕ) (c t : ℕ) (q : w ≡ c ∷ behind) (e : within 65 71 c ≡ true) (h : t ≡ 127 + place (step_of c)) where
+  pub word_sharp : first behind ≡ 35 → TonicIs w (t + 7) (drop 1 behind)
+  word_sharp m = rw q (by_first behind m)
+    where
+      by_first : (s : List ℕ) → first s ≡ 35 → TonicIs (c ∷ s) (t + 7) (drop 1 s)
+      by_first [] m = absurd (omega (arith, m))
+      by_first (d ∷ s) m = rw m (sharp_tonic c t s e h)
+
+  pub word_flat : first behind ≡ 98 → TonicIs w (t - 7) (drop 1 behind)
+  word_flat m = rw q (by_first behind m)
+    where
+      by_first : (s : List ℕ) → first s ≡ 98 → TonicIs (c ∷ s) (t - 7) (drop 1 s)
+      by_first [] m = absurd (omega (arith, m))
+      by_first (d ∷ s) m = rw m (flat_tonic c t s e h)
+
+  pub word_plain : (first behind ≡ 35 → ⊥) → (first behind ≡ 98 → ⊥) → TonicIs w t behind
+  word_plain m n = rw q (plain_tonic c t behind e h (rw (ne_eqb _ _ m, ne_eqb _ _ n)))
+
+pub letter_small : (t c : ℕ) → t ≡ 127 + place (step_of c) → t ≤ 133
+letter_small t c h = let p = place_small (step_of c) in omega (arith, h, p)
+
+-- THE KEY of a word
+pub key_unnamed : (w : List ℕ) (ws : List (List ℕ)) → NoTonic w → plain_key ≡ word_key w ws
+unfolding word_key key_on
+key_unnamed w ws e = rw e
+
+pub key_named : (w left : List ℕ) (ws : List (List ℕ)) (t : ℕ) → TonicIs w t left
+    → ◌≡◌ {A = Key} (record { fifths = t + 1 - flatter (mode_from left ws); minor = is_minor (mode_from left ws) }) (word_key w ws)
+unfolding word_key key_on fifths_in
+key_named w left ws t n = rw (n.named, n.left)
+
+-- what a mode takes from the fifths is less than what they have
+pub below_seven : (m : Mode) → flatter m < 7
+unfolding flatter
+below_seven lydian = omega arith
+below_seven ionian = omega arith
+below_seven mixolydian = omega arith
+below_seven dorian = omega arith
+below_seven aeolian = omega arith
+below_seven phrygian = omega arith
+below_seven locrian = omega arith

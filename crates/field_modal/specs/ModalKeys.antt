@@ -1,40 +1,32 @@
 -- THE SECOND EDITION'S KEY as the code finds it: by the words of the key text, in the value from left to right.
-use Rattle.std.specs.Prelude.{ℕ, ◌+◌, ◌-◌, ◌≡◌, Bool, true, false, cond, ◌&&◌, ◌||◌, List, take, drop}
-use Rattle.std.proofs.Math.Option.{Option, none, some}
-use Rattle.laws.specs.Lists.{starts_with}
-use Rattle.standard.specs.Bytes.{ascii, is, first}
+use Rattle.std.specs.Prelude.{ℕ, ◌≤◌, ◌≡◌, List, take, drop, Result, Ok, Err}
+use Rattle.std.proofs.Math.Option.{none, some}
 use Rattle.standard.specs.Keys.{Key, tonic}
 use Rattle.editions.specs.declared.Edition.{Edition}
-use Rattle.reader.specs.Keys.{is_key_word, name_length, key_on, key_of}
+use Rattle.reader.specs.Keys.{name_length, key_on, key_of}
 use Rattle.reader.specs.Fields.{key_refusal}
+use Rattle.refusals.specs.declared.Refusal.{Refusal}
+use Rattle.refusals.specs.Numbers.{number_of}
+use Rattle.field_keys.specs.declared.Key.{Key as KeyOfCode}
 use Rattle.field_keys.specs.Passed.{key_as}
 use Rattle.field_modes.specs.Modes.{mode_from}
-use Rattle.field_modal.specs.declared.KeyField.{KeyField}
-use Rattle.field_modal.specs.declared.KeyField.TheVariants as K
-use Rattle.field_modal.specs.declared.Met.{Met}
-use Rattle.field_modal.specs.declared.Met.TheVariants as M
 
 -- the key by the words of the key text, of which w is the first
 unfoldable pub word_key : List ℕ → List (List ℕ) → Key
 word_key w ws = key_on (tonic (take (name_length w) w)) (mode_from (drop (name_length w) w) ws)
 
--- a sharp or flat at the front of what stands behind the letter, 0 if there is none
-unfoldable pub mark_behind : List ℕ → ℕ
-mark_behind s = cond (is "#" (first s) || is "b" (first s)) (first s) 0
+-- no name of a tonic at the front of w
+abbrev pub NoTonic : List ℕ → Type 0
+NoTonic w = tonic (take (name_length w) w) ≡ none
 
--- a letter's fifths with a sharp or flat
-unfoldable pub tonic_with : ℕ → ℕ → ℕ
-tonic_with t mark = cond (is "#" mark) (t + 7) (cond (is "b" mark) (t - 7) t)
+-- a name at the front of w, the fifths of its tonic in major, and what is left of w behind it
+pub record TonicIs (w : List ℕ) (fifths : ℕ) (rest : List ℕ) : Type 0 where
+  pub named : tonic (take (name_length w) w) ≡ some fifths
+  pub left : drop (name_length w) w ≡ rest
+  pub low : 120 ≤ fifths
+  pub high : fifths ≤ 140
 
--- what is refused at a word
-unfoldable pub word_met : Bool → List ℕ → Option ℕ
-word_met beyond w = elim (starts_with (ascii "middle=") w) [ true ↦ some 10 | false ↦ cond (beyond && is_key_word w) (some 21) none ]
-
-abbrev pub met_as : Met → Option ℕ
-met_as M.Nothing = none
-met_as (M.Refused n) = some n
-
--- what a K field's value comes to in an edition
-abbrev pub KeyIs : Edition → List ℕ → KeyField → Type 0
-KeyIs ed v (K.Reads k) = (key_refusal ed v ≡ none) × (key_as k ≡ key_of ed v)
-KeyIs ed v (K.Refused n) = key_refusal ed v ≡ some n
+-- what a K field's value comes to in an edition: its key, or the refusal
+abbrev pub KeyIs : Edition → List ℕ → Result KeyOfCode Refusal → Type 0
+KeyIs ed v (Ok k) = (key_refusal ed v ≡ none) × (key_as k ≡ key_of ed v)
+KeyIs ed v (Err refusal) = key_refusal ed v ≡ some (number_of refusal)

@@ -1,173 +1,115 @@
 // A key field's value in the second edition (document 02, T-03): its key with its mode, and refusals 10 and 21 as met among its words.
 #![tactic(auto)]
 
-ghost use Rattle.std.specs.Prelude.{◌≡◌, cond, ◌≤◌, ◌<◌, ◌+◌, ◌^◌, eqb, length};
-ghost use Rattle.laws.specs.Bytes.{between};
-ghost use Rattle.standard.specs.Keys.{plain_key, place};
+ghost use Rattle.std.specs.Prelude.{◌≡◌, ◌+◌, true, false, MatchOption, MatchResult};
+ghost use Rattle.std.proofs.Math.Option.{none, some};
+ghost use Rattle.standard.specs.Keys.{place};
 ghost use Rattle.standard.specs.Pitches.{step_of};
 ghost use Rattle.editions.specs.declared.Edition.TheVariants.{Second};
+ghost use Rattle.reader.specs.Text.{within};
 ghost use Rattle.reader.specs.Pieces.{field_words};
 ghost use Rattle.reader.specs.Keys.{key_of, is_beyond};
 ghost use Rattle.reader.specs.Fields.{first_met};
+ghost use Rattle.refusals.specs.Numbers.{number_of};
 ghost use Rattle.field_keys.specs.Passed.{key_as};
 ghost use Rattle.field_modes.specs.Modes.{key_words};
-ghost use Rattle.field_modal.specs.ModalKeys.{word_key, mark_behind, tonic_with, word_met, met_as, KeyIs};
+ghost use Rattle.field_modal.specs.ModalKeys.{word_key, NoTonic, TonicIs, KeyIs};
 
 use field_keys::Key;
+use field_modes::Mode;
+use refusals::Refusal;
 
-// What a K field comes to: a key, or a refusal by its number.
-#[derive(Clone, Copy)]
-pub enum KeyField {
-    Reads(Key),
-    Refused(u8),
-}
-
-// What is refused at a word: nothing, or a number.
-#[derive(Clone, Copy)]
-enum Met {
-    Nothing,
-    Refused(u8),
-}
+// C major.
+const PLAIN_KEY: Key = Key {
+    fifths: 128,
+    minor: false,
+};
 
 // The fifths of a letter from A to G in major, 128 added.
-fn letter_fifths(c: u8) -> u8
-    requires { (65 ≤ c) × (c ≤ 71) }
-    ensures { result ≡ 127 + place (step_of c) }
+#[tactic(auto, unfolding(standard::specs::Keys::place, standard::specs::Pitches::step_of))]
+fn letter_fifths(letter: u8) -> Option<u8>
+    ensures { MatchOption result (within 65 71 letter ≡ false) (λ fifths. (within 65 71 letter ≡ true) × (fifths ≡ 127 + place (step_of letter))) }
 {
-    match c {
-        b'F' => 127,
-        b'C' => 128,
-        b'G' => 129,
-        b'D' => 130,
-        b'A' => 131,
-        b'E' => 132,
-        _ => 133,
+    match letter {
+        b'F' => Some(127),
+        b'C' => Some(128),
+        b'G' => Some(129),
+        b'D' => Some(130),
+        b'A' => Some(131),
+        b'E' => Some(132),
+        b'B' => Some(133),
+        _ => None,
     }
 }
 
-// A sharp or flat right behind the letter at `i` of a word that ends at `e`: its byte, 0 if there is none.
-fn mark_behind(line: &[u8], i: usize, e: usize) -> u8
-    requires { (i < e) × (e ≤ length line.now) }
-    ensures { result ≡ mark_behind (between line.now (i + 1) e) }
+// The fifths of the name at the front of the word, in major, and what stands behind the name.
+fn split_tonic(word: &[u8]) -> Option<(u8, &[u8])>
+    ensures { MatchOption result (NoTonic word.now) (λ tonic. TonicIs word.now tonic.0 tonic.1.now) }
 {
-    if e <= i + 1 {
-        return 0;
-    }
-    let c = line[i + 1];
-    if c == b'#' {
-        return c;
-    }
-    if c == b'b' { c } else { 0 }
-}
-
-// A letter's fifths with a sharp or flat, or neither.
-fn with_mark(fifths: u8, mark: u8) -> u8
-    requires { (127 ≤ fifths) × (fifths ≤ 133) }
-    ensures { result ≡ tonic_with fifths mark }
-{
-    if mark == b'#' {
-        return fifths + 7;
-    }
-    if mark == b'b' { fifths - 7 } else { fifths }
-}
-
-// Where the name that begins at `i` ends.
-fn name_end(i: usize, mark: u8) -> usize
-    requires { i + cond (eqb mark 0) 1 2 < 2 ^ 64 }
-    ensures { result ≡ i + cond (eqb mark 0) 1 2 }
-{
-    if mark == 0 { i + 1 } else { i + 2 }
-}
-
-fn plain_key() -> Key
-    ensures { key_as result ≡ plain_key }
-{
-    Key {
-        fifths: 128,
-        minor: false,
+    let (letter, behind) = word.split_first()?;
+    let fifths = letter_fifths(*letter)?;
+    match text_bytes::byte_at(behind, 0) {
+        b'#' => Some((fifths + 7, &behind[1..])),
+        b'b' => Some((fifths - 7, &behind[1..])),
+        _ => Some((fifths, behind)),
     }
 }
 
-// The key by the first word of the key text, from `i` up to `e`, and what stands before `b` behind it.
-fn word_key(line: &[u8], i: usize, e: usize, b: usize) -> Key
-    requires { (i < e) × (e ≤ b) × (b ≤ length line.now) }
-    ensures { key_as result ≡ word_key (between line.now i e) (key_words (between line.now e b)) }
+// The key by the first word of the key text and what stands behind that in the value.
+fn word_key(word: &[u8], behind: &[u8]) -> Key
+    ensures { key_as result ≡ word_key word.now (key_words behind.now) }
 {
-    let letter = line[i];
-    if !text_bytes::is_within(b'A', b'G', letter) {
-        return plain_key();
-    }
-    let mark = mark_behind(line, i, e);
-    let mode = field_modes::mode_from(line, name_end(i, mark), e, b);
-    let fifths = with_mark(letter_fifths(letter), mark);
-    Key {
-        fifths: fifths + 1 - mode,
-        minor: mode == field_modes::AEOLIAN,
+    match split_tonic(word) {
+        None => PLAIN_KEY,
+        Some((fifths, left)) => {
+            let mode = field_modes::mode_from(left, behind);
+            Key {
+                fifths: fifths + 1 - mode.flatter(),
+                minor: mode == Mode::Aeolian,
+            }
+        }
     }
 }
 
-// The key of the value from `a` up to `b`.
-fn modal_key(line: &[u8], a: usize, b: usize) -> Key
-    requires { (a ≤ b) × (b ≤ length line.now) }
-    ensures { key_as result ≡ key_of Second (between line.now a b) }
+// The key of the value.
+fn modal_key(value: &[u8]) -> Key
+    ensures { key_as result ≡ key_of Second value.now }
 {
-    let w = field_modes::key_word(line, a, b);
-    let i = w.start;
-    let e = w.end;
-    if b <= i {
-        return plain_key();
+    match field_modes::key_word(value) {
+        None => PLAIN_KEY,
+        Some((word, behind)) => word_key(word, behind),
     }
-    word_key(line, i, e, b)
 }
 
 // The key has more than seven sharps or flats.
-fn is_beyond(k: Key) -> bool
-    ensures { result ≡ is_beyond (key_as k) }
+fn is_beyond(key: Key) -> bool
+    ensures { result ≡ is_beyond (key_as key) }
 {
-    !text_bytes::is_within(121, 135, k.fifths)
+    !text_bytes::is_within(121, 135, key.fifths)
 }
 
-// What is refused at the word from `i` up to `e`: 10 at a `middle=` word; 21, where the key is beyond, at a word of the key text.
-fn word_met(line: &[u8], i: usize, e: usize, beyond: bool) -> Met
-    requires { (i ≤ e) × (e ≤ length line.now) }
-    ensures { met_as result ≡ word_met beyond (between line.now i e) }
+// The first refusal among the words of the value: 10 at a `middle=` word; 21, where the key is beyond, at a word of the key text.
+fn first_met(value: &[u8], beyond: bool) -> Result<(), Refusal>
+    ensures { MatchResult result (λ _. first_met beyond (field_words value.now) ≡ none) (λ refusal. first_met beyond (field_words value.now) ≡ some (number_of refusal)) }
 {
-    if text_names::starts_with(line, i, e, b"middle=") {
-        return Met::Refused(10);
-    }
-    if beyond {
-        if field_keys::is_key_word(line, i, e) {
-            return Met::Refused(21);
+    let mut rest = value;
+    while let Some((word, behind)) = text_words::split_word(rest) {
+        if text_names::starts_with(word, b"middle=") {
+            return Err(Refusal::Middle);
         }
+        if beyond && field_keys::is_key_word(word) {
+            return Err(Refusal::KeyBeyond);
+        }
+        rest = behind;
     }
-    Met::Nothing
+    Ok(())
 }
 
-// The first refusal among the words of the value from `a` up to `b`.
-fn first_met(line: &[u8], a: usize, b: usize, beyond: bool) -> Met
-    requires { (a ≤ b) × (b ≤ length line.now) }
-    ensures { met_as result ≡ first_met beyond (field_words (between line.now a b)) }
+// A K field's value.
+pub fn modal_field(value: &[u8]) -> Result<Key, Refusal>
+    ensures { KeyIs Second value.now result }
 {
-    let mut i = text_words::word_start(line, a, b);
-    while i < b {
-        let e = text_words::word_end(line, i, b);
-        let met = word_met(line, i, e, beyond);
-        let Met::Nothing = met else {
-            return met;
-        };
-        i = text_words::word_start(line, e, b);
-    }
-    Met::Nothing
-}
-
-// A K field's value, the bytes from `a` up to `b`.
-pub fn modal_field(line: &[u8], a: usize, b: usize) -> KeyField
-    requires { (a ≤ b) × (b ≤ length line.now) }
-    ensures { KeyIs Second (between line.now a b) result }
-{
-    let key = modal_key(line, a, b);
-    match first_met(line, a, b, is_beyond(key)) {
-        Met::Nothing => KeyField::Reads(key),
-        Met::Refused(n) => KeyField::Refused(n),
-    }
+    let key = modal_key(value);
+    first_met(value, is_beyond(key))?;
+    Ok(key)
 }

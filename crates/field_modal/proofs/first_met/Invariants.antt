@@ -1,10 +1,12 @@
--- `field_modal::first_met` meets its contract. The loop's invariant: what is met first from i on is what is met first in the value.
-use Prim.Native.Nat.{◌-◌}
-use Rattle.field_modal.proofs.Refusing.{Meeting}
+-- `field_modal::first_met` meets its contract. The loop's invariant: what is refused first among the words that are left is what is refused first.
+use mathlib.Core.Path.{◌≡◌}
+use lib.ListN.{length}
+use Rattle.reader.specs.Pieces.{field_words}
+use Rattle.reader.specs.Fields.{first_met}
 use Rattle.field_modal.proofs.first_met.Given as goal
 
-abbrev pub invariant-loop-i : goal.invariant-loop-i
-invariant-loop-i l = Meeting l.line l.a l.b l.beyond l.i
+abbrev pub invariant-loop-word : goal.invariant-loop-word
+invariant-loop-word l = first_met l.beyond (field_words l.rest) ≡ first_met l.beyond (field_words l.value)
 
-abbrev pub decreases-loop-i : goal.decreases-loop-i
-decreases-loop-i l = l.b - l.i
+abbrev pub decreases-loop-word : goal.decreases-loop-word
+decreases-loop-word l = length l.rest
