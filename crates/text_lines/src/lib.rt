@@ -141,18 +141,16 @@ fn trim_end(text: &[u8], from: usize, to: usize) -> usize
     requires { (from ≤ to) × (to ≤ length text.now) }
     ensures { TrimEnd text.now from to result }
 {
-    let mut i = to;
-    while from < i {
-        let b = text[i - 1];
+    for i in (from..to).rev() {
+        let b = text[i];
         if 127 < b {
-            return trim_bytes(text, from, i);
+            return trim_bytes(text, from, i + 1);
         }
         if !text_bytes::is_space(b) {
-            return i;
+            return i + 1;
         }
-        i -= 1;
     }
-    i
+    from
 }
 
 // The end of the line from `from` to `to` once it is cut at its first `%` and trimmed.
