@@ -3,4 +3,3 @@ pub mod Zipped
 pub mod Cuts
 pub mod Bytes
 pub mod Notes
-pub mod Copied

@@ -1,3 +1,4 @@
 pub mod Table
 pub mod Encoded
+pub mod Beams
 pub mod Read

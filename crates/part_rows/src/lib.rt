@@ -2,9 +2,10 @@
 #![tactic(auto)]
 
 ghost use Rattle.std.specs.Prelude.{◌≡◌, not, [], ◌∷◌, ◌+◌, ◌*◌, ◌^◌, ◌≤◌, ◌<◌, length, get_or};
-ghost use Rattle.laws.specs.Bytes.{part, splice};
+ghost use Rattle.laws.specs.Bytes.{splice};
 ghost use Rattle.reader.specs.Records.{note_width, signed8, signed16};
 ghost use Rattle.part_rows.specs.Encoded.{row_bytes, pitch_row, note_row_width, pitch_row_width, value_at, dots_at, beam_at};
+ghost use Rattle.part_rows.specs.Beams.{number_of};
 ghost use Rattle.part_rows.specs.Read.{start_at, rest_at, sounds_at, of_voice_at, grace_at, sung_row, pitch_count};
 
 // The bytes of a row: a note's, a pitch's (those of its record), that of a step and octave with accidentals; and of the index of those.
@@ -35,7 +36,30 @@ const GRACE: u8 = 16;
 // Where the last byte of a pitch's row stands: the higher one of its cents.
 const CENTS_SIGN: usize = 4;
 
-// A note as its row holds it: kind, value, dots, the flags of ties, slurs and graces, beam, tuplet and boundary, and how many pitches it has.
+// What a note does in its beam.
+#[derive(Clone, Copy, Debug, PartialEq, Eq)]
+pub enum Beam {
+    Unbeamed,
+    Begins,
+    Continues,
+    Ends,
+}
+
+impl From<Beam> for u8 {
+    ghost from_gives = { λ beam number. number ≡ number_of beam };
+
+    fn from(beam: Beam) -> u8 {
+        match beam {
+            Beam::Unbeamed => 0,
+            Beam::Begins => 1,
+            Beam::Continues => 2,
+            Beam::Ends => 3,
+        }
+    }
+}
+
+// A note as its row holds it, kinds and beams by their numbers, since they are read back from the row as bytes: kind, value, dots, the flags of ties, slurs and graces,
+// beam, tuplet and boundary, and how many pitches it has.
 #[derive(Clone, Copy)]
 pub struct NoteRow {
     pub kind: u8,
@@ -91,11 +115,11 @@ pub fn set_note_value(store: &mut [u8], at: usize, i: usize, value: u8, dots: u8
 }
 
 // Another beam in row i.
-pub fn set_note_beam(store: &mut [u8], at: usize, i: usize, beam: u8)
+pub fn set_note_beam(store: &mut [u8], at: usize, i: usize, beam: Beam)
     requires { at + note_row_width * i + note_row_width ≤ length store.old }
-    ensures { store.new ≡ splice store.old (at + note_row_width * i + beam_at) (beam ∷ []) }
+    ensures { store.new ≡ splice store.old (at + note_row_width * i + beam_at) (number_of beam ∷ []) }
 {
-    store::put_u8(store, at + NOTE_ROW * i + BEAM, beam);
+    store::put_u8(store, at + NOTE_ROW * i + BEAM, u8::from(beam));
 }
 
 // Kind, value and dots of row i.
@@ -171,28 +195,12 @@ pub fn note_start(store: &[u8], place: usize) -> NoteStart
     }
 }
 
-// Copies four bytes, all of them read before one is written.
-fn copy_4(store: &[u8], from: usize, to: &mut [u8], at: usize)
-    requires { (from + 4 ≤ length store.now) × (at + 4 ≤ length to.old) }
-    ensures { to.new ≡ splice to.old at (part store.now from 4) }
-{
-    store::put_4(
-        to,
-        at,
-        store[from],
-        store[from + 1],
-        store[from + 2],
-        store[from + 3],
-    );
-}
-
 // Copies the rest of the note record: beam, tuplet, boundary, and how many pitches.
 pub fn copy_note_rest(store: &[u8], place: usize, to: &mut [u8])
     requires { (place + note_row_width ≤ length store.now) × (note_width ≤ length to.old) }
     ensures { to.new ≡ splice to.old beam_at (rest_at store.now place) }
 {
-    copy_4(store, place + BEAM, to, BEAM);
-    copy_4(store, place + PITCH_COUNT, to, PITCH_COUNT);
+    store::copy(store, place + BEAM, to, BEAM, VOICE - BEAM);
 }
 
 // Whether the note is a rest, of whatever kind.
