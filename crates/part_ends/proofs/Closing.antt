@@ -1,12 +1,15 @@
 -- CLOSING: what the code reads of a head and writes into it, and the passes over all heads.
 use Prim.Native.Nat.{ℕ, zero, suc, ◌+◌, ◌-◌, ◌*◌, ◌^◌, ◌≤◌, ◌<◌}
 use mathlib.Core.Path.{◌≡◌, refl, sym, ap, subst, ◌∙◌}
-use mathlib.Core.Bool.{true, false, cond, ◌||◌}
+use mathlib.Core.Bool.{Bool, true, false, not, cond, ◌||◌}
 use mathlib.Core.Option.{Option, none, some}
+use Rattle.std.specs.Prelude as code
+use Rattle.std.specs.Prelude.{None, Some}
 use mathlib.Core.List.{List, [], ◌∷◌, ◌++◌, append_assoc}
 use native.Mathlib.Nat.{zero-add}
 use native.Mathlib.Omega.{arith}
 use lib.Dec.{eqb}
+use borrow.Author.Tests.{eq-eqb, eqb-true}
 use lib.ListN.{length, get_or, length-append}
 use Rattle.laws.specs.Lists.{All, sum}
 use Rattle.laws.specs.Bytes.{part, splice, little, le32, u32_at}
@@ -114,9 +117,9 @@ starts_by volta_begins c e = rw e
 starts_by volta_ends c e = rw e
 starts_by volta_alone c e = rw e
 
-pub starts_code : (m : Head) (c : ℕ) → c ≡ get_or (head_row m) volta_at 0 → eqb c 1 ≡ starts m
+pub starts_code : (m : Head) (b : Bool) (c : ℕ) → b ≡ eqb c 1 → c ≡ get_or (head_row m) volta_at 0 → b ≡ starts m
 unfolding starts
-starts_code m c e = starts_by m.volta c (e ∙ volta_byte m)
+starts_code m b c t e = t ∙ starts_by m.volta c (e ∙ volta_byte m)
 
 -- WHERE AN ENDING ENDS
 pub ends_right : (m : Head) (b : List Head) → ends_ending m.right ≡ true → true ≡ ends_at m b
@@ -128,17 +131,17 @@ unfolding ends_at last_there
 ends_last m [] h = sym (or_right (ends_ending m.right) true refl)
 ends_last m (x ∷ b) h = absurd (omega arith)
 
-next_by : (s : List ℕ) (at n i : ℕ) (a b : List Head) (m : Head) → Stands s at n i a m b → (i + 1 ≡ n → ⊥) → ends_ending m.right ≡ false → (c : ℕ) → c ≡ get_or s (at + measure_width * (i + 1) + volta_at) 0
-    → eqb c 1 ≡ ends_at m b
+next_by : (s : List ℕ) (at n i : ℕ) (a b : List Head) (m : Head) → Stands s at n i a m b → (i + 1 ≡ n → ⊥) → ends_ending m.right ≡ false → (c : Bool) → c ≡ eqb (get_or s (at + measure_width * (i + 1) + volta_at) 0) 1
+    → c ≡ ends_at m b
 unfolding ends_at last_there
 next_by s at n i a [] m h k e c q = absurd (k (omega (arith, h.here, h.all)))
 next_by s at n i a (x ∷ b) m h k e c q =
     let t = subst (λ (l : List Head). Table head_row measure_width s at l) (sym (append_assoc a (m ∷ []) (x ∷ b))) h.table in
     let here : length (a ++ (m ∷ [])) ≡ i + 1 = length-append a (m ∷ []) ∙ omega (arith, h.here) in
-    rw e (starts_code x c (q ∙ byte_here head_row measure_width length_head (a ++ (m ∷ [])) x b t here volta_at (omega arith)))
+    rw e (starts_code x c _ q (byte_here head_row measure_width length_head (a ++ (m ∷ [])) x b t here volta_at (omega arith)))
 
-pub ends_next : (s : List ℕ) (at n i : ℕ) (a b : List Head) (m : Head) → Stands s at n i a m b → (i + 1 ≡ n → ⊥) → ends_ending m.right ≡ false → (c : ℕ) → c ≡ get_or s (at + measure_width * (i + 1) + volta_at) 0
-    → eqb c 1 ≡ ends_at m b
+pub ends_next : (s : List ℕ) (at n i : ℕ) (a b : List Head) (m : Head) → Stands s at n i a m b → (i + 1 ≡ n → ⊥) → ends_ending m.right ≡ false → (c : Bool) → c ≡ eqb (get_or s (at + measure_width * (i + 1) + volta_at) 0) 1
+    → c ≡ ends_at m b
 ends_next s at n i a b m h k e c q = next_by s at n i a b m h k e c q
 
 -- one measure
@@ -156,7 +159,7 @@ length_close none (m ∷ b) = ap length (close_step none m b) ∙ ap suc (length
 length_close (some ps) (m ∷ b) = ap length (close_step (some ps) m b) ∙ ap suc (length_close (span_after (some ps) m b) b)
 
 -- what the step answers: the row closed, and the ending open behind it
-abbrev pub Steps : List ℕ → ℕ → List Head → Head → List Head → Option (List ℕ) → Span → Type 0
+abbrev pub Steps : List ℕ → ℕ → List Head → Head → List Head → Option (List ℕ) → code.Option Span → Type 0
 Steps t at a m b o r = Table head_row measure_width t at (a ++ (closed_head o m b ∷ b)) × SpanIs r (span_after o m b)
 
 module _ {s : List ℕ} {at n i : ℕ} {a b : List Head} {m : Head} (h : Stands s at n i a m b) where
@@ -169,47 +172,47 @@ module _ {s : List ℕ} {at n i : ℕ} {a b : List Head} {m : Head} (h : Stands 
 
   -- AN ENDING IS OPEN
   -- and goes on
-  pub open_on : (o : Option (List ℕ)) (r : Span) → r.begun ≡ true → SpanIs r o → ends_at m b ≡ false → Steps s at a m b o r
+  pub open_on : (o : Option (List ℕ)) (r : Span) → SpanIs (Some r) o → ends_at m b ≡ false → Steps s at a m b o (Some r)
   unfolding closed_head span_after
-  open_on none r p q e = absurd (both_true r.begun p q)
-  open_on (some ps) r p q e = rw (e, closed_head, span_after) (h.table, q)
+  open_on none r q e = absurd q
+  open_on (some ps) r q e = rw (e, closed_head, span_after) (h.table, q)
 
   -- and ends
-  pub open_ends : (o : Option (List ℕ)) (r r' : Span) (t : List ℕ) → r.begun ≡ true → SpanIs r o → ends_at m b ≡ true
-      → t ≡ splice s (at + measure_width * i + volta_at) ((2 ∷ r.first ∷ []) ++ le32 r.passes) → r'.begun ≡ false → Steps t at a m b o r'
+  pub open_ends : (o : Option (List ℕ)) (r : Span) (t : List ℕ) → SpanIs (Some r) o → ends_at m b ≡ true
+      → t ≡ splice s (at + measure_width * i + volta_at) ((2 ∷ r.first ∷ []) ++ le32 r.passes) → Steps t at a m b o None
   unfolding closed_head span_after
-  open_ends none r r' t p q e w z = absurd (both_true r.begun p q)
-  open_ends (some ps) r r' t p q e w z =
-      let bytes : (2 ∷ r.first ∷ []) ++ le32 r.passes ≡ (2 ∷ get_or ps 0 0 ∷ []) ++ le32 (pass_bits ps) = rw (q.1, q.2) in
-      rw (e, closed_head, span_after) (set_of t volta_at _ (with_volta volta_ends ps m) (w ∙ ap (splice s (at + measure_width * i + volta_at)) bytes) (omega (arith, length_little 4 (pass_bits ps))) (head_ends m ps), z)
+  open_ends none r t q e w = absurd q
+  open_ends (some ps) r t q e w =
+      let bytes : (2 ∷ r.first ∷ []) ++ le32 r.passes ≡ (2 ∷ get_or ps 0 0 ∷ []) ++ le32 (pass_bits ps) = rw (q.0, q.1) in
+      rw (e, closed_head, span_after) (set_of t volta_at _ (with_volta volta_ends ps m) (w ∙ ap (splice s (at + measure_width * i + volta_at)) bytes) (omega (arith, length_little 4 (pass_bits ps))) (head_ends m ps), tt)
 
   -- NONE IS OPEN
   -- and none starts
-  pub none_on : (o : Option (List ℕ)) (r : Span) → r.begun ≡ false → SpanIs r o → starts m ≡ false → Steps s at a m b o r
+  pub none_on : (o : Option (List ℕ)) → SpanIs None o → starts m ≡ false → Steps s at a m b o None
   unfolding closed_head span_after
-  none_on none r p q e = rw (e, closed_head, span_after) (h.table, p)
-  none_on (some ps) r p q e = absurd (both_true r.begun q.0 p)
+  none_on none q e = rw (e, closed_head, span_after) (h.table, tt)
+  none_on (some ps) q e = absurd q
 
   -- one starts and ends
-  pub none_alone : (o : Option (List ℕ)) (r : Span) (t : List ℕ) → r.begun ≡ false → SpanIs r o → starts m ≡ true → ends_at m b ≡ true
-      → t ≡ splice s (at + measure_width * i + volta_at) (3 ∷ []) → Steps t at a m b o r
+  pub none_alone : (o : Option (List ℕ)) (t : List ℕ) → SpanIs None o → starts m ≡ true → ends_at m b ≡ true
+      → t ≡ splice s (at + measure_width * i + volta_at) (3 ∷ []) → Steps t at a m b o None
   unfolding closed_head span_after
-  none_alone none r t p q e f w = rw (e, closed_head, span_after) (rw (f, closed_head, span_after) (set_of t volta_at (3 ∷ []) (with_volta volta_alone m.passes m) w (omega arith) (head_alone m), p))
-  none_alone (some ps) r t p q e f w = absurd (both_true r.begun q.0 p)
+  none_alone none t q e f w = rw (e, closed_head, span_after) (rw (f, closed_head, span_after) (set_of t volta_at (3 ∷ []) (with_volta volta_alone m.passes m) w (omega arith) (head_alone m), tt))
+  none_alone (some ps) t q e f w = absurd q
 
   -- one starts
-  pub none_starts : (o : Option (List ℕ)) (r r' : Span) → r.begun ≡ false → SpanIs r o → starts m ≡ true → ends_at m b ≡ false
-      → r'.begun ≡ true → r'.first ≡ get_or s (at + measure_width * i + first_pass_at) 0 → r'.passes ≡ u32_at s (at + measure_width * i + passes_at) → Steps s at a m b o r'
+  pub none_starts : (o : Option (List ℕ)) (r : Span) → SpanIs None o → starts m ≡ true → ends_at m b ≡ false
+      → r.first ≡ get_or s (at + measure_width * i + first_pass_at) 0 → r.passes ≡ u32_at s (at + measure_width * i + passes_at) → Steps s at a m b o (Some r)
   unfolding closed_head span_after
-  none_starts none r r' p q e f x y z =
+  none_starts none r q e f y z =
       rw (e, closed_head, span_after) (rw (f, closed_head, span_after) (
         h.table,
-        (x, y ∙ byte_of first_pass_at (omega arith) ∙ first_byte m, passes_again m r'.passes (z ∙ u32_here head_row measure_width length_head a m b h.table h.here passes_at (omega arith))),
+        (y ∙ byte_of first_pass_at (omega arith) ∙ first_byte m, passes_again m r.passes (z ∙ u32_here head_row measure_width length_head a m b h.table h.here passes_at (omega arith))),
       ))
-  none_starts (some ps) r r' p q e f x y z = absurd (both_true r.begun q.0 p)
+  none_starts (some ps) r q e f y z = absurd q
 
 -- ALL MEASURES: those done, and those to come with the ending that is open before them
-pub record Going (s : List ℕ) (at n i : ℕ) (r : Span) (heads : List Head) : Type 0 where
+pub record Going (s : List ℕ) (at n i : ℕ) (r : code.Option Span) (heads : List Head) : Type 0 where
   pub done : List Head
   pub rest : List Head
   pub span : Option (List ℕ)
@@ -219,10 +222,10 @@ pub record Going (s : List ℕ) (at n i : ℕ) (r : Span) (heads : List Head) : 
   pub gives : done ++ close span rest ≡ close none heads
   pub kept : SpanIs r span
 
-pub going_start : (s : List ℕ) (at n : ℕ) (r : Span) (heads : List Head) → r.begun ≡ false → Table head_row measure_width s at heads → length heads ≡ n → Going s at n 0 r heads
-going_start s at n r heads e t h = record { done = []; rest = heads; span = none; table = t; here = refl; all = zero-add (length heads) ∙ h; gives = refl; kept = e }
+pub going_start : (s : List ℕ) (at n : ℕ) (heads : List Head) → Table head_row measure_width s at heads → length heads ≡ n → Going s at n 0 None heads
+going_start s at n heads t h = record { done = []; rest = heads; span = none; table = t; here = refl; all = zero-add (length heads) ∙ h; gives = refl; kept = tt }
 
-turn_by : {s t : List ℕ} {at n i : ℕ} {r r' : Span} {heads : List Head} (g : Going s at n i r heads) (rest : List Head) → g.rest ≡ rest → i < n
+turn_by : {s t : List ℕ} {at n i : ℕ} {r r' : code.Option Span} {heads : List Head} (g : Going s at n i r heads) (rest : List Head) → g.rest ≡ rest → i < n
     → ((a b : List Head) (m : Head) (o : Option (List ℕ)) → Stands s at n i a m b → SpanIs r o → Steps t at a m b o r') → Going t at n (i + 1) r' heads
 turn_by g [] e l f = absurd (omega (arith, g.here, g.all, ap length e))
 turn_by {s} {t} {at} {n} {i} {r} {r'} {heads} g (m ∷ b) e l f =
@@ -242,11 +245,11 @@ turn_by {s} {t} {at} {n} {i} {r} {r'} {heads} g (m ∷ b) e l f =
       kept = sp;
     }
 
-pub going_turn : {s t : List ℕ} {at n i : ℕ} {r r' : Span} {heads : List Head} → Going s at n i r heads → i < n
+pub going_turn : {s t : List ℕ} {at n i : ℕ} {r r' : code.Option Span} {heads : List Head} → Going s at n i r heads → i < n
     → ((a b : List Head) (m : Head) (o : Option (List ℕ)) → Stands s at n i a m b → SpanIs r o → Steps t at a m b o r') → Going t at n (i + 1) r' heads
 going_turn g l f = turn_by g g.rest refl l f
 
-end_by : {s : List ℕ} {at n i : ℕ} {r : Span} {heads : List Head} (g : Going s at n i r heads) (rest : List Head) → g.rest ≡ rest → n ≤ i → Table head_row measure_width s at (close none heads)
+end_by : {s : List ℕ} {at n i : ℕ} {r : code.Option Span} {heads : List Head} (g : Going s at n i r heads) (rest : List Head) → g.rest ≡ rest → n ≤ i → Table head_row measure_width s at (close none heads)
 unfolding close
 end_by {s} {at} g [] e l =
     subst (λ (x : List Head). Table head_row measure_width s at x) (ap (λ (x : List Head). g.done ++ x) (e ∙ nothing g.span) ∙ ap (λ (x : List Head). g.done ++ close g.span x) (sym e) ∙ g.gives) g.table
@@ -256,7 +259,7 @@ end_by {s} {at} g [] e l =
     nothing (some ps) = refl
 end_by g (m ∷ b) e l = absurd (omega (arith, g.here, g.all, ap length e))
 
-pub going_end : {s : List ℕ} {at n i : ℕ} {r : Span} {heads : List Head} → Going s at n i r heads → n ≤ i → Table head_row measure_width s at (close none heads)
+pub going_end : {s : List ℕ} {at n i : ℕ} {r : code.Option Span} {heads : List Head} → Going s at n i r heads → n ≤ i → Table head_row measure_width s at (close none heads)
 going_end g l = end_by g g.rest refl l
 
 -- THE FIRST MEASURE'S KEY
@@ -272,6 +275,13 @@ no_mark : (o : Option Key) (c : ℕ) → c ≡ get_or (key_mark_bytes o) 0 0 →
 unfolding key_mark_bytes marked_by mode_code
 no_mark none c e h header m = refl
 no_mark (some k) c e h header m = absurd (by_test k.minor (λ q. let z = rw q at e in omega arith) (λ q. let z = rw q at e in omega arith))
+
+-- by the byte of the mark
+pub marked_byte : (b : Bool) (c : ℕ) → b ≡ not (eqb c 0) → b ≡ true → c ≡ 0 → ⊥
+marked_byte b c e t z = both_true b t (e ∙ ap not (eq-eqb c 0 z))
+
+pub unmarked_byte : (b : Bool) (c : ℕ) → b ≡ not (eqb c 0) → b ≡ false → c ≡ 0
+unmarked_byte b c e f = by_test (eqb c 0) (λ t. eqb-true c 0 t) (λ n. absurd (both_true b (e ∙ ap not n) f))
 
 module _ (header : Key) {s : List ℕ} {at n : ℕ} where
   pub marked_nothing : (heads : List Head) → Table head_row measure_width s at heads → length heads ≡ n → n ≡ 0 → Table head_row measure_width s at (marked header heads)

@@ -1,5 +1,7 @@
 -- CLOSING ENDINGS (part_layout's `close`) one measure at a time, and what the code keeps meanwhile.
 use Rattle.std.specs.Prelude.{ℕ, ◌+◌, ◌<◌, ◌^◌, ◌≡◌, true, false, List, ◌∷◌, ◌++◌, length, get_or}
+use Rattle.std.specs.Prelude as code
+use Rattle.std.specs.Prelude.{None, Some}
 use Rattle.std.proofs.Math.Option.{Option, none, some}
 use Rattle.laws.specs.Bytes.{le32}
 use Rattle.reader.specs.State.{volta_ends, volta_alone}
@@ -22,9 +24,11 @@ pub record Stands (s : List ℕ) (at n i : ℕ) (a : List Head) (m : Head) (b : 
   pub all : length a + (length b + 1) ≡ n
 
 -- the ending that is open before a measure, as the code keeps it
-abbrev pub SpanIs : Span → Option (List ℕ) → Type 0
-SpanIs r none = r.begun ≡ false
-SpanIs r (some ps) = (r.begun ≡ true) × (r.first ≡ get_or ps 0 0) × (le32 r.passes ≡ le32 (pass_bits ps))
+abbrev pub SpanIs : code.Option Span → Option (List ℕ) → Type 0
+SpanIs None none = Unit {0}
+SpanIs None (some ps) = ⊥
+SpanIs (Some r) none = ⊥
+SpanIs (Some r) (some ps) = (r.first ≡ get_or ps 0 0) × (le32 r.passes ≡ le32 (pass_bits ps))
 
 -- measure m, before ms, once it is closed
 unfoldable pub closed_head : Option (List ℕ) → Head → List Head → Head

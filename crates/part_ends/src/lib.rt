@@ -2,10 +2,10 @@
 // mark. A table is where it begins and how many rows it has.
 #![tactic(auto)]
 
-ghost use Rattle.std.specs.Prelude.{◌≡◌, true, false, List, ◌∷◌, ◌++◌, ℕ, ◌+◌, ◌*◌, ◌≤◌, ◌<◌, length};
+ghost use Rattle.std.specs.Prelude.{◌≡◌, List, ◌∷◌, ◌++◌, ℕ, ◌+◌, ◌*◌, ◌≤◌, ◌<◌, length, None, Some};
 ghost use Rattle.std.proofs.Math.Option.{Option, none};
 ghost use Rattle.laws.specs.Lists.{All};
-ghost use Rattle.standard.specs.Bars.{Barline};
+ghost use Rattle.standard.specs.Bars as standard;
 ghost use Rattle.reader.specs.Voltas.{ends_ending};
 ghost use Rattle.reader.specs.Codes.{barline_code};
 ghost use Rattle.reader.specs.Records.{measure_width};
@@ -17,11 +17,12 @@ ghost use Rattle.part_measures.specs.Heads.{head_row};
 ghost use Rattle.part_ends.specs.Spans.{Stands, SpanIs, closed_head, span_after, Small};
 
 use field_keys::Key;
+use part_measures::Volta;
+use token_symbols::Barline;
 
-// Whether an ending is open, and its first pass and its passes as bits.
+// An ending that is open: its first pass, and its passes as bits.
 #[derive(Clone, Copy)]
 pub struct Span {
-    pub begun: bool,
     pub first: u8,
     pub passes: u32,
 }
@@ -46,17 +47,19 @@ pub fn drop_empty(store: &[u8], at: usize, n: usize) -> usize
 
 // ENDINGS
 
-// Whether a right barline, by number, ends an ending.
+// Whether a right barline, by the number that is read back from its byte, ends an ending.
 fn ends_ending(code: u8) -> bool
-    ensures { (b : Barline) → code ≡ barline_code b → result ≡ ends_ending b }
+    ensures { (b : standard.Barline) → code ≡ barline_code b → result ≡ ends_ending b }
 {
-    if code == token_symbols::REPEAT_END {
+    let repeat_end = u8::from(Barline::RepeatEnd);
+    let repeat_both = u8::from(Barline::RepeatBoth);
+    if code == repeat_end {
         return true;
     }
-    if code == token_symbols::REPEAT_BOTH {
+    if code == repeat_both {
         return true;
     }
-    code == token_symbols::FINAL
+    code == u8::from(Barline::Final)
 }
 
 // Whether an ending that is open ends at row i: at its barline, or where no row or a start follows.
@@ -70,63 +73,50 @@ fn ends_at(store: &[u8], at: usize, n: usize, i: usize) -> bool
     if i + 1 == n {
         return true;
     }
-    part_measures::get_volta(store, at, i + 1) == part_measures::VOLTA_BEGINS
+    part_measures::begins_volta(store, at, i + 1)
 }
 
 // One measure with an ending open before it.
-fn close_open(store: &mut [u8], at: usize, n: usize, i: usize, span: Span) -> Span
-    requires { (at + measure_width * n ≤ length store.old) × (i < n) × (span.begun ≡ true) }
+fn close_open(store: &mut [u8], at: usize, n: usize, i: usize, span: Span) -> Option<Span>
+    requires { (at + measure_width * n ≤ length store.old) × (i < n) }
     ensures only { Only at (at + measure_width * n) store.old store.new }
-    ensures table { (a b : List Head) (m : Head) (o : Option (List ℕ)) → Stands store.old at n i a m b → SpanIs span o → Table head_row measure_width store.new at (a ++ (closed_head o m b ∷ b)) × SpanIs result (span_after o m b) }
+    ensures table { (a b : List Head) (m : Head) (o : Option (List ℕ)) → Stands store.old at n i a m b → SpanIs (Some span) o → Table head_row measure_width store.new at (a ++ (closed_head o m b ∷ b)) × SpanIs result (span_after o m b) }
 {
     if ends_at(store, at, n, i) {
-        part_measures::set_volta(
-            store,
-            at,
-            i,
-            part_measures::VOLTA_ENDS,
-            span.first,
-            span.passes,
-        );
-        return Span {
-            begun: false,
-            first: 0,
-            passes: 0,
-        };
+        part_measures::set_volta(store, at, i, Volta::Ends, span.first, span.passes);
+        return None;
     }
-    span
+    Some(span)
 }
 
 // One measure with no ending open before it.
-fn close_none(store: &mut [u8], at: usize, n: usize, i: usize, span: Span) -> Span
-    requires { (at + measure_width * n ≤ length store.old) × (i < n) × (span.begun ≡ false) }
+fn close_none(store: &mut [u8], at: usize, n: usize, i: usize) -> Option<Span>
+    requires { (at + measure_width * n ≤ length store.old) × (i < n) }
     ensures only { Only at (at + measure_width * n) store.old store.new }
-    ensures table { (a b : List Head) (m : Head) (o : Option (List ℕ)) → Stands store.old at n i a m b → SpanIs span o → Table head_row measure_width store.new at (a ++ (closed_head o m b ∷ b)) × SpanIs result (span_after o m b) }
+    ensures table { (a b : List Head) (m : Head) (o : Option (List ℕ)) → Stands store.old at n i a m b → SpanIs None o → Table head_row measure_width store.new at (a ++ (closed_head o m b ∷ b)) × SpanIs result (span_after o m b) }
 {
-    if part_measures::get_volta(store, at, i) != part_measures::VOLTA_BEGINS {
-        return span;
+    if !part_measures::begins_volta(store, at, i) {
+        return None;
     }
     if ends_at(store, at, n, i) {
-        part_measures::set_volta_code(store, at, i, part_measures::VOLTA_ALONE);
-        return span;
+        part_measures::set_volta_kind(store, at, i, Volta::Alone);
+        return None;
     }
-    Span {
-        begun: true,
+    Some(Span {
         first: part_measures::get_first_pass(store, at, i),
         passes: part_measures::get_passes(store, at, i),
-    }
+    })
 }
 
 // One measure.
-fn close_at(store: &mut [u8], at: usize, n: usize, i: usize, span: Span) -> Span
+fn close_at(store: &mut [u8], at: usize, n: usize, i: usize, span: Option<Span>) -> Option<Span>
     requires { (at + measure_width * n ≤ length store.old) × (i < n) }
     ensures only { Only at (at + measure_width * n) store.old store.new }
     ensures table { (a b : List Head) (m : Head) (o : Option (List ℕ)) → Stands store.old at n i a m b → SpanIs span o → Table head_row measure_width store.new at (a ++ (closed_head o m b ∷ b)) × SpanIs result (span_after o m b) }
 {
-    if span.begun {
-        close_open(store, at, n, i, span)
-    } else {
-        close_none(store, at, n, i, span)
+    match span {
+        None => close_none(store, at, n, i),
+        Some(span) => close_open(store, at, n, i, span),
     }
 }
 
@@ -136,15 +126,9 @@ pub fn close_abc_volta_spans(store: &mut [u8], at: usize, n: usize)
     ensures only { Only at (at + measure_width * n) store.old store.new }
     ensures table { (heads : List Head) → Table head_row measure_width store.old at heads → length heads ≡ n → Table head_row measure_width store.new at (close none heads) }
 {
-    let mut span = Span {
-        begun: false,
-        first: 0,
-        passes: 0,
-    };
-    let mut i = 0;
-    while i < n {
+    let mut span = None;
+    for i in 0..n {
         span = close_at(store, at, n, i, span);
-        i += 1;
     }
 }
 
@@ -159,7 +143,7 @@ pub fn mark_first_key(store: &mut [u8], at: usize, n: usize, header: Key)
     if n == 0 {
         return;
     }
-    if part_measures::get_mode(store, at, 0) != 0 {
+    if part_measures::has_key_mark(store, at, 0) {
         return;
     }
     part_measures::set_key_mark(store, at, 0, header);

@@ -14,4 +14,4 @@ returns-then-i-n c = λ a b m h. ends_last m b (omega (arith, h.here, h.all, c.i
 pub returns : goal.returns
 returns c =
     λ a b m h. ends_next _ _ _ _ a b m h c.if-i-n.false
-    (sym (c.ends_ending.ensures m.right (c.get_right.ensures ∙ byte_of h right_at (omega arith) ∙ right_byte m)) ∙ c.if-ends_ending.false) _ c.get_volta.ensures
+    (sym (c.ends_ending.ensures m.right (c.get_right.ensures ∙ byte_of h right_at (omega arith) ∙ right_byte m)) ∙ c.if-ends_ending.false) _ c.begins_volta.ensures
