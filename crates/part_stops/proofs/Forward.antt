@@ -201,8 +201,8 @@ module _ (s₀ : List ℕ) (t : Stops) (p₀ k₀ : ℕ) (m₀ : Marked) (s : Li
           low = v.marks.low;
         }
 
-    pub marking_next : (s' : List ℕ) (r : Marked) → Marks s s' t q r (mark_at s q.begun p) × (r.begun ≡ begun_after s q.begun p) → Marking s₀ t p₀ k₀ m₀ s' r (p + note_row_width) (left - 1)
-    marking_next s' r x =
+    one_more : (s' : List ℕ) (r : Marked) → Marks s s' t q r (mark_at s q.begun p) × (r.begun ≡ begun_after s q.begun p) → Marking s₀ t p₀ k₀ m₀ s' r (p + note_row_width) (left - 1)
+    one_more s' r x =
         let same : r.begun ≡ begun_after s₀ q.begun p = x.1 ∙ begun_front s₀ s t.at v.marks.only.front q.begun p (omega (arith, v.before)) in
         record {
           done = v.done ++ mark_at s₀ q.begun p;
@@ -210,6 +210,10 @@ module _ (s₀ : List ℕ) (t : Stops) (p₀ k₀ : ℕ) (m₀ : Marked) (s : Li
           on = ap (λ (b : Bool). v.done ++ mark_at s₀ q.begun p ++ marks_in s₀ b (p + note_row_width) (left - 1)) same ∙ step;
           before = omega (arith, v.before);
         }
+
+    pub marking_next : (s' : List ℕ) (r : Marked) (p' left' : ℕ) → p' ≡ p + note_row_width → left' ≡ left - 1 → Marks s s' t q r (mark_at s q.begun p) × (r.begun ≡ begun_after s q.begun p) → Marking s₀ t p₀ k₀ m₀ s' r p' left'
+    marking_next s' r p' left' ep el x =
+        subst (λ (i : ℕ). Marking s₀ t p₀ k₀ m₀ s' r i left') (sym ep) (subst (Marking s₀ t p₀ k₀ m₀ s' r (p + note_row_width)) (sym el) (one_more s' r x))
 
   pub marking_end : left ≡ 0 → Marks s₀ s t m₀ q (marks_in s₀ m₀.begun p₀ k₀)
   marking_end e =
@@ -281,8 +285,8 @@ module _ (s₀ : List ℕ) (h₀ n p₀ : ℕ) (t : Stops) (ready : Ready s₀ h
           low = v.low;
         }
 
-    pub all_next : (s' : List ℕ) (r : Marked) → Marks s s' t begins r (marks_in s false p k) → AllMarking s₀ t h₀ n p₀ s' r.count r.last (h + measure_width) (p + note_row_width * k) (left - 1)
-    all_next s' r x =
+    all_more : (s' : List ℕ) (r : Marked) → Marks s s' t begins r (marks_in s false p k) → AllMarking s₀ t h₀ n p₀ s' r.count r.last (h + measure_width) (p + note_row_width * k) (left - 1)
+    all_more s' r x =
         record {
           done = v.done ++ marks_in s₀ false p k;
           kinds = x.kinds ∙ (λ i. v.kinds i ++ same_marks i);
@@ -293,6 +297,11 @@ module _ (s₀ : List ℕ) (h₀ n p₀ : ℕ) (t : Stops) (ready : Ready s₀ h
           measures_before = omega (arith, v.measures_before);
           notes_before = omega (arith, v.notes_before, total_step s₀ h left more, same_count);
         }
+
+    pub all_next : (s' : List ℕ) (r : Marked) (h' left' : ℕ) → h' ≡ h + measure_width → left' ≡ left - 1 → Marks s s' t begins r (marks_in s false p k) → AllMarking s₀ t h₀ n p₀ s' r.count r.last h' (p + note_row_width * k) left'
+    all_next s' r h' left' eh el x =
+        subst (λ (i : ℕ). AllMarking s₀ t h₀ n p₀ s' r.count r.last i (p + note_row_width * k) left') (sym eh)
+        (subst (AllMarking s₀ t h₀ n p₀ s' r.count r.last (h + measure_width) (p + note_row_width * k)) (sym el) (all_more s' r x))
 
   pub all_end : left ≡ 0 → AllMarked s₀ s t (marks_of s₀ h₀ p₀ n)
   all_end e =

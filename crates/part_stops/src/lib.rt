@@ -15,7 +15,8 @@ use part_rows::NOTE_ROW;
 
 // FORWARD
 
-// How many stops are written, the last note that takes a syllable by its place from 1 (0 for none), and whether a note of the measure does.
+// How many stops are written; the place of the last note that takes a syllable, from 1, or 0, from where the first one counts its distance, so no option; and whether
+// a note of the measure does.
 #[derive(Clone, Copy)]
 pub struct Marked {
     pub count: usize,
@@ -70,12 +71,8 @@ fn mark_rows(scratch: &mut [u8], stops: Stops, place: usize, k: usize, m: Marked
     ensures { Marks scratch.old scratch.new stops m result (marks_in scratch.old m.begun place k) }
 {
     let mut q = m;
-    let mut p = place;
-    let mut left = k;
-    while 0 < left {
-        q = mark_row(scratch, stops, p, q);
-        p += NOTE_ROW;
-        left -= 1;
+    for i in 0..k {
+        q = mark_row(scratch, stops, place + NOTE_ROW * i, q);
     }
     q
 }
@@ -87,11 +84,9 @@ fn mark_measures(scratch: &mut [u8], stops: Stops, measures: usize, n: usize, no
 {
     let mut count: usize = 0;
     let mut last: usize = 0;
-    let mut h = measures;
     let mut p = notes;
-    let mut left = n;
-    while 0 < left {
-        let k = part_measures::note_count(scratch, h);
+    for i in 0..n {
+        let k = part_measures::note_count(scratch, measures + MEASURE * i);
         let m = Marked {
             count,
             last,
@@ -100,9 +95,7 @@ fn mark_measures(scratch: &mut [u8], stops: Stops, measures: usize, n: usize, no
         let r = mark_rows(scratch, stops, p, k, m);
         count = r.count;
         last = r.last;
-        h += MEASURE;
         p += NOTE_ROW * k;
-        left -= 1;
     }
 }
 
@@ -144,9 +137,7 @@ fn aim_stops(scratch: &mut [u8], stops: Stops)
         taker: stops.count,
         first: stops.count,
     };
-    let mut j = stops.count;
-    while 0 < j {
-        j -= 1;
+    for j in (0..stops.count).rev() {
         a = aim_stop(scratch, stops, j, a);
     }
 }

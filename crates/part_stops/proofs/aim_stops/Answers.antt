@@ -6,19 +6,12 @@ use Rattle.part_stops.proofs.aim_stops.Goals as goal
 pub loop-j-init : goal.loop-j-init
 loop-j-init c = aiming_start c.args.scratch.now c.args.stops
 
-pub overflow_sub-j : goal.overflow_sub-j
-overflow_sub-j c = omega (arith, c.loop-j-test.true)
-
 pub aim_stop-a-requires : goal.aim_stop-a-requires
 aim_stop-a-requires c =
     let a = c.args in
     let l = c.loop-j in
-    let more = c.loop-j-test.true in
-    let on = aiming_on a.scratch.now a.stops l.scratch l.a l.j l.invariant more in
-    (omega (arith, c.requires, l.invariant.only.same_length), omega (arith, more, l.invariant.low), on.0, on.1)
-
-pub loop-j-smaller : goal.loop-j-smaller
-loop-j-smaller c = omega (arith, c.loop-j-test.true)
+    let on = aiming_on a.scratch.now a.stops l.scratch l.a l.j l.invariant (omega arith) in
+    (omega (arith, c.requires, l.invariant.only.same_length), omega (arith, l.invariant.low), on.0, on.1)
 
 pub loop-j-preserved : goal.loop-j-preserved
 loop-j-preserved c =
@@ -33,5 +26,4 @@ pub returns : goal.returns
 returns c =
     let a = c.args in
     let l = c.loop-j in
-    let over = c.loop-j-test.false in
-    aiming_end a.scratch.now a.stops l.scratch l.a l.j l.invariant (omega (arith, over))
+    aiming_end a.scratch.now a.stops l.scratch l.a l.j l.invariant (omega arith)

@@ -4,6 +4,3 @@ use Rattle.part_stops.proofs.aim_stops.Given as goal
 
 abbrev pub invariant-loop-j : goal.invariant-loop-j
 invariant-loop-j l = Aiming l.initial.scratch l.stops l.scratch l.a l.j
-
-abbrev pub decreases-loop-j : goal.decreases-loop-j
-decreases-loop-j l = l.j
