@@ -12,7 +12,7 @@ use Rattle.laws.specs.Bytes.{between, splice}
 use Rattle.laws.proofs.Parts.{drop_between}
 use Rattle.reader.specs.Lines.{Kind, refused}
 use Rattle.reader.specs.Steps.{on, first}
-use Rattle.reader.specs.Scan.{Item, Items, ScanState, act}
+use Rattle.reader.specs.Scan.{Item, Items, ScanState, Out, act}
 use Rattle.refusals.specs.declared.Refusal.{Refusal}
 use Rattle.refusals.specs.declared.Refused.{Refused}
 use Rattle.refusals.specs.Numbers.{number_of}
@@ -49,6 +49,10 @@ words text from end = sym (drop_between text from end 2)
 -- which item that is
 pub one_item : (a : Items) (t : ScanState) (x y : ℕ × Item) → x ≡ y → on t (a ++ (x ∷ [])) ≡ first a (on t (y ∷ []))
 one_item a t x y e = ap (λ (z : ℕ × Item). on t (a ++ (z ∷ []))) e
+
+-- by its row
+pub item_added : (text : List ℕ) (a : Items) (o : Out) (t : ScanState) (row q : Row) (y : ℕ × Item) → o ≡ on t (a ++ (item_in text row ∷ [])) → row ≡ q → item_in text q ≡ y → o ≡ on t (a ++ (y ∷ []))
+item_added text a o t row q y e f g = e ∙ (λ i. on t (a ++ (item_in text (f i) ∷ []))) ∙ (λ i. on t (a ++ (g i ∷ [])))
 
 -- ONE LINE by its kind
 pub by_kind : {text s s' : List ℕ} {st : State} {r : Result State Refused} (k k' : Kind) (h : Bool) → k ≡ k' → Stepped text s st (act (state_in text s st) k' h) s' r → Stepped text s st (act (state_in text s st) k h) s' r

@@ -1,18 +1,18 @@
 -- What a V line comes to, from what its steps write.
-use Prim.Native.Nat.{ℕ, suc, ◌+◌, ◌*◌, ◌^◌, ◌≤◌, ◌<◌}
-use mathlib.Core.Path.{◌≡◌, refl, sym, ap, ◌∙◌}
+use Prim.Native.Nat.{ℕ, ◌+◌, ◌-◌, ◌*◌, ◌^◌, ◌≤◌, ◌<◌}
+use mathlib.Core.Path.{◌≡◌, refl, sym, ap, subst, ◌∙◌}
 use mathlib.Core.Bool.{Bool, true, false}
 use mathlib.Core.List.{List, [], ◌∷◌, ◌++◌, append_assoc}
 use native.Mathlib.Omega.{arith}
 use lib.Dec.{leb}
-use lib.ListN.{length}
+use lib.ListN.{length, take, drop}
 use borrow.Author.Tests.{le-leb, lt-leb}
-use Rattle.std.specs.Prelude.{Ok, Err, Some, None}
+use Rattle.std.specs.Prelude.{Option, Ok, Err, Some, None}
 use Rattle.laws.specs.Lists.{elem, index_of}
 use Rattle.laws.specs.Bytes.{between, splice, le32}
 use Rattle.laws.proofs.Bools.{by_test}
 use Rattle.laws.proofs.Lists.{index_lt, index_none}
-use Rattle.laws.proofs.Parts.{between_none}
+use Rattle.laws.proofs.Parts.{part_cut, between_none}
 use Rattle.laws.proofs.Splices.{length_splice}
 use Rattle.reader.specs.Lines.{voice}
 use Rattle.reader.specs.Steps.{on, first}
@@ -32,15 +32,12 @@ some_voices o [] h = absurd (omega arith)
 some_voices o (v ∷ vs) h = refl
 
 module _ (text s : List ℕ) (st : State) where
-  pub unnamed_none : st.voices ≡ 0 → st.opened ≡ false → Unnamed text s st s 0
+  -- no voice, and no music yet
+  pub unnamed_none : st.voices ≡ 0 → st.opened ≡ false → Unnamed text s st s st.voices
   unfolding with_unnamed
   unnamed_none e o =
-      record {
-        voices = voices_none text s ∙ sym (ap (λ (n : ℕ). with_unnamed st.opened (voices_in text s n)) e ∙ (λ i. with_unnamed (o i) (voices_none text s i)));
-        items = refl;
-        low = omega arith;
-        high = omega arith;
-      }
+      let none : voices_in text s st.voices ≡ [] = ap (voices_in text s) e ∙ voices_none text s in
+      record { voices = none ∙ sym (λ i. with_unnamed (o i) (none i)); items = refl; low = omega arith; high = omega arith }
 
   pub unnamed_some : st.voices ≤ 32 → (st.voices ≡ 0 → ⊥) → Unnamed text s st s st.voices
   unnamed_some h e =
@@ -77,6 +74,10 @@ new_voice text s s₂ s₃ n m a b row h e₂ e₃ nh ah bh rh re ru ri room t x
     (λ i. on (state_with (vs i) t) (is i ++ (ex i ∷ []))) ∙ ap (λ (z : Items). on (state_with (voices_in text s n ++ (between text a b ∷ [])) t) z) (append_assoc (items_in text s m) ((n, voice_declared h) ∷ []) ((n, reset) ∷ []))
 
 -- WHICH CASE OF A V LINE it is
+-- the identifier as it was lent
+pub lent_found : (text : List ℕ) (a b : ℕ) (vs : List (List ℕ)) (r q : Option ℕ) → r ≡ q → FoundVoice (take (b - a) (drop a text)) vs r → FoundVoice (between text a b) vs q
+lent_found text a b vs r q e f = subst (FoundVoice (between text a b) vs) e (subst (λ (v : List ℕ). FoundVoice v vs r) (part_cut text a (b - a)) f)
+
 has_below : (v : List ℕ) (vs : List (List ℕ)) → index_of v vs < length vs → elem v vs ≡ true
 has_below v vs h = by_test (elem v vs) (λ e. e) (λ e. absurd (no (index_none v vs e)))
   where
