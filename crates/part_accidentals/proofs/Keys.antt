@@ -1,11 +1,11 @@
 -- What a key does to a step, as the code asks.
 use Prim.Native.Nat.{ℕ, ◌+◌, ◌-◌, ◌*◌, ◌%◌, ◌≤◌, ◌<◌}
-use mathlib.Core.Path.{◌≡◌, ◌∙◌}
-use mathlib.Core.Bool.{cond}
+use mathlib.Core.Path.{◌≡◌, ap, ◌∙◌}
+use Rattle.std.specs.Int.{from_bool}
 use native.Mathlib.Omega.{arith}
 use lib.Dec.{ltb, leb}
 use borrow.Author.Tests.{lt-ltb, le-ltb, le-leb, lt-leb, ltb-true, ltb-false, leb-true, leb-false}
-use Rattle.laws.proofs.Bools.{by_test, cond_true, cond_false}
+use Rattle.laws.proofs.Bools.{by_test}
 use Rattle.standard.specs.Keys.{Key, place, key_alter}
 
 module _ (k : Key) (fifths step : ℕ) (e : k.fifths ≡ fifths) where
@@ -28,21 +28,21 @@ module _ (k : Key) (fifths step : ℕ) (e : k.fifths ≡ fifths) where
       rw (le-ltb _ _ a, lt-leb _ _ b, key_alter)
 
   -- all three at once, by the two tests
-  pub key_by_lem : (sharp flat : ℕ) → sharp ≡ cond (ltb ((2 * step + 1) % 7 + 128) fifths) 1 0 → flat ≡ cond (leb fifths ((2 * step + 1) % 7 + 121)) 1 0 → 128 + sharp - flat ≡ key_alter k step
+  pub key_by_lem : (sharp flat : ℕ) → sharp ≡ from_bool (ltb ((2 * step + 1) % 7 + 128) fifths) → flat ≡ from_bool (leb fifths ((2 * step + 1) % 7 + 121)) → 128 + sharp - flat ≡ key_alter k step
   key_by_lem sharp flat s f =
       let p = (2 * step + 1) % 7 in
       by_test (ltb (p + 128) fifths)
       (λ t. let h = ltb-true (p + 128) fifths t in
-      let a : sharp ≡ 1 = s ∙ cond_true (ltb (p + 128) fifths) 1 0 t in
-      let b : flat ≡ 0 = f ∙ cond_false (leb fifths (p + 121)) 1 0 (lt-leb fifths (p + 121) (omega (arith, h))) in
+      let a : sharp ≡ 1 = s ∙ ap from_bool t in
+      let b : flat ≡ 0 = f ∙ ap from_bool (lt-leb fifths (p + 121) (omega (arith, h))) in
       let n : 128 + sharp - flat ≡ 129 = omega (arith, a, b) in
       n ∙ key_sharp h)
       (λ t. let h = ltb-false (p + 128) fifths t in
-      let a : sharp ≡ 0 = s ∙ cond_false (ltb (p + 128) fifths) 1 0 t in
+      let a : sharp ≡ 0 = s ∙ ap from_bool t in
       by_test (leb fifths (p + 121))
-      (λ u. let b : flat ≡ 1 = f ∙ cond_true (leb fifths (p + 121)) 1 0 u in
+      (λ u. let b : flat ≡ 1 = f ∙ ap from_bool u in
       let n : 128 + sharp - flat ≡ 127 = omega (arith, a, b) in
       n ∙ key_flat h (leb-true fifths (p + 121) u))
-      (λ u. let b : flat ≡ 0 = f ∙ cond_false (leb fifths (p + 121)) 1 0 u in
+      (λ u. let b : flat ≡ 0 = f ∙ ap from_bool u in
       let n : 128 + sharp - flat ≡ 128 = omega (arith, a, b) in
       n ∙ key_plain h (leb-false fifths (p + 121) u)))

@@ -11,7 +11,7 @@ ghost use Rattle.part_scopes.specs.Scopes.{entry_at, row_at, slot_at, place_in, 
 ghost use Rattle.part_accidentals.specs.Resolving.{ResolvedAs, signs, entered, store_with, row_with};
 
 use part_rows::Sounded;
-use token_pitches::{Pitch, Sign};
+use token_pitches::{Accidental, Pitch};
 
 // The bytes of an entry of the index, and the entries of a step.
 const ENTRY: usize = 4;
@@ -30,7 +30,8 @@ const ALTER: usize = 1;
 
 const CENTS: usize = 2;
 
-// What is kept of a voice: its key, fifths with 128 added, and for each overlay voice the place of the row in scratch with its last accidental, counted from 1; 0 for none.
+// What is kept of a voice: its key, fifths with 128 added, and for each overlay voice the place of the row in scratch with its last accidental, counted from 1; 0 for
+// none, as an entry of the index has it, so that four places take four words.
 #[derive(Clone, Copy)]
 pub struct AbcPartParseState {
     pub fifths: u8,
@@ -59,8 +60,8 @@ pub fn abc_key_alter(fifths: u8, step: u8) -> u8
     ensures { (k : Key) → k.fifths ≡ fifths → result ≡ key_alter k step }
 {
     let place = (2 * step + 1) % 7;
-    let sharp = store::one_if(place + 128 < fifths);
-    let flat = store::one_if(fifths <= place + 121);
+    let sharp = u8::from(place + 128 < fifths);
+    let flat = u8::from(fifths <= place + 121);
     128 + sharp - flat
 }
 
@@ -91,7 +92,7 @@ fn slot_at(at: usize, place: u32, voice: usize) -> usize
     row_at(at, place) + SLOTS + SLOT * voice
 }
 
-// The place of the row of a step and octave; 0 if there is none. What the index has is believed only if the row that it names bears it out.
+// The place of the row of a step and octave; 0 if there is none, as in the index. What the index has is believed only if the row that it names bears it out.
 fn find_row(store: &[u8], at: usize, count: u32, step: u8, octave: u8) -> u32
     requires { (step < 7) × (at + scope_index_width + scope_row_width * count ≤ length store.now) }
     ensures { result ≡ place_in store.now at count step octave }
@@ -151,14 +152,14 @@ fn row_for(store: &mut [u8], at: usize, count: u32, step: u8, octave: u8) -> Row
 }
 
 // Another accidental for a voice in the row of a place.
-fn revise(store: &mut [u8], at: usize, place: u32, voice: usize, alter: u8, cents: u8)
+fn revise(store: &mut [u8], at: usize, place: u32, voice: usize, accidental: Accidental)
     requires { (0 < place) × (voice < 4) × (at + scope_index_width + scope_row_width * place ≤ length store.old) }
-    ensures { store.new ≡ splice store.old (slot_at at place voice) (scope_slot alter cents) }
+    ensures { store.new ≡ splice store.old (slot_at at place voice) (scope_slot accidental.alter accidental.cents) }
 {
     let slot = slot_at(at, place, voice);
     store::put_u8(store, slot, 1);
-    store::put_u8(store, slot + ALTER, alter);
-    store::put_u8(store, slot + CENTS, cents);
+    store::put_u8(store, slot + ALTER, accidental.alter);
+    store::put_u8(store, slot + CENTS, accidental.cents);
 }
 
 // Whether the row of a place has an accidental for a voice.
@@ -252,23 +253,22 @@ pub fn resolve_abc_pitch(
     requires { (voice < 4) × (pitch.step < 7) × (at + scope_index_width + scope_row_width * (count + signs pitch.sign) ≤ length store.old) × (count + signs pitch.sign < 2 ^ 32) }
     ensures { ResolvedAs store.old at count state voice pitch store.new result }
 {
-    let sign = pitch.sign;
-    match sign {
-        Sign::Written { alter, cents } => {
+    match pitch.sign {
+        Some(accidental) => {
             let row = row_for(store, at, count, pitch.step, pitch.octave);
-            revise(store, at, row.place, voice, alter, cents);
+            revise(store, at, row.place, voice, accidental);
             Resolved {
                 sounded: Sounded {
                     step: pitch.step,
                     octave: pitch.octave,
-                    alter,
-                    cents,
+                    alter: accidental.alter,
+                    cents: accidental.cents,
                 },
                 state: enter(state, voice, row.place),
                 count: row.count,
             }
         }
-        Sign::Nothing => Resolved {
+        None => Resolved {
             sounded: unmarked(
                 store,
                 at,

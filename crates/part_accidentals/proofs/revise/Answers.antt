@@ -10,4 +10,4 @@ pub returns : goal.returns
 returns c =
     let a = c.args in
     let two = spliced_next _ _ _ _ _ _ _ c.put_u8.ensures c.put_u8-2.ensures refl in
-    spliced_next _ _ _ _ _ _ _ two c.put_u8-3.ensures refl ∙ ap (λ (k : ℕ). splice a.store.now k (scope_slot a.alter a.cents)) c.slot_at-slot.ensures
+    spliced_next _ _ _ _ _ _ _ two c.put_u8-3.ensures refl ∙ ap (λ (k : ℕ). splice a.store.now k (scope_slot a.accidental.alter a.accidental.cents)) c.slot_at-slot.ensures
