@@ -36,17 +36,17 @@ module _ (s : List ℕ) (at place run kind value : ℕ) where
     before_later y o s' d = rw (ne_eqb run 0 n, ← e, y, ne_eqb run 1 o) d
 
 -- A NOTE APPENDED
-module _ {t : Tables} {s : List ℕ} {r : Registers} {n : NoteRow} (room : Room t r.counts (length s) 0 1 0 0) (a : Appendable t s r n) (g m : NoteRow) (dg : g ≡ grouped_row r.group.running n)
-    (dm : m ≡ halved_row r.waiting.half (beamed_row r.line.run g)) (s₁ s₂ : List ℕ)
-    (b₁ : s₁ ≡ before_store s t.notes (get_or r.last.places r.line.overlay 0) r.line.run g.kind g.value)
+module _ {t : Tables} {s : List ℕ} {r : Registers} {n : NoteRow} (room : Room t r.counts (length s) 0 1 0 0) (a : Appendable t s r n) (g m : NoteRow) (dg : g ≡ grouped_row r.tuplet n)
+    (dm : m ≡ halved_row r.half (beamed_row r.line.run g)) (s₁ s₂ : List ℕ)
+    (b₁ : s₁ ≡ before_store s t.notes (get_or r.last r.line.overlay 0) r.line.run g.kind g.value)
     (b₂ : s₂ ≡ splice s₁ (t.notes + note_row_width * r.counts.notes) (row_bytes m r.line.overlay)) where
-  e₁ : s₁ ≡ before_store s t.notes (get_or r.last.places r.line.overlay 0) r.line.run (grouped_row r.group.running n).kind (grouped_row r.group.running n).value
-  e₁ = b₁ ∙ (λ i. before_store s t.notes (get_or r.last.places r.line.overlay 0) r.line.run (dg i).kind (dg i).value)
+  e₁ : s₁ ≡ before_store s t.notes (get_or r.last r.line.overlay 0) r.line.run (grouped_row r.tuplet n).kind (grouped_row r.tuplet n).value
+  e₁ = b₁ ∙ (λ i. before_store s t.notes (get_or r.last r.line.overlay 0) r.line.run (dg i).kind (dg i).value)
 
-  e₂ : s₂ ≡ splice s₁ (t.notes + note_row_width * r.counts.notes) (row_bytes (halved_row r.waiting.half (beamed_row r.line.run (grouped_row r.group.running n))) r.line.overlay)
+  e₂ : s₂ ≡ splice s₁ (t.notes + note_row_width * r.counts.notes) (row_bytes (halved_row r.half (beamed_row r.line.run (grouped_row r.tuplet n))) r.line.overlay)
   e₂ =
       b₂
-      ∙ ap (λ (q : NoteRow). splice s₁ (t.notes + note_row_width * r.counts.notes) (row_bytes q r.line.overlay)) (dm ∙ ap (λ (q : NoteRow). halved_row r.waiting.half (beamed_row r.line.run q)) dg)
+      ∙ ap (λ (q : NoteRow). splice s₁ (t.notes + note_row_width * r.counts.notes) (row_bytes q r.line.overlay)) (dm ∙ ap (λ (q : NoteRow). halved_row r.half (beamed_row r.line.run q)) dg)
 
   pub counts_on : u32_at s₂ (t.heads + measure_width * (r.counts.heads - 1) + 4 * r.line.overlay) + 1 < 2 ^ 32
   counts_on = append_small room s₁ s₂ e₁ e₂ a

@@ -3,12 +3,12 @@
 
 ghost use Rattle.std.specs.Prelude.{◌≡◌, ◌+◌, ◌*◌, ◌^◌, ◌≤◌, ◌<◌, length};
 ghost use Rattle.part_invariant.specs.Invariant.{Room, Appendable, Appends};
-ghost use Rattle.part_invariant.specs.Appended.{before_store, placed, sounded_on, appended};
+ghost use Rattle.part_invariant.specs.Appended.{before_store, sounded_on, appended};
 ghost use Rattle.part_registers.specs.Notes.{halved_row, beamed_row};
 ghost use Rattle.part_rows.specs.Encoded.{note_row_width};
 
-use part_registers::{Counts, Group, Half, Last, Registers, Tables, Verses, Waiting};
-use part_rows::NoteRow;
+use part_registers::{Counts, Half, Registers, Tables, Verses};
+use part_rows::{Beam, NoteRow};
 
 // A note of this kind and value, where a run goes on: the note at the place before it begins or continues the beam.
 pub fn beam_before(store: &mut [u8], at: usize, place: u32, run: u8, kind: u8, value: u8)
@@ -21,43 +21,30 @@ pub fn beam_before(store: &mut [u8], at: usize, place: u32, run: u8, kind: u8, v
     if part_registers::abc_note_is_beamable(kind, value) {
         let i = (place - 1) as usize;
         if run == 1 {
-            part_rows::set_note_beam(store, at, i, 1);
+            part_rows::set_note_beam(store, at, i, Beam::Begins);
             return;
         }
-        part_rows::set_note_beam(store, at, i, 2);
+        part_rows::set_note_beam(store, at, i, Beam::Continues);
     }
 }
 
 // The note as it is written: in its beam, and after the half that waited for it.
-fn as_written(run: u8, waiting: Waiting, n: NoteRow) -> NoteRow
-    ensures { result ≡ halved_row waiting.half (beamed_row run n) }
+fn as_written(run: u8, half: Option<Half>, n: NoteRow) -> NoteRow
+    ensures { result ≡ halved_row half (beamed_row run n) }
 {
-    let half = waiting.half;
     part_registers::after_half(part_registers::beamed_new(run, n), half)
 }
 
-fn place(last: Last, voice: usize, at: u32) -> Last
-    requires { voice < 4 }
-    ensures { result ≡ placed last voice at }
-{
-    let before = last.places;
-    let places = part_accidentals::with_place(before, voice, at);
-    Last { places }
-}
-
 // A note of voice 0 that is no rest is counted for the lyrics.
+#[tactic(auto, unfolding(part_invariant::specs::Appended::sounded_on))]
 fn count_sounded(verses: Verses, overlay: u8, kind: u8) -> Verses
     requires { verses.sounded + 1 < 2 ^ 32 }
     ensures { result ≡ sounded_on verses overlay kind }
 {
-    if overlay != 0 {
-        return verses;
-    }
-    if kind != 0 {
-        return verses;
-    }
     let mut v = verses;
-    v.sounded = verses.sounded + 1;
+    if overlay == 0 && kind == 0 {
+        v.sounded = verses.sounded + 1;
+    }
     v
 }
 
@@ -67,8 +54,6 @@ fn after_note(r: Registers, kind: u8, value: u8) -> Registers
     ensures { result ≡ appended r kind value }
 {
     let line = r.line;
-    let group = r.group;
-    let running = group.running;
     let notes = r.counts.notes + 1;
     let voice = line.overlay as usize;
     let mut x = r;
@@ -80,19 +65,13 @@ fn after_note(r: Registers, kind: u8, value: u8) -> Registers
         scopes: c.scopes,
     };
     x.counts = counts;
-    x.last = place(r.last, voice, notes);
+    x.last = part_accidentals::with_place(r.last, voice, notes);
     x.line = part_registers::with_run(
         line,
         part_registers::update_abc_beam_run(line.run, kind, value),
     );
-    let waiting = Waiting {
-        half: Half::Nothing,
-    };
-    x.waiting = waiting;
-    let group = Group {
-        running: part_registers::one_fewer(running),
-    };
-    x.group = group;
+    x.tuplet = part_registers::one_fewer(r.tuplet);
+    x.half = None;
     x.verses = count_sounded(r.verses, line.overlay, kind);
     x
 }
@@ -103,14 +82,11 @@ pub fn append(store: &mut [u8], t: Tables, r: Registers, n: NoteRow) -> Register
     ensures { Appends t store.old r store.new result n }
 {
     let line = r.line;
-    let last = r.last;
-    let places = last.places;
+    let places = r.last;
     let voice = line.overlay as usize;
-    let group = r.group;
-    let running = group.running;
-    let g = part_registers::apply_abc_tuplet(n, running);
+    let g = part_registers::apply_abc_tuplet(n, r.tuplet);
     beam_before(store, t.notes, places[voice], line.run, g.kind, g.value);
-    let m = as_written(line.run, r.waiting, g);
+    let m = as_written(line.run, r.half, g);
     let notes = r.counts.notes as usize;
     part_rows::put_note(store, t.notes, notes, m, line.overlay);
     let heads = r.counts.heads as usize;

@@ -132,7 +132,7 @@ sounded_le false n = omega arith
 -- APPENDED
 module _ {t : Tables} {s : List ℕ} {r : Registers} (room : Room t r.counts (length s) 0 1 0 0) (l : LogState) (n : Note) (st : Standing l) (h : Represents t s r n.pitches l) where
   -- where the voice's last note stands
-  pub place_is : get_or r.last.places r.line.overlay 0 ≡ last_place l
+  pub place_is : get_or r.last r.line.overlay 0 ≡ last_place l
   unfolding last_place
   place_is = ap (λ (ps : List ℕ). get_or ps r.line.overlay 0) h.last_is ∙ ap (λ (x : _). get_or l.last x.overlay 0) h.line_is
 
@@ -261,10 +261,10 @@ module _ {t : Tables} {s : List ℕ} {r : Registers} (room : Room t r.counts (le
 -- FROM THE CODE'S VALUES
 -- the note in its tuplet, and as it is written
 abbrev pub in_tuplet : Registers → NoteRow → NoteRow
-in_tuplet r n = grouped_row r.group.running n
+in_tuplet r n = grouped_row r.tuplet n
 
 abbrev pub as_written : Registers → NoteRow → NoteRow
-as_written r n = halved_row r.waiting.half (beamed_row r.line.run (in_tuplet r n))
+as_written r n = halved_row r.half (beamed_row r.line.run (in_tuplet r n))
 
 module _ {t : Tables} {s : List ℕ} {r : Registers} {n : NoteRow} (l : LogState) (m : Note) (e : n ≡ row_for m) (h : Represents t s r m.pitches l) where
   tuplet_row : in_tuplet r n ≡ row_for (grouped l.line.tuplet m)
@@ -288,10 +288,10 @@ module _ {t : Tables} {s : List ℕ} {r : Registers} {n : NoteRow} (room : Room 
     pub append_overlay : r.line.overlay < 4
     append_overlay = omega (arith, a.standing.overlay_4, overlay_row a.state a.note a.row_is a.represents)
 
-    pub append_place : get_or r.last.places r.line.overlay 0 ≤ r.counts.notes
+    pub append_place : get_or r.last r.line.overlay 0 ≤ r.counts.notes
     append_place = omega (arith, place_is room a.state a.note a.standing a.represents, place_most room a.state a.note a.standing a.represents, a.represents.stored.notes_are)
 
-    pub append_some : 0 < r.line.run → 0 < get_or r.last.places r.line.overlay 0
+    pub append_some : 0 < r.line.run → 0 < get_or r.last r.line.overlay 0
     append_some u =
         let k : 0 < a.state.line.run = omega (arith, run_row a.state a.note a.row_is a.represents) in
         omega (arith, place_is room a.state a.note a.standing a.represents, a.standing.run_has_note k)
@@ -299,7 +299,7 @@ module _ {t : Tables} {s : List ℕ} {r : Registers} {n : NoteRow} (room : Room 
     pub append_head : 0 < r.counts.heads
     append_head = omega (arith, heads_some room a.state a.note a.standing a.represents, a.represents.stored.heads_are)
 
-  module _ (s₁ s₂ : List ℕ) (e₁ : s₁ ≡ before_store s t.notes (get_or r.last.places r.line.overlay 0) r.line.run (in_tuplet r n).kind (in_tuplet r n).value)
+  module _ (s₁ s₂ : List ℕ) (e₁ : s₁ ≡ before_store s t.notes (get_or r.last r.line.overlay 0) r.line.run (in_tuplet r n).kind (in_tuplet r n).value)
       (e₂ : s₂ ≡ splice s₁ (t.notes + note_row_width * r.counts.notes) (row_bytes (as_written r n) r.line.overlay)) where
     to₁ : (l : LogState) (m : Note) → Standing l → n ≡ row_for m → Represents t s r m.pitches l
         → s₁ ≡ before_store s t.notes (last_place l) (min 2 l.line.run) (kind_code (grouped l.line.tuplet m).kind) (grouped l.line.tuplet m).value

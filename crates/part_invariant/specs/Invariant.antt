@@ -43,11 +43,11 @@ pub record Represents (t : Tables) (s : List ℕ) (r : Registers) (extra : List 
   pub stored : Stored t r.counts s l.heads l.log (pitches_in l.log ++ extra)
   pub scoped : Scoped s t.scopes r.counts.scopes r.key.scopes l.scopes
   pub key_is : key_in r.key ≡ l.key
-  pub last_is : r.last.places ≡ l.last
+  pub last_is : r.last ≡ l.last
   pub pending_is : r.pending ≡ pending_for l.pending
   pub line_is : r.line ≡ line_for l.line
-  pub half_is : r.waiting.half ≡ half_for l.line.half
-  pub running_is : r.group.running ≡ running_for l.line.tuplet
+  pub half_is : r.half ≡ half_for l.line.half
+  pub running_is : r.tuplet ≡ running_for l.line.tuplet
   pub sounded_is : r.verses.sounded ≡ l.verses.sounded
   pub sounded_most : r.verses.sounded ≤ r.counts.notes
   pub start_is : r.verses.start ≡ l.verses.start

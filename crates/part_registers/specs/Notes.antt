@@ -1,5 +1,5 @@
 -- WHAT A NOTE GETS, by the code's values.
-use Rattle.std.specs.Prelude.{ℕ, ◌+◌, ◌-◌, Bool, cond, ◌&&◌, leb, eqb}
+use Rattle.std.specs.Prelude.{ℕ, ◌+◌, ◌-◌, Bool, cond, ◌&&◌, leb, eqb, Option, None, Some}
 use Rattle.standard.specs.Lengths.{Value}
 use Rattle.token_lengths.specs.declared.Length.{Length}
 use Rattle.token_lengths.specs.declared.Length.TheVariants.{Written, WholeBar}
@@ -7,9 +7,7 @@ use Rattle.token_lengths.specs.Values.{as_value, broken_length}
 use Rattle.part_rows.specs.declared.NoteRow.{NoteRow}
 use Rattle.part_registers.specs.declared.Pending.{Pending}
 use Rattle.part_registers.specs.declared.Half.{Half}
-use Rattle.part_registers.specs.declared.Half.TheVariants as half
 use Rattle.part_registers.specs.declared.Running.{Running}
-use Rattle.part_registers.specs.declared.Running.TheVariants as running
 
 unfoldable pub beams : ℕ → ℕ → Bool
 beams kind value = eqb kind 0 && (leb 5 value && leb value 9)
@@ -35,20 +33,20 @@ with_value w n = record { kind = n.kind; value = w.value; dots = w.dots; flags =
 abbrev pub with_group : ℕ → ℕ → ℕ → NoteRow → NoteRow
 with_group a b c n = record { kind = n.kind; value = n.value; dots = n.dots; flags = n.flags; beam = n.beam; actual = a; normal = b; boundary = c; pitches = n.pitches }
 
-unfoldable pub grouped_row : Running → NoteRow → NoteRow
-grouped_row running.Nothing n = n
-grouped_row (running.Tuplet actual normal count remaining) n = with_group actual normal (boundary_of (eqb remaining count) (eqb remaining 1)) n
+unfoldable pub grouped_row : Option Running → NoteRow → NoteRow
+grouped_row None n = n
+grouped_row (Some t) n = with_group t.actual t.normal (boundary_of (eqb t.remaining t.count) (eqb t.remaining 1)) n
 
-unfoldable pub fewer : Running → Running
-fewer running.Nothing = running.Nothing
-fewer (running.Tuplet actual normal count remaining) = cond (leb remaining 1) running.Nothing (running.Tuplet actual normal count (remaining - 1))
+unfoldable pub fewer : Option Running → Option Running
+fewer None = None
+fewer (Some t) = cond (leb t.remaining 1) None (Some (record { actual = t.actual; normal = t.normal; count = t.count; remaining = t.remaining - 1 }))
 
 unfoldable pub broken_row : Bool → ℕ → NoteRow → NoteRow
 broken_row up times n = with_value (as_value (broken_length up times (length_in n.value n.dots))) n
 
-unfoldable pub halved_row : Half → NoteRow → NoteRow
-halved_row half.Nothing n = n
-halved_row (half.Waits up times) n = broken_row up times n
+unfoldable pub halved_row : Option Half → NoteRow → NoteRow
+halved_row None n = n
+halved_row (Some h) n = broken_row h.up h.times n
 
 unfoldable pub run_again : ℕ → ℕ → ℕ → ℕ
 run_again run kind value = cond (beams kind value) (cond (eqb run 0) 1 2) 0

@@ -1,5 +1,6 @@
 -- WHAT IS KEPT OUTSIDE SCRATCH, as the definition has it.
-use Rattle.std.specs.Prelude.{min}
+use Rattle.std.specs.Prelude.{min, None, Some}
+use Rattle.std.specs.Prelude as code
 use Rattle.std.proofs.Math.Option.{Option, none, some}
 use Rattle.standard.specs.Keys.{Key}
 use Rattle.standard.specs.Notes as Notes
@@ -8,20 +9,18 @@ use Rattle.part_accidentals.specs.declared.AbcPartParseState.{AbcPartParseState}
 use Rattle.part_registers.specs.declared.Pending.{Pending}
 use Rattle.part_registers.specs.declared.Line.{Line}
 use Rattle.part_registers.specs.declared.Half.{Half}
-use Rattle.part_registers.specs.declared.Half.TheVariants as half
 use Rattle.part_registers.specs.declared.Running.{Running}
-use Rattle.part_registers.specs.declared.Running.TheVariants as running
 
 abbrev pub pending_for : Notes.Pending → Pending
 pending_for p = record { tie = p.tie; slur = p.slur; grace = p.grace }
 
-abbrev pub half_for : Option State.Half → Half
-half_for none = half.Nothing
-half_for (some h) = half.Waits h.up h.times
+abbrev pub half_for : Option State.Half → code.Option Half
+half_for none = None
+half_for (some h) = Some (record { up = h.up; times = h.times })
 
-abbrev pub running_for : Option State.Running → Running
-running_for none = running.Nothing
-running_for (some t) = running.Tuplet t.tuplet.actual t.tuplet.normal t.tuplet.count t.remaining
+abbrev pub running_for : Option State.Running → code.Option Running
+running_for none = None
+running_for (some t) = Some (record { actual = t.tuplet.actual; normal = t.tuplet.normal; count = t.tuplet.count; remaining = t.remaining })
 
 -- a run of more than two notes counts as two
 abbrev pub line_for : State.Line → Line

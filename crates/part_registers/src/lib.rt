@@ -2,10 +2,11 @@
 #![tactic(auto)]
 
 ghost use Rattle.std.specs.Prelude.{◌≡◌, ◌≤◌};
-ghost use Rattle.part_registers.specs.Notes.{beams, bit_of, flags_in, length_in, boundary_of, grouped_row, fewer, broken_row, halved_row, run_again, beamed_row};
+ghost use Rattle.token_lengths.specs.Values.{broken_length};
+ghost use Rattle.part_registers.specs.Notes.{beams, bit_of, flags_in, length_in, boundary_of, grouped_row, fewer, halved_row, run_again, beamed_row};
 
 use part_accidentals::AbcPartParseState;
-use part_rows::NoteRow;
+use part_rows::{Beam, NoteRow};
 use token_lengths::Length;
 
 // Where the tables of a part begin in scratch, one behind the other, and where the last one ends.
@@ -27,12 +28,6 @@ pub struct Counts {
     pub scopes: u32,
 }
 
-// For each overlay voice the place of its last note in the open measure, counted from 1; 0 if it has none.
-#[derive(Clone, Copy)]
-pub struct Last {
-    pub places: [u32; 4],
-}
-
 // What is pending for the next note: the end of a tie, a slur; and whether a grace brace is open.
 #[derive(Clone, Copy)]
 pub struct Pending {
@@ -41,36 +36,23 @@ pub struct Pending {
     pub grace: bool,
 }
 
-// The second half of a broken rhythm, dotted or halved so many times; or none.
+// The second half of a broken rhythm, dotted or halved so many times.
 #[derive(Clone, Copy)]
-pub enum Half {
-    Nothing,
-    Waits { up: bool, times: u8 },
+pub struct Half {
+    pub up: bool,
+    pub times: u8,
 }
 
+// A tuplet, and how many of its notes are to come.
 #[derive(Clone, Copy)]
-pub struct Waiting {
-    pub half: Half,
+pub struct Running {
+    pub actual: u8,
+    pub normal: u8,
+    pub count: u64,
+    pub remaining: u64,
 }
 
-// A tuplet, and how many of its notes are to come; or none.
-#[derive(Clone, Copy)]
-pub enum Running {
-    Nothing,
-    Tuplet {
-        actual: u8,
-        normal: u8,
-        count: u64,
-        remaining: u64,
-    },
-}
-
-#[derive(Clone, Copy)]
-pub struct Group {
-    pub running: Running,
-}
-
-// What ends with the line: unit and meter in force, the overlay voice, and how many notes the beam's run has: 0, 1, or 2 for more.
+// What ends with the line: unit and meter in force, the overlay voice, and how many notes the beam's run has. That is a count up to 2, which stands for more too.
 #[derive(Clone, Copy)]
 pub struct Line {
     pub unit: u32,
@@ -88,16 +70,18 @@ pub struct Verses {
     pub verse: u8,
 }
 
-// All of it. The order was measured: it decides what the compiler copies between the fields.
+// All of it: how many rows there are, the key in force, for each overlay voice the place of its last note in the open measure (from 1; 0 if it has none: an index
+// into rows, read and written once for each note, with no room for a tag), what is pending, the line, the tuplet that runs, the half that waits for the next note, and
+// the verses. The order was measured: it decides what the compiler copies between the fields.
 #[derive(Clone, Copy)]
 pub struct Registers {
     pub counts: Counts,
     pub key: AbcPartParseState,
-    pub last: Last,
+    pub last: [u32; 4],
     pub pending: Pending,
     pub line: Line,
-    pub group: Group,
-    pub waiting: Waiting,
+    pub tuplet: Option<Running>,
+    pub half: Option<Half>,
     pub verses: Verses,
 }
 
@@ -131,16 +115,11 @@ pub fn with_heads(c: Counts, heads: u32, scopes: u32) -> Counts
 // WHAT A NOTE GETS
 
 // A note, from an eighth to a 128th, can be beamed.
+#[tactic(auto, unfolding(crate::specs::Notes::beams))]
 pub fn abc_note_is_beamable(kind: u8, value: u8) -> bool
     ensures { result ≡ beams kind value }
 {
-    if kind != 0 {
-        return false;
-    }
-    if value < 5 {
-        return false;
-    }
-    value <= 9
+    kind == 0 && 5 <= value && value <= 9
 }
 
 fn bit(b: bool, n: u8) -> u8
@@ -167,21 +146,16 @@ fn length_in(value: u8, dots: u8) -> Length
 }
 
 // The tuplet that a note stands in.
-pub fn apply_abc_tuplet(n: NoteRow, running: Running) -> NoteRow
-    ensures { result ≡ grouped_row running n }
+pub fn apply_abc_tuplet(n: NoteRow, tuplet: Option<Running>) -> NoteRow
+    ensures { result ≡ grouped_row tuplet n }
 {
-    match running {
-        Running::Nothing => n,
-        Running::Tuplet {
-            actual,
-            normal,
-            count,
-            remaining,
-        } => {
+    match tuplet {
+        None => n,
+        Some(running) => {
             let mut m = n;
-            m.actual = actual;
-            m.normal = normal;
-            m.boundary = boundary(remaining == count, remaining == 1);
+            m.actual = running.actual;
+            m.normal = running.normal;
+            m.boundary = boundary(running.remaining == running.count, running.remaining == 1);
             m
         }
     }
@@ -195,48 +169,42 @@ fn boundary(starts: bool, stops: bool) -> u8
 }
 
 // The tuplet after a note: over when its count is used up.
-pub fn one_fewer(running: Running) -> Running
-    ensures { result ≡ fewer running }
+pub fn one_fewer(tuplet: Option<Running>) -> Option<Running>
+    ensures { result ≡ fewer tuplet }
 {
-    match running {
-        Running::Nothing => running,
-        Running::Tuplet {
-            actual,
-            normal,
-            count,
-            remaining,
-        } => {
-            if remaining <= 1 {
-                return Running::Nothing;
+    match tuplet {
+        None => None,
+        Some(running) => {
+            if running.remaining <= 1 {
+                return None;
             }
-            Running::Tuplet {
-                actual,
-                normal,
-                count,
-                remaining: remaining - 1,
-            }
+            let mut fewer = running;
+            fewer.remaining = running.remaining - 1;
+            Some(fewer)
         }
     }
 }
 
-// A note after broken rhythm: its value and dots.
-pub fn broken(n: NoteRow, up: bool, times: u8) -> NoteRow
-    ensures { result ≡ broken_row up times n }
+// A value with its dots after broken rhythm.
+pub fn broken_length(value: u8, dots: u8, half: Half) -> Length
+    ensures { result ≡ broken_length half.up half.times (length_in value dots) }
 {
-    let length = token_lengths::apply_abc_broken_rhythm(length_in(n.value, n.dots), up, times);
-    let mut m = n;
-    m.value = token_lengths::value_of(length);
-    m.dots = token_lengths::dots_of(length);
-    m
+    token_lengths::apply_abc_broken_rhythm(length_in(value, dots), half.up, half.times)
 }
 
 // A note after the half that waited for it.
-pub fn after_half(n: NoteRow, half: Half) -> NoteRow
+pub fn after_half(n: NoteRow, half: Option<Half>) -> NoteRow
     ensures { result ≡ halved_row half n }
 {
     match half {
-        Half::Nothing => n,
-        Half::Waits { up, times } => broken(n, up, times),
+        None => n,
+        Some(half) => {
+            let length = broken_length(n.value, n.dots, half);
+            let mut m = n;
+            m.value = token_lengths::value_of(length);
+            m.dots = token_lengths::dots_of(length);
+            m
+        }
     }
 }
 
@@ -264,7 +232,7 @@ pub fn beamed_new(run: u8, n: NoteRow) -> NoteRow
     }
     if abc_note_is_beamable(n.kind, n.value) {
         let mut m = n;
-        m.beam = 3;
+        m.beam = u8::from(Beam::Ends);
         return m;
     }
     n

@@ -4,4 +4,4 @@ use Rattle.part_registers.specs.Notes.{halved_row}
 use Rattle.part_append.proofs.as_written.Goals as goal
 
 pub returns : goal.returns
-returns c = c.after_half.ensures ∙ ap (halved_row c.args.waiting.half) c.beamed_new.ensures
+returns c = c.after_half.ensures ∙ ap (halved_row c.args.half) c.beamed_new.ensures

@@ -1,11 +1,11 @@
 -- `part_registers::after_half` meets its contract.
-use Rattle.part_registers.specs.Notes.{halved_row}
+use Rattle.part_registers.specs.Notes.{broken_row, halved_row}
 use Rattle.part_registers.proofs.after_half.Goals as goal
 
-pub returns-in-Nothing : goal.returns-in-Nothing
+pub returns-in-None : goal.returns-in-None
 unfolding halved_row
-returns-in-Nothing c = rw c.in-Nothing.is
+returns-in-None c = rw c.in-None.is
 
-pub returns-in-Waits : goal.returns-in-Waits
-unfolding halved_row
-returns-in-Waits c = rw c.in-Waits.is c.broken.ensures
+pub returns-in-Some : goal.returns-in-Some
+unfolding halved_row broken_row
+returns-in-Some c = rw (c.in-Some.is, c.dots_of.ensures, c.value_of.ensures, c.broken_length-length.ensures)

@@ -2,10 +2,10 @@
 use Rattle.part_registers.specs.Notes.{grouped_row}
 use Rattle.part_registers.proofs.apply_abc_tuplet.Goals as goal
 
-pub returns-in-Nothing : goal.returns-in-Nothing
+pub returns-in-None : goal.returns-in-None
 unfolding grouped_row
-returns-in-Nothing c = rw c.in-Nothing.is
+returns-in-None c = rw c.in-None.is
 
-pub returns-in-Tuplet : goal.returns-in-Tuplet
+pub returns-in-Some : goal.returns-in-Some
 unfolding grouped_row
-returns-in-Tuplet c = rw (c.boundary.ensures, c.in-Tuplet.is)
+returns-in-Some c = rw (c.boundary.ensures, c.in-Some.is)

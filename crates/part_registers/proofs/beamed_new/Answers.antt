@@ -9,7 +9,7 @@ returns-then-run-eq0 c = simp (eq-eqb _ 0 c.if-run-eq0.true)
 
 pub returns-then-abc_note_is_beamable : goal.returns-then-abc_note_is_beamable
 unfolding beamed_row
-returns-then-abc_note_is_beamable c = simp (ne_eqb _ 0 c.if-run-eq0.false, ← c.abc_note_is_beamable.ensures, c.if-abc_note_is_beamable.true)
+returns-then-abc_note_is_beamable c = simp (c.from.ensures, ne_eqb _ 0 c.if-run-eq0.false, ← c.abc_note_is_beamable.ensures, c.if-abc_note_is_beamable.true)
 
 pub returns : goal.returns
 unfolding beamed_row

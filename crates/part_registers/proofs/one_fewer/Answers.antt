@@ -3,14 +3,14 @@ use borrow.Author.Tests.{le-leb, lt-leb}
 use Rattle.part_registers.specs.Notes.{fewer}
 use Rattle.part_registers.proofs.one_fewer.Goals as goal
 
-pub returns-then-remaining-le1 : goal.returns-then-remaining-le1
+pub returns-then-running-le1 : goal.returns-then-running-le1
 unfolding fewer
-returns-then-remaining-le1 c = rw (c.in-Tuplet.is, le-leb _ _ c.if-remaining-le1.true)
+returns-then-running-le1 c = rw (c.in-Some.is, le-leb _ _ c.if-running-le1.true)
 
-pub returns-in-Nothing : goal.returns-in-Nothing
+pub returns-in-None : goal.returns-in-None
 unfolding fewer
-returns-in-Nothing c = rw c.in-Nothing.is
+returns-in-None c = rw c.in-None.is
 
-pub returns-else-remaining-le1 : goal.returns-else-remaining-le1
+pub returns-else-running-le1 : goal.returns-else-running-le1
 unfolding fewer
-returns-else-remaining-le1 c = rw (c.in-Tuplet.is, lt-leb _ _ c.if-remaining-le1.false)
+returns-else-running-le1 c = rw (c.in-Some.is, lt-leb _ _ c.if-running-le1.false)
