@@ -102,8 +102,8 @@ pushed_on r q =
       last = r.last;
       pending = r.pending;
       line = r.line;
-      waiting = r.waiting;
-      group = r.group;
+      half = r.half;
+      tuplet = r.tuplet;
       verses = r.verses;
     }
 

@@ -1,5 +1,5 @@
 -- NOTES AND RESTS: their rows, the row that a token defers, and what each does to every part that is represented.
-use Rattle.std.specs.Prelude.{ℕ, ◌<◌, ◌≡◌, Bool, false, true, List, [], ◌∷◌, ◌++◌, length, get_or}
+use Rattle.std.specs.Prelude.{ℕ, ◌<◌, ◌≡◌, Bool, false, List, [], ◌∷◌, ◌++◌, length, get_or, None, Some}
 use Rattle.laws.specs.Lists.{alter_at}
 use Rattle.standard.specs.Pitches as standard
 use Rattle.standard.specs.Notes.{Behind, pending_after}
@@ -11,7 +11,6 @@ use Rattle.reader.specs.Part.{sound_note}
 use Rattle.part_layout.specs.Log.{LogState, set_scopes, set_pending, append, on_sound}
 use Rattle.part_layout.specs.Lines.{Standing}
 use Rattle.token_lengths.specs.declared.Length.{Length}
-use Rattle.token_lengths.specs.declared.Length.TheVariants.{WholeBar}
 use Rattle.token_lengths.specs.Values.{as_value}
 use Rattle.token_pitches.specs.declared.Pitch.{Pitch}
 use Rattle.part_rows.specs.declared.NoteRow.{NoteRow}
@@ -40,28 +39,28 @@ pending_on p tie = record { tie = tie; slur = false; grace = p.grace }
 -- with what is pending after a note
 abbrev pub with_pending : Registers → Bool → Registers
 with_pending r tie =
-    record { counts = r.counts; key = r.key; last = r.last; pending = pending_on r.pending tie; line = r.line; waiting = r.waiting; group = r.group; verses = r.verses }
+    record { counts = r.counts; key = r.key; last = r.last; pending = pending_on r.pending tie; line = r.line; half = r.half; tuplet = r.tuplet; verses = r.verses }
 
 -- WHAT A TOKEN LEAVES: registers, and the row that is still to be appended
 abbrev pub deferred_nothing : Registers → Deferred
-deferred_nothing r = record { registers = r; appends = false; row = rest_row 0 (WholeBar 0) }
+deferred_nothing r = record { registers = r; row = None }
 
 abbrev pub deferred_rest : Registers → ℕ → Length → Deferred
-deferred_rest r kind l = record { registers = r; appends = true; row = rest_row kind l }
+deferred_rest r kind l = record { registers = r; row = Some (rest_row kind l) }
 
 abbrev pub deferred_sound : Registers → Length → Bool → Bool → ℕ → Deferred
-deferred_sound r l tie slur pitches = record { registers = with_pending r tie; appends = true; row = sound_row l (flags_in r.pending tie slur) pitches }
+deferred_sound r l tie slur pitches = record { registers = with_pending r tie; row = Some (sound_row l (flags_in r.pending tie slur) pitches) }
 
 -- its row, if there is one, can be appended
 pub record DeferredFits (t : Tables) (s : List ℕ) (d : Deferred) : Type 0 where
-  pub room : d.appends ≡ true → Room t d.registers.counts (length s) 0 1 0 0
-  pub able : d.appends ≡ true → Appendable t s d.registers d.row
+  pub room : (n : NoteRow) → d.row ≡ Some n → Room t d.registers.counts (length s) 0 1 0 0
+  pub able : (n : NoteRow) → d.row ≡ Some n → Appendable t s d.registers n
 
 -- its row, if there is one, is appended
 pub record DeferredDone (t : Tables) (s : List ℕ) (d : Deferred) (s' : List ℕ) (r' : Registers) : Type 0 where
-  pub appended : d.appends ≡ true → Appends t s d.registers s' r' d.row
-  pub same_store : d.appends ≡ false → s' ≡ s
-  pub same_registers : d.appends ≡ false → r' ≡ d.registers
+  pub appended : (n : NoteRow) → d.row ≡ Some n → Appends t s d.registers s' r' n
+  pub same_store : d.row ≡ None → s' ≡ s
+  pub same_registers : d.row ≡ None → r' ≡ d.registers
 
 -- P holds once that is done
 pub record OnceAppended (t : Tables) (s : List ℕ) (d : Deferred) (P : List ℕ → Registers → Type 0) : Type 0 where

@@ -15,8 +15,7 @@ use token_pitches::Pitch;
 #[derive(Clone, Copy)]
 pub struct Deferred {
     pub registers: Registers,
-    pub appends: bool,
-    pub row: NoteRow,
+    pub row: Option<NoteRow>,
 }
 
 // The row of a rest.
@@ -64,14 +63,13 @@ fn after_pending(p: Pending, tie: bool) -> Pending
     }
 }
 
-// A token without a row (this one is never read).
+// A token without a row.
 pub fn defer_nothing(r: Registers) -> Deferred
     ensures { result ≡ deferred_nothing r }
 {
     Deferred {
         registers: r,
-        appends: false,
-        row: rest_row(0, Length::WholeBar(0)),
+        row: None,
     }
 }
 
@@ -81,8 +79,7 @@ pub fn append_abc_rest_note(r: Registers, kind: u8, written: Length) -> Deferred
 {
     Deferred {
         registers: r,
-        appends: true,
-        row: rest_row(kind, written),
+        row: Some(rest_row(kind, written)),
     }
 }
 
@@ -130,8 +127,7 @@ pub fn append_sound(r: Registers, written: Length, tie: bool, slur: bool, pitche
     x.pending = after_pending(r.pending, tie);
     Deferred {
         registers: x,
-        appends: true,
-        row,
+        row: Some(row),
     }
 }
 
@@ -158,8 +154,8 @@ pub fn append_deferred(store: &mut [u8], t: Tables, d: Deferred) -> Registers
     ensures { DeferredDone t store.old d store.new result }
 {
     let r = d.registers;
-    if d.appends {
-        return part_append::append(store, t, r, d.row);
+    match d.row {
+        None => r,
+        Some(row) => part_append::append(store, t, r, row),
     }
-    r
 }
