@@ -184,11 +184,11 @@ ended_with r n places =
     record {
       counts = record { heads = n; notes = r.counts.notes; pitches = r.counts.pitches; scopes = 0 };
       key = record { fifths = r.key.fifths; minor = r.key.minor; scopes = nowhere };
-      last = record { places = places };
+      last = places;
       pending = r.pending;
       line = record { unit = r.line.unit; top = r.line.top; bottom = r.line.bottom; overlay = 0; run = 0 };
-      waiting = r.waiting;
-      group = r.group;
+      half = r.half;
+      tuplet = r.tuplet;
       verses = r.verses;
     }
 
@@ -270,7 +270,7 @@ module _ {t : Tables} {s : List ℕ} {r : Registers} (room : Room t r.counts (le
         holds =
             λ l st h.
             let z : open_is_empty l.heads ≡ true = sym (is_empty_lem l st h) ∙ y in
-            ends_represented b opens l r.counts.heads r.last.places (on_last_head (left_set b) l.heads) h
+            ends_represented b opens l r.counts.heads r.last (on_last_head (left_set b) l.heads) h
             (stored_as (open_stored less s' left_at w.bytes e' (omega (arith, w.short)) l (some_head_lem l st) h (left_set b) (w.sets (get_or l.heads (r.counts.heads - 1) some_head))) refl refl refl) (rw (z, ended_heads)) (rw z h.last_is);
       }
 
@@ -294,7 +294,7 @@ module _ {t : Tables} {s : List ℕ} {r : Registers} (room : Room t r.counts (le
           holds =
               λ l st h.
               let z : open_is_empty l.heads ≡ false = sym (is_empty_lem l st h) ∙ n in
-              ends_represented b opens l r.counts.heads r.last.places (on_last_head (with_right b) l.heads) h (stored_as (stored₁ l st h) refl refl refl)
+              ends_represented b opens l r.counts.heads r.last (on_last_head (with_right b) l.heads) h (stored_as (stored₁ l st h) refl refl refl)
               (rw (z, ended_heads) (rw c)) (rw (z, c) h.last_is);
         }
 

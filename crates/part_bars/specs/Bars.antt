@@ -35,8 +35,8 @@ ended r =
       last = r.last;
       pending = r.pending;
       line = record { unit = r.line.unit; top = r.line.top; bottom = r.line.bottom; overlay = 0; run = 0 };
-      waiting = r.waiting;
-      group = r.group;
+      half = r.half;
+      tuplet = r.tuplet;
       verses = r.verses;
     }
 
@@ -45,11 +45,11 @@ opened r =
     record {
       counts = record { heads = r.counts.heads + 1; notes = r.counts.notes; pitches = r.counts.pitches; scopes = 0 };
       key = cleared r.key;
-      last = record { places = nowhere };
+      last = nowhere;
       pending = r.pending;
       line = record { unit = r.line.unit; top = r.line.top; bottom = r.line.bottom; overlay = 0; run = 0 };
-      waiting = r.waiting;
-      group = r.group;
+      half = r.half;
+      tuplet = r.tuplet;
       verses = r.verses;
     }
 
@@ -61,7 +61,7 @@ timed r top bottom =
       last = r.last;
       pending = r.pending;
       line = record { unit = r.line.unit; top = top; bottom = bottom; overlay = r.line.overlay; run = r.line.run };
-      waiting = r.waiting;
-      group = r.group;
+      half = r.half;
+      tuplet = r.tuplet;
       verses = r.verses;
     }

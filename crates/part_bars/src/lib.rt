@@ -13,8 +13,9 @@ ghost use Rattle.part_measures.specs.Heads.{left_at};
 ghost use Rattle.part_bars.specs.Bars.{code_of, left_store, cleared, ended, opened};
 
 use part_accidentals::AbcPartParseState;
-use part_registers::{Counts, Last, Line, Registers, Tables};
-use token_symbols::Barline;
+use part_measures::Volta;
+use part_registers::{Line, Registers, Tables};
+use token_symbols::{Bar, Barline};
 
 // A barline on a measure without notes sets its left one, and that only to a repeat start, both or double.
 fn set_empty_left(store: &mut [u8], at: usize, i: usize, b: Barline)
@@ -22,18 +23,10 @@ fn set_empty_left(store: &mut [u8], at: usize, i: usize, b: Barline)
     ensures { store.new ≡ left_store store.old (at + measure_width * i + left_at) b }
 {
     match b {
-        Barline::Normal => {}
-        Barline::RepeatStart => {
-            part_measures::set_left(store, at, i, token_symbols::REPEAT_START);
+        Barline::Normal | Barline::RepeatEnd | Barline::Final => {}
+        Barline::RepeatStart | Barline::RepeatBoth | Barline::Double => {
+            part_measures::set_left(store, at, i, b);
         }
-        Barline::RepeatEnd => {}
-        Barline::RepeatBoth => {
-            part_measures::set_left(store, at, i, token_symbols::REPEAT_BOTH);
-        }
-        Barline::Double => {
-            part_measures::set_left(store, at, i, token_symbols::DOUBLE);
-        }
-        Barline::Final => {}
     }
 }
 
@@ -41,11 +34,10 @@ fn set_empty_left(store: &mut [u8], at: usize, i: usize, b: Barline)
 fn forget(k: AbcPartParseState) -> AbcPartParseState
     ensures { result ≡ cleared k }
 {
-    let none = [0u32; 4];
     AbcPartParseState {
         fifths: k.fifths,
         minor: k.minor,
-        scopes: none,
+        scopes: [0; 4],
     }
 }
 
@@ -79,42 +71,26 @@ fn open_measure(r: Registers) -> Registers
     ensures { result ≡ opened r }
 {
     let heads = r.counts.heads + 1;
-    let none = [0u32; 4];
-    let last = Last { places: none };
     let mut x = end_measure(r);
     x.counts = part_registers::with_heads(r.counts, heads, 0);
-    x.last = last;
+    x.last = [0; 4];
     x
 }
 
 // A barline.
-pub fn on_barline(
-    store: &mut [u8],
-    t: Tables,
-    r: Registers,
-    right: Barline,
-    left: Barline,
-    opens: bool,
-) -> Registers
+pub fn on_barline(store: &mut [u8], t: Tables, r: Registers, bar: Bar, opens: bool) -> Registers
     requires { Room t r.counts (length store.old) 1 0 0 0 × RepresentedInLine t store.old r }
-    ensures { (b : standard.Barline) → right ≡ barline_for b → left ≡ barline_for (left_of b) → Simulates t store.old r store.new result 1 0 0 0 (on_barline b opens) }
+    ensures { (b : standard.Barline) → bar.right ≡ barline_for b → bar.left ≡ barline_for (left_of b) → Simulates t store.old r store.new result 1 0 0 0 (on_barline b opens) }
 {
     let line = r.line;
     let i = (r.counts.heads - 1) as usize;
     if part_measures::is_empty(store, t.heads, i) {
-        set_empty_left(store, t.heads, i, right);
+        set_empty_left(store, t.heads, i, bar.right);
         return end_measure(r);
     }
-    part_measures::set_right(store, t.heads, i, token_symbols::barline_code(right));
+    part_measures::set_right(store, t.heads, i, bar.right);
     if opens {
-        part_measures::put_measure(
-            store,
-            t.heads,
-            i + 1,
-            token_symbols::barline_code(left),
-            line.top,
-            line.bottom,
-        );
+        part_measures::put_measure(store, t.heads, i + 1, bar.left, line.top, line.bottom);
         return open_measure(r);
     }
     end_measure(r)
@@ -126,14 +102,7 @@ pub fn on_volta(store: &mut [u8], t: Tables, r: Registers, first: u8, passes: u3
     ensures { (ps : List ℕ) → first ≡ get_or ps 0 0 → passes ≡ pass_bits ps → Simulates t store.old r store.new r 0 0 0 0 (λ l. on_token l (token.volta ps)) }
 {
     let i = (r.counts.heads - 1) as usize;
-    part_measures::set_volta(
-        store,
-        t.heads,
-        i,
-        part_measures::VOLTA_BEGINS,
-        first,
-        passes,
-    );
+    part_measures::set_volta(store, t.heads, i, Volta::Begins, first, passes);
 }
 
 // An inline M field.
