@@ -6,7 +6,7 @@ ghost use Rattle.standard.specs.Bytes.{is_digit};
 ghost use Rattle.reader.specs.Text.{within, is_space};
 
 // What was read at a position of a line, and the position after it.
-#[derive(Clone, Copy)]
+#[derive(Clone, Copy, Debug, PartialEq, Eq)]
 pub struct Read<T> {
     pub value: T,
     pub next: usize,

@@ -10,7 +10,7 @@ ghost use Rattle.text_white.specs.States.{as_white};
 ghost use Rattle.text_lines.specs.Lines.{not_byte, trim_from, TrimOn, TrimEnd, CleanEnd, LineEnd, is_letter, colon_class, class_of};
 
 // Where a line ends if the bytes to come are white space, and where the reading of white space stands from there on.
-#[derive(Clone, Copy)]
+#[derive(Clone, Copy, Debug, PartialEq, Eq)]
 struct Trim {
     q: text_white::White,
     end: usize,
@@ -42,7 +42,7 @@ fn lacks(text: &[u8], at: usize, b: u8) -> bool
     none
 }
 
-// A position at or behind `at`, before which no byte is b: 16 bytes at a time.
+// A position at or behind `at`, before which no byte is b: 16 bytes at a time, so a while loop.
 fn pass_without(text: &[u8], at: usize, end: usize, b: u8) -> usize
     requires { (at ≤ end) × (end ≤ length text.now) }
     ensures { (result ≤ end) × (end_in (not_byte b) text.now result end ≡ end_in (not_byte b) text.now at end) }
@@ -111,6 +111,7 @@ fn trim_byte(t: Trim, b: u8, at: usize) -> Trim
 }
 
 // No byte more.
+#[tactic(auto, using(crate::proofs::Cleaning::end_white, crate::proofs::Cleaning::end_other))]
 fn trim_done(t: Trim, at: usize) -> usize
     ensures { result ≡ trim_from (as_white t.q) t.end at [] }
 {
@@ -153,7 +154,7 @@ fn trim_end(text: &[u8], from: usize, to: usize) -> usize
     from
 }
 
-// The end of the line from `from` to `to` once it is cut at its first `%` and trimmed.
+// The end of the line from `from` to `to` once it is cut at its first `%` and trimmed. By positions, as callers keep them: a slice's end would have `from` added again.
 pub fn clean_end(text: &[u8], from: usize, to: usize) -> usize
     requires { (from ≤ to) × (to ≤ length text.now) }
     ensures { CleanEnd text.now from to result }
@@ -174,6 +175,7 @@ pub fn has_high(line: &[u8]) -> bool
 }
 
 // The same, of the line from `from` to `end`.
+#[tactic(auto, using(laws::proofs::Parts::part_cut))]
 pub fn is_high(text: &[u8], from: usize, end: usize) -> bool
     requires { (from ≤ end) × (end ≤ length text.now) }
     ensures { result ≡ has_high (between text.now from end) }
@@ -202,6 +204,7 @@ fn colon_class(b: u8) -> Class
 }
 
 // The class of a line that is cut and trimmed.
+#[tactic(auto, using(crate::proofs::Classes::class_blank, crate::proofs::Classes::class_one, crate::proofs::Classes::class_colon, crate::proofs::Classes::class_other))]
 pub fn line_class(line: &[u8]) -> Class
     ensures { result ≡ class_of line.now }
 {

@@ -32,28 +32,17 @@ fn utf8_on(right: bool, q: Utf8) -> Utf8
 fn utf8_first(b: u8) -> Utf8
     ensures { as_utf8 result ≡ utf8_step between b }
 {
-    if b <= 0x7f {
-        return Utf8::Between;
+    match b {
+        0..=0x7f => Utf8::Between,
+        0xc2..=0xdf => Utf8::One,
+        0xe0 => Utf8::AfterE0,
+        0xed => Utf8::AfterED,
+        0xe1..=0xef => Utf8::Two,
+        0xf0 => Utf8::AfterF0,
+        0xf1..=0xf3 => Utf8::Three,
+        0xf4 => Utf8::AfterF4,
+        _ => Utf8::Invalid,
     }
-    if text_bytes::is_within(0xc2, 0xdf, b) {
-        return Utf8::One;
-    }
-    if b == 0xe0 {
-        return Utf8::AfterE0;
-    }
-    if b == 0xed {
-        return Utf8::AfterED;
-    }
-    if text_bytes::is_within(0xe1, 0xef, b) {
-        return Utf8::Two;
-    }
-    if b == 0xf0 {
-        return Utf8::AfterF0;
-    }
-    if b == 0xf4 {
-        return Utf8::AfterF4;
-    }
-    utf8_on(text_bytes::is_within(0xf1, 0xf3, b), Utf8::Three)
 }
 
 // One byte more.

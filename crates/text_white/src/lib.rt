@@ -48,22 +48,13 @@ fn white_on(right: bool, q: White) -> White
 fn white_first(b: u8) -> White
     ensures { as_white result ≡ white_step white b }
 {
-    if text_bytes::is_space(b) {
-        return White::White;
+    match b {
+        0xc2 => White::InC2,
+        0xe1 => White::InE1,
+        0xe2 => White::InE2,
+        0xe3 => White::InE3,
+        _ => white_on(text_bytes::is_space(b), White::White),
     }
-    if b == 0xc2 {
-        return White::InC2;
-    }
-    if b == 0xe1 {
-        return White::InE1;
-    }
-    if b == 0xe2 {
-        return White::InE2;
-    }
-    if b == 0xe3 {
-        return White::InE3;
-    }
-    White::Other
 }
 
 // One byte more.
@@ -76,12 +67,11 @@ pub fn white_step(q: White, b: u8) -> White
         White::InC2 => white_on(ends_c2(b), White::White),
         White::InE1 => white_on(b == 0x9a, White::InE19A),
         White::InE19A => white_on(b == 0x80, White::White),
-        White::InE2 => {
-            if b == 0x80 {
-                return White::InE280;
-            }
-            white_on(b == 0x81, White::InE281)
-        }
+        White::InE2 => match b {
+            0x80 => White::InE280,
+            0x81 => White::InE281,
+            _ => White::Other,
+        },
         White::InE280 => white_on(ends_e280(b), White::White),
         White::InE281 => white_on(b == 0x9f, White::White),
         White::InE3 => white_on(b == 0x80, White::InE380),
@@ -119,6 +109,7 @@ pub fn is_blank(text: &[u8]) -> bool
 }
 
 // How many bytes the white character at `at` has, 0 where there is none, in a text that ends at `end`.
+#[tactic(auto, using(crate::proofs::Whites::white_width), unfolding(laws::specs::Bytes::part))]
 fn white_len(text: &[u8], at: usize, end: usize) -> usize
     requires { (at < end) × (end ≤ length text.now) }
     ensures { result ≡ white_at (between text.now at end) }
@@ -139,7 +130,7 @@ fn white_len(text: &[u8], at: usize, end: usize) -> usize
     0
 }
 
-// The same. ASCII is answered by one byte.
+// The same. ASCII is answered by one byte. By positions, as the loops of callers have them: a slice for each turn would be no plainer.
 pub fn white_at(text: &[u8], at: usize, end: usize) -> usize
     requires { (at < end) × (end ≤ length text.now) }
     ensures { result ≡ white_at (between text.now at end) }

@@ -8,6 +8,3 @@ pub returns-then-is_within : goal.returns-then-is_within
 returns-then-is_within c =
     let a = c.args in
     λ l. trim_plain (as_white a.t.q) a.t.end a.b a.at l (sym c.is_within.ensures ∙ c.if-is_within.true)
-
-pub returns : goal.returns
-returns c = c.trim_step.ensures
