@@ -1,9 +1,8 @@
 -- The registers after an inline key, and where a line begins.
+use Rattle.std.specs.Prelude.{None}
 use Rattle.std.specs.Prelude.{ℕ}
 use Rattle.standard.specs.Keys.{Key}
 use Rattle.part_registers.specs.declared.Registers.{Registers}
-use Rattle.part_registers.specs.declared.Half.TheVariants as half
-use Rattle.part_registers.specs.declared.Running.TheVariants as running
 use Rattle.part_bars.specs.Bars.{nowhere}
 
 abbrev pub hearing : Registers → Key → Registers
@@ -14,8 +13,8 @@ hearing r k =
       last = r.last;
       pending = r.pending;
       line = r.line;
-      waiting = r.waiting;
-      group = r.group;
+      half = r.half;
+      tuplet = r.tuplet;
       verses = r.verses;
     }
 
@@ -28,7 +27,7 @@ begun r heads unit top bottom =
       last = r.last;
       pending = r.pending;
       line = record { unit = unit; top = top; bottom = bottom; overlay = 0; run = 0 };
-      waiting = record { half = half.Nothing };
-      group = record { running = running.Nothing };
+      half = None;
+      tuplet = None;
       verses = record { sounded = r.verses.sounded; start = r.verses.sounded; verse = 1 };
     }

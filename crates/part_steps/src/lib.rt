@@ -13,7 +13,8 @@ ghost use Rattle.part_steps.specs.Steps.{hearing, begun};
 
 use field_keys::Key;
 use part_accidentals::AbcPartParseState;
-use part_registers::{Group, Half, Line, Registers, Running, Tables, Waiting};
+use part_registers::{Line, Registers, Running, Tables};
+use token_symbols::{Barline, Tuplet};
 
 // White space ends the beam's run.
 pub fn on_space(r: Registers) -> Registers
@@ -61,19 +62,18 @@ fn normal_in(top: u8, bottom: u8, normal: u8) -> u8
 }
 
 // A tuplet, all of whose notes are to come.
-pub fn on_tuplet(r: Registers, actual: u8, normal: u8, count: u64) -> Registers
-    ensures { (t : Tables) (s : List ℕ) → Simulates t s r s result 0 0 0 0 (λ l. on_token l (token.tuplet (record { actual = actual; normal = normal; count = count }))) }
+pub fn on_tuplet(r: Registers, tuplet: Tuplet) -> Registers
+    ensures { (t : Tables) (s : List ℕ) → Simulates t s r s result 0 0 0 0 (λ l. on_token l (token.tuplet (record { actual = tuplet.actual; normal = tuplet.normal; count = tuplet.count }))) }
 {
     let line = r.line;
-    let running = Running::Tuplet {
-        actual,
-        normal: normal_in(line.top, line.bottom, normal),
-        count,
-        remaining: count,
+    let running = Running {
+        actual: tuplet.actual,
+        normal: normal_in(line.top, line.bottom, tuplet.normal),
+        count: tuplet.count,
+        remaining: tuplet.count,
     };
-    let group = Group { running };
     let mut x = r;
-    x.group = group;
+    x.tuplet = Some(running);
     x
 }
 
@@ -115,11 +115,10 @@ pub fn on_unit(r: Registers, unit: u32) -> Registers
 pub fn hear(r: Registers, key: Key) -> Registers
     ensures { result ≡ hearing r (key_as key) }
 {
-    let none = [0u32; 4];
     let state = AbcPartParseState {
         fifths: key.fifths,
         minor: key.minor,
-        scopes: none,
+        scopes: [0; 4],
     };
     let mut x = r;
     let heads = r.counts.heads;
@@ -150,17 +149,11 @@ fn new_line(r: Registers, heads: u32, unit: u32, top: u8, bottom: u8) -> Registe
         overlay: 0,
         run: 0,
     };
-    let waiting = Waiting {
-        half: Half::Nothing,
-    };
-    let group = Group {
-        running: Running::Nothing,
-    };
     let mut x = r;
     x.counts.heads = heads;
     x.line = line;
-    x.waiting = waiting;
-    x.group = group;
+    x.tuplet = None;
+    x.half = None;
     x.verses.start = verses.sounded;
     x.verses.verse = 1;
     x
@@ -176,12 +169,12 @@ pub fn begin_line(
     bottom: u8,
 ) -> Registers
     requires { RoomForBytes t r.counts (length store.old) [] × RepresentedBetween t store.old r }
-    ensures simulates_item { SimulatesItem t store.old r store.new result [] (line_begins unit (top, bottom)) }
-    ensures le_heads { 1 ≤ result.counts.heads }
+    ensures simulates { SimulatesItem t store.old r store.new result [] (line_begins unit (top, bottom)) }
+    ensures some_measure { 1 ≤ result.counts.heads }
 {
     let counts = r.counts;
     if counts.heads == 0 {
-        part_measures::put_measure(store, t.heads, 0, 0, top, bottom);
+        part_measures::put_measure(store, t.heads, 0, Barline::Normal, top, bottom);
         return new_line(r, 1, unit, top, bottom);
     }
     new_line(r, counts.heads, unit, top, bottom)

@@ -5,4 +5,4 @@ use Rattle.part_steps.proofs.on_tuplet.Goals as goal
 pub returns : goal.returns
 returns c =
     let a = c.args in
-    λ t s. tuplet_simulates a.r t s a.actual a.normal a.count c.normal_in.result c.normal_in.ensures
+    λ t s. tuplet_simulates a.r t s a.tuplet.actual a.tuplet.normal a.tuplet.count c.normal_in.result c.normal_in.ensures
