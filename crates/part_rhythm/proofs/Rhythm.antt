@@ -1,4 +1,6 @@
 -- THE VOICE'S LAST NOTE CHANGED, from the code's writes to the definition's `on_broken` and `on_nothing`.
+use Rattle.std.specs.Prelude as code
+use Rattle.std.specs.Prelude.{None, Some, is_some, is_none, unwrap_or}
 use Prim.Native.Nat.{ℕ, zero, suc, ◌+◌, ◌-◌, ◌*◌, ◌≤◌, ◌<◌, min}
 use mathlib.Core.Path.{◌≡◌, refl, sym, ap, subst, ◌∙◌}
 use mathlib.Core.Bool.{Bool, true, false, not}
@@ -11,7 +13,7 @@ use borrow.Author.Tests.{eq-eqb, ne_eqb, eqb-true, eqb-false}
 use lib.ListN.{length, get_or}
 use Rattle.laws.specs.Bytes.{splice}
 use Rattle.laws.specs.Lists.{alter_at}
-use Rattle.laws.proofs.Bools.{by_test}
+use Rattle.laws.proofs.Bools.{both_true, by_test, cond_false, cond_true}
 use Rattle.laws.proofs.Splices.{splice_nil}
 use Rattle.standard.specs.Pitches.{Pitch}
 use Rattle.standard.specs.Notes as Notes
@@ -32,14 +34,15 @@ use Rattle.part_registers.specs.declared.Tables.{Tables}
 use Rattle.part_registers.specs.declared.Counts.{Counts}
 use Rattle.part_registers.specs.declared.Line.{Line}
 use Rattle.part_registers.specs.declared.Registers.{Registers}
-use Rattle.part_registers.specs.declared.Half.TheVariants as half
-use Rattle.part_registers.specs.Notes.{beams, broken_row, run_again}
+use Rattle.token_lengths.specs.declared.Length.{Length}
+use Rattle.token_lengths.specs.Values.{as_value, broken_length}
+use Rattle.part_registers.specs.Notes.{beams, broken_row, length_in, run_again}
 use Rattle.part_registers.proofs.Notes.{beams_is, run_is, broken_is}
 use Rattle.part_invariant.specs.Invariant.{Room, Stored, Represents, RepresentedInLine, pitches_in, Grows, Simulates}
 use Rattle.part_invariant.proofs.Stores.{note_altered}
 use Rattle.part_invariant.proofs.Logs.{place_at, place_pitches, broken_pitches}
 use Rattle.part_invariant.proofs.Appending.{some_note, stored_pitches}
-use Rattle.part_rhythm.specs.Rhythm.{place_of, broken_value, value_bytes, broken_store, broken_in, again_beam, again_store, again_in, again_run, half_after, half_waits, runs}
+use Rattle.part_rhythm.specs.Rhythm.{place_of, broken_value, value_bytes, broken_store, again_beam, again_store, again_in, again_run, row_of, half_waits, runs}
 
 -- the counts as they are
 same_counts : (c : Counts) → Grows c c 0 0 0 0
@@ -127,12 +130,11 @@ broken_row_lem up times x =
     ∙ ap (λ (q : NoteRow). row_bytes q x.0) (broken_is up times x.1)
 
 -- by the code's writes
-pub broken_written : (s : List ℕ) (place : ℕ) (up : Bool) (times : ℕ) (w : Written) → w ≡ record { kind = get_or s place 0; value = get_or s (place + value_at) 0; dots = get_or s (place + dots_at) 0 } → (m : NoteRow)
-    → m ≡ broken_row up times (record { kind = w.kind; value = w.value; dots = w.dots; flags = 0; beam = 0; actual = 0; normal = 0; boundary = 0; pitches = 0 })
-    → (s' : List ℕ) → s' ≡ splice s (place + value_at) (m.value ∷ m.dots ∷ []) → s' ≡ broken_store s place up times
-unfolding broken_row
-broken_written s place up times w dw m dm s' e =
-    e ∙ (λ i. splice s (place + value_at) ((dm i).value ∷ (dm i).dots ∷ [])) ∙ (λ i. splice s (place + value_at) (value_bytes (broken_value up times (dw i).value (dw i).dots)))
+pub broken_written : (s : List ℕ) (place : ℕ) (up : Bool) (times : ℕ) (w : Written) → w ≡ record { kind = get_or s place 0; value = get_or s (place + value_at) 0; dots = get_or s (place + dots_at) 0 } → (n : Length)
+    → n ≡ broken_length up times (length_in w.value w.dots) → (value dots : ℕ) → value ≡ (as_value n).value → dots ≡ (as_value n).dots
+    → (s' : List ℕ) → s' ≡ splice s (place + value_at) (value ∷ dots ∷ []) → s' ≡ broken_store s place up times
+broken_written s place up times w dw n dn value dots ev ed s' e =
+    e ∙ (λ i. splice s (place + value_at) (ev i ∷ ed i ∷ [])) ∙ (λ i. splice s (place + value_at) (value_bytes (as_value (dn i)))) ∙ (λ i. splice s (place + value_at) (value_bytes (broken_value up times (dw i).value (dw i).dots)))
 
 broken_at : (up : Bool) (times p : ℕ) (l : LogState) → 0 < p
     → set_line (with_half (some (record { up = not up; times = times })) l.line) (set_log (at_place p (broken_note (record { up = up; times = times })) l.log) l) ≡ on_broken up times p l
@@ -141,7 +143,7 @@ broken_at up times zero l h = absurd (not-suc-le-zero h)
 broken_at up times (suc i) l h = refl
 
 waits_represented : {t : Tables} {s : List ℕ} {r : Registers} (up : Bool) (times : ℕ) (l : LogState) → Represents t s r [] l
-    → Represents t s (half_waits r (half.Waits up times)) [] (set_line (with_half (some (record { up = up; times = times })) l.line) l)
+    → Represents t s (half_waits r (Some (record { up = up; times = times }))) [] (set_line (with_half (some (record { up = up; times = times })) l.line) l)
 waits_represented up times l h =
     record {
       stored = h.stored;
@@ -170,7 +172,7 @@ module _ {t : Tables} {s : List ℕ} {r : Registers} (room : Room t r.counts (le
       }
 
   pub broken_simulates : 0 < place_of r → (s' : List ℕ) → s' ≡ broken_store s (t.notes + note_row_width * (place_of r - 1)) up times
-      → Simulates t s r s' (half_waits r (half.Waits (not up) times)) 0 0 0 0 (λ l. on_token l (token.broken up times))
+      → Simulates t s r s' (half_waits r (Some (record { up = (not up); times = times }))) 0 0 0 0 (λ l. on_token l (token.broken up times))
   unfolding on_token
   broken_simulates is s' e =
       let place = t.notes + note_row_width * (place_of r - 1) in
@@ -181,7 +183,7 @@ module _ {t : Tables} {s : List ℕ} {r : Registers} (room : Room t r.counts (le
         holds =
             λ l st h.
             let x = get_or l.log (place_of r - 1) some_note in
-            subst (Represents t s' (half_waits r (half.Waits (not up) times)) []) (broken_at up times (last_place l) l (omega (arith, is, place_is l st h)))
+            subst (Represents t s' (half_waits r (Some (record { up = (not up); times = times }))) []) (broken_at up times (last_place l) l (omega (arith, is, place_is l st h)))
             (waits_represented (not up) times (set_log (at_place (last_place l) (broken_note (record { up = up; times = times })) l.log) l)
             (last_represented room s' value_at bytes e (omega arith) is l st h (broken_note (record { up = up; times = times })) (broken_pitches (record { up = up; times = times }))
             ((λ i. splice (note_row x) value_at (value_bytes (broken_value up times (value_is is l st h i) (dots_is is l st h i)))) ∙ broken_row_lem up times x)));
@@ -280,65 +282,47 @@ module _ {t : Tables} {s : List ℕ} {r : Registers} (room : Room t r.counts (le
             ((λ i. splice (note_row x) beam_at (again_beam (run i) (k i) (v i))) ∙ again_row l.line.run x)));
       }
 
--- FROM THE CODE'S VALUES: the place read, and the registers given back
-module _ {t : Tables} {s : List ℕ} {r : Registers} (room : Room t r.counts (length s) 0 0 0 0) (a : RepresentedInLine t s r) (p : ℕ) (ep : p ≡ place_of r) where
-  -- there is room for its row
-  pub row_inside : t.notes + note_row_width * p ≤ length s
-  row_inside = omega (arith, ep, place_small a, room.for_notes, room.for_pitches, room.for_scopes, room.ends)
+-- FROM THE CODE'S VALUES: the row read
+module _ (r : Registers) where
+  pub row_none : None ≡ row_of r → place_of r ≡ 0
+  unfolding row_of
+  row_none e = by_test (eqb (place_of r) 0) (λ y. eqb-true (place_of r) 0 y) (λ n. absurd (both_true true refl (ap is_none (e ∙ cond_false _ _ _ n))))
 
-  some_place : (p ≡ 0 → ⊥) → 0 < place_of r
-  some_place n = omega (arith, ep)
+  pub row_some : (i : ℕ) → Some i ≡ row_of r → (0 < place_of r) × (i ≡ place_of r - 1)
+  unfolding row_of
+  row_some i e =
+      by_test (eqb (place_of r) 0) (λ y. absurd (both_true true refl (ap is_some (e ∙ cond_true _ _ _ y))))
+      (λ n. let f : Some i ≡ Some (place_of r - 1) = e ∙ cond_false _ _ _ n in (omega (arith, eqb-false (place_of r) 0 n), ap (λ (o : code.Option ℕ). unwrap_or o 0) f))
 
-  -- of the store and registers given back
-  given : {s₀ s' : List ℕ} {x₀ x : Registers} (f : LogState → LogState) → s' ≡ s₀ → x ≡ x₀ → Simulates t s r s₀ x₀ 0 0 0 0 f → Simulates t s r s' x 0 0 0 0 f
-  given {s₀} {s'} {x₀} {x} f e ex h = subst (λ (y : Registers). Simulates t s r s' y 0 0 0 0 f) (sym ex) (subst (λ (q : List ℕ). Simulates t s r q x₀ 0 0 0 0 f) (sym e) h)
+module _ {t : Tables} {s : List ℕ} {r : Registers} (room : Room t r.counts (length s) 0 0 0 0) (a : RepresentedInLine t s r) (i : ℕ) (e : Some i ≡ row_of r) where
+  -- there is room for it
+  pub row_inside : t.notes + note_row_width * i + note_row_width ≤ length s
+  row_inside = let q = row_some r i e in omega (arith, q.0, q.1, place_small a, room.for_notes, room.for_pitches, room.for_scopes, room.ends)
 
-  pub broken_by : (up : Bool) (times : ℕ) (s' : List ℕ) → s' ≡ broken_in s t.notes p up times → (x : Registers) → x ≡ half_waits r (half_after (not (eqb p 0)) r.waiting.half (not up) times)
+  -- of the registers given back
+  given : {s' : List ℕ} {x₀ x : Registers} (f : LogState → LogState) → x ≡ x₀ → Simulates t s r s' x₀ 0 0 0 0 f → Simulates t s r s' x 0 0 0 0 f
+  given {s'} f ex h = subst (λ (y : Registers). Simulates t s r s' y 0 0 0 0 f) (sym ex) h
+
+  place : ℕ → ℕ
+  place j = t.notes + note_row_width * j
+
+  pub broken_by : (up : Bool) (times : ℕ) (s' : List ℕ) → s' ≡ broken_store s (t.notes + note_row_width * i) up times → (x : Registers) → x ≡ half_waits r (Some (record { up = not up; times = times }))
       → Simulates t s r s' x 0 0 0 0 (λ l. on_token l (token.broken up times))
-  unfolding broken_in half_after
-  broken_by up times s' e x ex =
-      by_test (eqb p 0)
-      (λ y. given (λ l. on_token l (token.broken up times)) (rw y at e) (rw y at ex) (broken_none room a up times (sym ep ∙ eqb-true p 0 y)))
-      (λ n.
-      given (λ l. on_token l (token.broken up times)) (rw n at e) (rw n at ex)
-      (broken_simulates room a up times (some_place (eqb-false p 0 n)) (broken_store s (t.notes + note_row_width * (p - 1)) up times) (ap (λ (q : ℕ). broken_store s (t.notes + note_row_width * (q - 1)) up times) ep)))
+  unfolding place
+  broken_by up times s' d x ex =
+      let q = row_some r i e in
+      given (λ l. on_token l (token.broken up times)) ex (broken_simulates room a up times q.0 s' (d ∙ ap (λ (j : ℕ). broken_store s (place j) up times) q.1))
 
-  pub nothing_by : (s' : List ℕ) → s' ≡ again_in s t.notes p r.line.run → (run : ℕ) → run ≡ again_run s t.notes p r.line.run → (x : Registers) → x ≡ runs r run
+  pub nothing_by : (s' : List ℕ) → s' ≡ again_in s (t.notes + note_row_width * i) r.line.run → (run : ℕ) → run ≡ again_run s (t.notes + note_row_width * i) r.line.run → (x : Registers) → x ≡ runs r run
       → Simulates t s r s' x 0 0 0 0 (λ l. on_token l token.nothing)
-  unfolding again_in again_run
-  nothing_by s' e run er x ex =
-      by_test (eqb p 0)
-      (λ y. given (λ l. on_token l token.nothing) (rw y at e) (ex ∙ ap (runs r) (rw y at er)) (nothing_none room a (sym ep ∙ eqb-true p 0 y)))
-      (λ n.
-      let place : ℕ → ℕ = λ q. t.notes + note_row_width * (q - 1) in
-      given (λ l. on_token l token.nothing) (rw n at e) (ex ∙ ap (runs r) (rw n at er))
-      (nothing_simulates room a (some_place (eqb-false p 0 n)) _ _ (ap (λ (q : ℕ). get_or s (place q) 0) ep) (ap (λ (q : ℕ). get_or s (place q + 1) 0) ep)
-      (again_store s (place p) r.line.run (get_or s (place p) 0) (get_or s (place p + 1) 0)) (ap (λ (q : ℕ). again_store s (place q) r.line.run (get_or s (place p) 0) (get_or s (place p + 1) 0)) ep)))
+  unfolding place
+  nothing_by s' d run er x ex =
+      let q = row_some r i e in
+      given (λ l. on_token l token.nothing) (ex ∙ ap (runs r) er)
+      (nothing_simulates room a q.0 _ _ (ap (λ (j : ℕ). get_or s (place j) 0) q.1) (ap (λ (j : ℕ). get_or s (place j + value_at) 0) q.1) s'
+      (d ∙ ap (λ (j : ℕ). again_store s (place j) r.line.run (get_or s (place i) 0) (get_or s (place i + value_at) 0)) q.1))
 
--- FROM THE TESTS of the small functions
-module _ (s : List ℕ) (at p : ℕ) where
-  pub broken_none_at : p ≡ 0 → (up : Bool) (times : ℕ) → s ≡ broken_in s at p up times
-  unfolding broken_in
-  broken_none_at z up times = rw (eq-eqb p 0 z)
-
-  pub broken_some_at : (p ≡ 0 → ⊥) → (up : Bool) (times : ℕ) (s' : List ℕ) → s' ≡ broken_store s (at + note_row_width * (p - 1)) up times → s' ≡ broken_in s at p up times
-  unfolding broken_in
-  broken_some_at n up times s' e = rw (ne_eqb p 0 n) e
-
-  pub again_none_at : p ≡ 0 → (run : ℕ) → s ≡ again_in s at p run
-  unfolding again_in
-  again_none_at z run = rw (eq-eqb p 0 z)
-
-  pub run_none_at : p ≡ 0 → (run : ℕ) → 0 ≡ again_run s at p run
-  unfolding again_run
-  run_none_at z run = rw (eq-eqb p 0 z)
-
-  module _ (n : p ≡ 0 → ⊥) (run : ℕ) (w : Written)
-      (e : w ≡ record { kind = get_or s (at + note_row_width * (p - 1)) 0; value = get_or s (at + note_row_width * (p - 1) + value_at) 0; dots = get_or s (at + note_row_width * (p - 1) + dots_at) 0 }) where
-    pub again_some_at : (s' : List ℕ) → s' ≡ again_store s (at + note_row_width * (p - 1)) run w.kind w.value → s' ≡ again_in s at p run
-    unfolding again_in
-    again_some_at s' d = rw (ne_eqb p 0 n) (d ∙ (λ i. again_store s (at + note_row_width * (p - 1)) run (e i).kind (e i).value))
-
-    pub run_some_at : (m : ℕ) → m ≡ run_again run w.kind w.value → m ≡ again_run s at p run
-    unfolding again_run
-    run_some_at m d = rw (ne_eqb p 0 n) (d ∙ (λ i. run_again run (e i).kind (e i).value))
+-- where no row is, no beam runs
+pub no_run : {t : Tables} {s : List ℕ} {r : Registers} → Room t r.counts (length s) 0 0 0 0 → RepresentedInLine t s r → None ≡ row_of r → (x : Registers) → x ≡ runs r 0
+    → Simulates t s r s x 0 0 0 0 (λ l. on_token l token.nothing)
+no_run {t} {s} {r} room a e x ex = subst (λ (y : Registers). Simulates t s r s y 0 0 0 0 (λ l. on_token l token.nothing)) (sym ex) (nothing_none room a (row_none r e))

@@ -1,14 +1,19 @@
 -- `part_rhythm::on_broken` meets its contract.
-use Rattle.part_rhythm.proofs.Rhythm.{overlay_small, row_inside, broken_by}
+use Rattle.part_rhythm.proofs.Rhythm.{overlay_small, row_none, row_inside, broken_none, broken_by}
 use Rattle.part_rhythm.proofs.on_broken.Goals as goal
 
-pub last_place-place-requires : goal.last_place-place-requires
-last_place-place-requires c = overlay_small c.requires.1
+pub last_row-requires : goal.last_row-requires
+last_row-requires c = overlay_small c.requires.1
 
-pub break_at-requires : goal.break_at-requires
-break_at-requires c = row_inside c.requires.0 c.requires.1 _ c.last_place-place.ensures
-
-pub returns : goal.returns
-returns c =
+pub returns-in-None : goal.returns-in-None
+returns-in-None c =
     let a = c.args in
-    broken_by c.requires.0 c.requires.1 _ c.last_place-place.ensures a.up a.times _ c.break_at.ensures _ c.wait_for.ensures
+    broken_none c.requires.0 c.requires.1 a.up a.times (row_none a.r c.in-None.ensures)
+
+pub break_note-requires : goal.break_note-requires
+break_note-requires c = row_inside c.requires.0 c.requires.1 _ c.in-Some.ensures
+
+pub returns-in-Some : goal.returns-in-Some
+returns-in-Some c =
+    let a = c.args in
+    broken_by c.requires.0 c.requires.1 _ c.in-Some.ensures a.up a.times _ c.break_note.ensures _ c.wait_for.ensures

@@ -1,9 +1,17 @@
 -- `part_rhythm::run_again` meets its contract.
-use Rattle.part_rhythm.proofs.Rhythm.{again_none_at, run_none_at, again_some_at, run_some_at}
+use Prim.Native.Nat.{◌+◌, ◌*◌}
+use mathlib.Core.Path.{◌∙◌}
+use Rattle.part_rows.specs.Encoded.{note_row_width}
+use Rattle.part_registers.specs.Notes.{run_again}
+use Rattle.part_rhythm.specs.Rhythm.{again_store}
 use Rattle.part_rhythm.proofs.run_again.Goals as goal
 
-pub returns-then-place-eq0 : goal.returns-then-place-eq0
-returns-then-place-eq0 c = record { value = run_none_at _ _ _ c.if-place-eq0.true _; store_after = again_none_at _ _ _ c.if-place-eq0.true _ }
-
 pub returns : goal.returns
-returns c = record { value = run_some_at _ _ _ c.if-place-eq0.false _ _ c.get_written-w.ensures _ c.update_abc_beam_run.ensures; store_after = again_some_at _ _ _ c.if-place-eq0.false _ _ c.get_written-w.ensures _ c.beam_again.ensures }
+returns c =
+    let a = c.args in
+    let place = a.at + note_row_width * a.i in
+    let w = c.get_written-w.ensures in
+    record {
+      value = c.update_abc_beam_run.ensures ∙ (λ j. run_again a.run (w j).kind (w j).value);
+      store_after = c.beam_again.ensures ∙ (λ j. again_store a.store.now place a.run (w j).kind (w j).value);
+    }
