@@ -1,37 +1,49 @@
--- `field_values::parse_inline_field` meets its contract: the colon, then the names one after the other.
-use Prim.Native.Nat.{◌+◌, ◌≤◌, ◌<◌}
-use mathlib.Core.Path.{sym, ap, ◌∙◌}
+-- `field_values::parse_inline_field` meets its contract: the colon, then the name.
+use mathlib.Core.Path.{◌≡◌, sym, ap, ◌∙◌}
 use native.Mathlib.Omega.{arith}
+use Rattle.std.proofs.lemmas.List.{take_rest}
+use Rattle.standard.specs.Bytes.{first}
 use Rattle.reader.specs.Token.{meter}
-use Rattle.field_values.proofs.FieldLaws.{field_too_short, field_no_colon, field_unit, field_meter, field_key, field_other}
+use Rattle.reader.specs.Inline.{unit_token, key_token, token_unless}
+use Rattle.field_values.proofs.FieldLaws.{field_no_colon, field_unit, field_meter, field_key, field_other, key_refused}
 use Rattle.field_values.proofs.parse_inline_field.Goals as goal
 
-pub returns-then-b-a-lt2 : goal.returns-then-b-a-lt2
-returns-then-b-a-lt2 c =
-    let h : c.args.b ≤ c.args.a + 1 = omega arith in
-    sym (field_too_short _ _ _ _ h)
+pub returns-then-byte_at-ne58 : goal.returns-then-byte_at-ne58
+returns-then-byte_at-ne58 c = sym (field_no_colon _ _ (λ e. c.if-byte_at-ne58.true (c.byte_at.ensures ∙ e)))
 
-pub returns-then-line-a-ne58 : goal.returns-then-line-a-ne58
-returns-then-line-a-ne58 c =
-    let h : c.args.a + 1 < c.args.b = omega arith in
-    sym (field_no_colon _ _ _ _ h c.if-line-a-ne58.true)
+pub returns-in-Some : goal.returns-in-Some
+unfolding unit_token
+returns-in-Some c =
+    let colon = sym c.byte_at.ensures ∙ c.if-byte_at-ne58.false in
+    ap unit_token (rw take_rest at c.in-Some.ensures) ∙ sym (field_unit c.args.edition c.args.field.now colon c.in-76.is)
 
-pub returns-then-name-eq76 : goal.returns-then-name-eq76
-returns-then-name-eq76 c =
-    let h : c.args.a + 1 < c.args.b = omega arith in
-    c.inline_unit.ensures ∙ sym (field_unit _ _ _ _ h c.if-line-a-ne58.false c.if-name-eq76.true)
+pub returns-in-None : goal.returns-in-None
+unfolding unit_token
+returns-in-None c =
+    let colon = sym c.byte_at.ensures ∙ c.if-byte_at-ne58.false in
+    ap unit_token (rw take_rest at c.in-None.ensures) ∙ sym (field_unit c.args.edition c.args.field.now colon c.in-76.is)
 
-pub returns-then-name-eq77 : goal.returns-then-name-eq77
-returns-then-name-eq77 c =
-    let h : c.args.a + 1 < c.args.b = omega arith in
-    ap meter c.parse_meter.ensures ∙ sym (field_meter _ _ _ _ h c.if-line-a-ne58.false c.if-name-eq76.false c.if-name-eq77.true)
+pub returns-in-77 : goal.returns-in-77
+returns-in-77 c =
+    let colon = sym c.byte_at.ensures ∙ c.if-byte_at-ne58.false in
+    ap meter (rw take_rest at c.parse_meter.ensures) ∙ sym (field_meter c.args.edition c.args.field.now colon c.in-77.is)
 
-pub returns-then-name-eq75 : goal.returns-then-name-eq75
-returns-then-name-eq75 c =
-    let h : c.args.a + 1 < c.args.b = omega arith in
-    c.inline_key.ensures ∙ sym (field_key _ _ _ _ h c.if-line-a-ne58.false c.if-name-eq76.false c.if-name-eq77.false c.if-name-eq75.true)
+pub returns-in_err-read_key-in-75 : goal.returns-in_err-read_key-in-75
+returns-in_err-read_key-in-75 c =
+    let colon = sym c.byte_at.ensures ∙ c.if-byte_at-ne58.false in
+    key_refused _ _ _ _ c.from_residual.ensures (rw take_rest at c.in_err-read_key-in-75.ensures) ∙ sym (field_key c.args.edition c.args.field.now colon c.in-75.is)
 
-pub returns : goal.returns
-returns c =
-    let h : c.args.a + 1 < c.args.b = omega arith in
-    sym (field_other _ _ _ _ h c.if-line-a-ne58.false c.if-name-eq76.false c.if-name-eq77.false c.if-name-eq75.false)
+pub returns-in_ok-read_key-in-75 : goal.returns-in_ok-read_key-in-75
+unfolding key_token token_unless
+returns-in_ok-read_key-in-75 c =
+    let colon = sym c.byte_at.ensures ∙ c.if-byte_at-ne58.false in
+    let k = rw take_rest at c.in_ok-read_key-in-75.ensures in
+    rw (field_key c.args.edition c.args.field.now colon c.in-75.is, key_token, k.0, k.1)
+
+pub returns-in_default : goal.returns-in_default
+returns-in_default c =
+    let colon = sym c.byte_at.ensures ∙ c.if-byte_at-ne58.false in
+    let no_unit : first c.args.field.now ≡ 76 → ⊥ = λ e. omega (arith, e) in
+    let no_meter : first c.args.field.now ≡ 77 → ⊥ = λ e. omega (arith, e) in
+    let no_key : first c.args.field.now ≡ 75 → ⊥ = λ e. omega (arith, e) in
+    sym (field_other c.args.edition c.args.field.now colon no_unit no_meter no_key)

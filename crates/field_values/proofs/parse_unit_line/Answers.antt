@@ -1,17 +1,15 @@
--- `field_values::parse_unit_line` meets its contract, by the case.
-use mathlib.Core.Path.{sym, ◌∙◌}
-use Rattle.reader.specs.Fields.{unit_of}
-use Rattle.field_values.proofs.FieldLaws.{line_absent, line_bad, line_set}
+-- `field_values::parse_unit_line` meets its contract, by what stands behind the slash.
+use Prim.Native.Nat.{ℕ}
+use mathlib.Core.Path.{sym, ap, ◌∙◌}
+use mathlib.Core.Option.{some}
+use Rattle.reader.specs.Fields.{unit_of, line_unit}
+use Rattle.field_values.proofs.FieldLaws.{eight}
 use Rattle.field_values.proofs.parse_unit_line.Goals as goal
 
-pub returns-in-Absent : goal.returns-in-Absent
-unfolding unit_of
-returns-in-Absent c = sym (line_absent _ (sym c.unit_text-t.ensures ∙ c.in-Absent.is))
+pub returns-in_err-text : goal.returns-in_err-text
+unfolding unit_of line_unit
+returns-in_err-text c = rw c.from_residual.ensures (sym (ap line_unit c.in_err-text.ensures))
 
-pub returns-in-Bad : goal.returns-in-Bad
-unfolding unit_of
-returns-in-Bad c = sym (line_bad _ (sym c.unit_text-t.ensures ∙ c.in-Bad.is))
-
-pub returns-in-Number : goal.returns-in-Number
-unfolding unit_of
-returns-in-Number c = sym (line_set _ _ (sym c.unit_text-t.ensures ∙ c.in-Number.is))
+pub returns : goal.returns
+unfolding unit_of line_unit
+returns c = ap (λ (n : ℕ). some n) (c.unwrap_or.ensures ∙ eight _ _ c.unit_number.ensures) ∙ sym (ap line_unit c.in_ok-text.ensures)
