@@ -17,6 +17,7 @@ pub enum NumberError {
 }
 
 // One digit more, up to 64 bits.
+#[tactic(auto, unfolding(crate::specs::Digits::with_digit))]
 fn with_digit(number: Result<u64, NumberError>, b: u8) -> Result<u64, NumberError>
     requires { is_digit b ≡ true }
     ensures { result ≡ with_digit number b }
@@ -25,15 +26,10 @@ fn with_digit(number: Result<u64, NumberError>, b: u8) -> Result<u64, NumberErro
     match number {
         Err(NumberError::Empty) => Ok(digit),
         Err(NumberError::TooLarge) => number,
-        Ok(n) => {
-            if 1844674407370955161 < n {
-                return Err(NumberError::TooLarge);
-            }
-            if 18446744073709551615 - digit < n * 10 {
-                return Err(NumberError::TooLarge);
-            }
-            Ok(n * 10 + digit)
-        }
+        Ok(n) => n
+            .checked_mul(10)
+            .and_then(|tens| tens.checked_add(digit))
+            .ok_or(NumberError::TooLarge),
     }
 }
 
@@ -68,6 +64,7 @@ fn at_most(number: Result<u64, NumberError>, top: u64) -> Result<u64, NumberErro
 }
 
 // The digits at `at` as a number of up to `top`, and the position after them.
+#[tactic(auto, using(crate::proofs::Numbers::at_most_at))]
 pub fn read_number(line: &[u8], at: usize, top: u64) -> Read<Result<u64, NumberError>>
     ensures { result ≡ number_at top line.now at }
 {
@@ -79,6 +76,7 @@ pub fn read_number(line: &[u8], at: usize, top: u64) -> Read<Result<u64, NumberE
 }
 
 // The number of up to `top` that the text is, all of it digits.
+#[tactic(auto, using(crate::proofs::Numbers::whole_short, crate::proofs::Numbers::whole_all))]
 fn whole_number(text: &[u8], top: u64) -> Option<u64>
     ensures { option result ≡ digits top text.now }
 {
@@ -90,6 +88,7 @@ fn whole_number(text: &[u8], top: u64) -> Option<u64>
 }
 
 // The same with a plus sign allowed before it, as Rust's `parse` takes one.
+#[tactic(auto, using(crate::proofs::Numbers::numeral_plus, crate::proofs::Numbers::numeral_plain, crate::proofs::Numbers::plus_within, crate::proofs::Numbers::plus_rest))]
 pub fn parse_number(text: &[u8], top: u64) -> Option<u64>
     ensures { option result ≡ numeral top text.now }
 {
