@@ -1,7 +1,7 @@
 -- `part_chords::push_pitches` meets its contract. The loop's invariant is `Pushing`.
 use mathlib.Core.Path.{sym, ◌∙◌}
 use native.Mathlib.Omega.{arith}
-use Rattle.part_chords.proofs.Pushing.{pushing_start, pushing_end, meets, turn, turn_room, turn_able, turn_low, turn_done}
+use Rattle.part_chords.proofs.Pushing.{pushing_start, pushing_end, not_refused, not_over, meets, turn, turn_room, turn_able, turn_low, turn_done}
 use Rattle.part_chords.proofs.push_pitches.Goals as goal
 
 pub loop-n-init : goal.loop-n-init
@@ -13,32 +13,28 @@ pub shape_of-store-in_default : goal.shape_of-store-in_default
 shape_of-store-in_default c = c.loop-n.invariant.pushed.only.same_length
 
 pub returns-in_default : goal.returns-in_default
-returns-in_default c =
-    meets c.requires.2 c.loop-n.invariant c.loop-n-test.true
-    (λ q next e. absurd (c.in_default.not-Pitch q next (c.next_chord_pitch.ensures ∙ e)))
+returns-in_default c = meets c.requires.2 c.loop-n.invariant (omega arith) (λ q next e. absurd (not_refused c.in_default.is (c.next_chord_pitch.ensures ∙ e)))
+
+pub returns-in_default-met : goal.returns-in_default-met
+returns-in_default-met c =
+    meets c.requires.2 c.loop-n.invariant (omega arith) (λ q next e. absurd (not_over (rw c.in_default-met.is at c.in-Ok.is) (c.next_chord_pitch.ensures ∙ e)))
 
 pub push_pitch-x-requires : goal.push_pitch-x-requires
 push_pitch-x-requires c =
     let pre = c.requires in
     let p = c.loop-n.invariant in
-    let u = turn pre.2 p c.loop-n-test.true (sym c.next_chord_pitch.ensures ∙ c.in-Pitch.is) in
+    let u = turn pre.2 p (omega arith) {q = c.in-Some.pitch.value} {next = c.in-Some.pitch.next} (rw c.in-Some.is at (sym c.next_chord_pitch.ensures ∙ c.in-Ok.is)) in
     (turn_room pre.2 p u pre.0, turn_able pre.2 p u pre.1, turn_low pre.2 p u)
-
-pub overflow_add-n : goal.overflow_add-n
-overflow_add-n c = let pre = c.requires in omega (arith, c.loop-n-test.true, pre.2.count_is, pre.0.for_pitches, pre.0.for_scopes, pre.0.small)
-
-pub loop-n-smaller : goal.loop-n-smaller
-loop-n-smaller c = omega (arith, c.loop-n-test.true)
 
 pub loop-n-preserved : goal.loop-n-preserved
 loop-n-preserved c =
     let pre = c.requires in
     let p = c.loop-n.invariant in
-    let u = turn pre.2 p c.loop-n-test.true (sym c.next_chord_pitch.ensures ∙ c.in-Pitch.is) in
+    let u = turn pre.2 p (omega arith) {q = c.in-Some.pitch.value} {next = c.in-Some.pitch.next} (rw c.in-Some.is at (sym c.next_chord_pitch.ensures ∙ c.in-Ok.is)) in
     turn_done pre.2 p u c.push_pitch-x.ensures
 
 pub shape_of-store : goal.shape_of-store
 shape_of-store c = c.loop-n.invariant.pushed.only.same_length
 
 pub returns : goal.returns
-returns c = pushing_end c.requires.2 c.loop-n.invariant c.loop-n-test.false
+returns c = pushing_end c.requires.2 c.loop-n.invariant (omega arith)
