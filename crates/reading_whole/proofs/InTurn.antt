@@ -6,11 +6,11 @@ use mathlib.Core.List.{List}
 use native.Mathlib.Omega.{arith}
 use lib.ListN.{length, drop}
 use borrow.Author.Tests.{le-leb, lt-leb}
+use Rattle.std.specs.Prelude.{Some, None}
 use Rattle.laws.specs.Bytes.{u32_at}
 use Rattle.reading_records.specs.Widths.{first_part}
 use Rattle.reading_whole.specs.Whole.{is_zeros, whole_from, is_whole}
 use Rattle.reading_whole.specs.Given.{part_for}
-use Rattle.reading_whole.specs.declared.Part.TheVariants.{Ends, Broken}
 use Rattle.reading_whole.proofs.Parts.{part_inside}
 use Rattle.reading_whole.proofs.Places.{part_ends, part_none}
 
@@ -25,7 +25,7 @@ unfolding is_whole
 whole_start s n e h = let k : n - 0 ≡ u32_at s 0 = omega arith in rw (le-leb first_part (length s) h) (ap (whole_from s first_part) k)
 
 -- a part more
-pub whole_next : (s : List ℕ) (at n i e : ℕ) → i < n → part_for s at ≡ Ends e → (e ≤ length s) × (whole_from s e (n - (i + 1)) ≡ whole_from s at (n - i))
+pub whole_next : (s : List ℕ) (at n i e : ℕ) → i < n → part_for s at ≡ Some e → (e ≤ length s) × (whole_from s e (n - (i + 1)) ≡ whole_from s at (n - i))
 unfolding whole_from
 whole_next s at n i e h p =
     let q = part_ends s at e p in
@@ -33,7 +33,7 @@ whole_next s at n i e h p =
     (rw q.1 (part_inside s at q.0), rw (k, q.0) (ap (λ (j : ℕ). whole_from s j (n - (i + 1))) q.1))
 
 -- one that is none
-pub whole_broken : (s : List ℕ) (at n i : ℕ) → i < n → part_for s at ≡ Broken → false ≡ whole_from s at (n - i)
+pub whole_broken : (s : List ℕ) (at n i : ℕ) → i < n → part_for s at ≡ None → false ≡ whole_from s at (n - i)
 unfolding whole_from
 whole_broken s at n i h p = let k : n - i ≡ suc (n - (i + 1)) = omega arith in rw (k, part_none s at p)
 

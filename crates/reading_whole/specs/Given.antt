@@ -1,16 +1,12 @@
--- What the code answers on the way: the sections' tests where their counts are given, and its own types.
-use Rattle.std.specs.Prelude.{ℕ, ◌+◌, Bool, cond, ◌&&◌, List, leb, eqb, length}
+-- What the code answers on the way: the sections' tests where their counts are given, and what is found only in some bytes.
+use Rattle.std.specs.Prelude.{ℕ, ◌+◌, Bool, cond, ◌&&◌, List, Option, Some, None, leb, eqb, length}
 use Rattle.laws.specs.Bytes.{u32_at}
 use Rattle.reader.specs.Records.{measure_width, note_width, pitch_width, lyric_width}
 use Rattle.reading_records.specs.Fields.{pitches_field, text_field}
 use Rattle.reading_sections.specs.Sections.{behind, notes_at, pitches_at, lyrics_at, text_at, part_end, record_at, notes_in}
 use Rattle.reading_whole.specs.Whole.{every, total, is_measure, is_note, is_pitch, is_lyric, voltas, is_closed, is_part}
-use Rattle.reading_whole.specs.declared.Found as found
-use Rattle.reading_whole.specs.declared.Found.TheVariants as found_as
-use Rattle.reading_whole.specs.declared.Layout as layout
-use Rattle.reading_whole.specs.declared.Layout.TheVariants as layout-as
-use Rattle.reading_whole.specs.declared.Part as part
-use Rattle.reading_whole.specs.declared.Part.TheVariants as part-as
+use Rattle.reading_sections.specs.declared.Section.{Section}
+use Rattle.reading_whole.specs.declared.Layout.{Layout}
 
 -- THE SECTIONS at `at`, of n records
 -- measures with k notes
@@ -36,17 +32,23 @@ lyrics_fine s at n m k =
     && eqb (total (λ i. u32_at s (record_at lyric_width at i + text_field)) n) k
 
 -- A SECTION of records of w bytes, if it lies inside the bytes
-unfoldable pub section_for : List ℕ → ℕ → ℕ → found.Found
-section_for s w at = cond (leb (behind s w at) (length s)) (found_as.Inside (u32_at s at) (behind s w at)) found_as.Beyond
+unfoldable pub section_for : List ℕ → ℕ → ℕ → Option Section
+section_for s w at = cond (leb (behind s w at) (length s)) (Some (record { count = u32_at s at; end = behind s w at })) None
 
--- THE SECTIONS OF A PART, if they lie inside the bytes
-unfoldable pub layout_for : List ℕ → ℕ → layout.Layout
-layout_for s at =
-    cond
-    (leb (part_end s at) (length s))
-    (layout-as.Inside (u32_at s at) (notes_at s at) (u32_at s (notes_at s at)) (pitches_at s at) (u32_at s (pitches_at s at)) (lyrics_at s at) (u32_at s (lyrics_at s at)) (u32_at s (text_at s at)) (part_end s at))
-    layout-as.Beyond
+-- THE SECTIONS OF A PART, whether they lie inside the bytes or not
+unfoldable pub layout_at : List ℕ → ℕ → Layout
+layout_at s at = record {
+  measures = record { count = u32_at s at; end = notes_at s at };
+  notes = record { count = u32_at s (notes_at s at); end = pitches_at s at };
+  pitches = record { count = u32_at s (pitches_at s at); end = lyrics_at s at };
+  lyrics = record { count = u32_at s (lyrics_at s at); end = text_at s at };
+  text = record { count = u32_at s (text_at s at); end = part_end s at };
+}
 
--- A PART, if it is whole
-unfoldable pub part_for : List ℕ → ℕ → part.Part
-part_for s at = cond (is_part s at) (part-as.Ends (part_end s at)) part-as.Broken
+-- if they do
+unfoldable pub layout_for : List ℕ → ℕ → Option Layout
+layout_for s at = cond (leb (part_end s at) (length s)) (Some (layout_at s at)) None
+
+-- where A PART ends, if it is whole
+unfoldable pub part_for : List ℕ → ℕ → Option ℕ
+part_for s at = cond (is_part s at) (Some (part_end s at)) None

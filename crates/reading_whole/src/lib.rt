@@ -1,13 +1,14 @@
 // Whether bytes are a whole reading, and zeros behind it: in one pass, part after part.
 #![tactic(auto)]
 
-ghost use Rattle.std.specs.Prelude.{◌≡◌, ◌≤◌, length, drop};
+ghost use Rattle.std.specs.Prelude.{◌≡◌, ◌≤◌, length};
 ghost use Rattle.reader.specs.Records.{measure_width, note_width, pitch_width, lyric_width};
 ghost use Rattle.reading_sections.specs.Sections.{record_at};
 ghost use Rattle.reading_whole.specs.Whole.{is_zeros, is_whole};
 ghost use Rattle.reading_whole.specs.Given.{measures_fine, notes_fine, pitches_fine, lyrics_fine, section_for, layout_for, part_for};
 
 use reading_records::{COUNT, FIRST_PART, LYRIC, MEASURE, NOTE, PITCH};
+use reading_sections::Section;
 
 // THE SECTIONS. A count is taken from what is left of the section's that it adds up to, so no sum is made that could pass 64 bits.
 
@@ -19,8 +20,7 @@ fn are_measures(reading: &[u8], at: usize, count: usize, notes: usize) -> bool
     let mut fine = true;
     let mut left = notes;
     let mut volta = reading_fields::Volta::Outside;
-    let mut i = 0;
-    while i < count {
+    for i in 0..count {
         let here = at + COUNT + MEASURE * i;
         let own = reading_fields::notes_in(reading, here);
         if left < own {
@@ -29,7 +29,6 @@ fn are_measures(reading: &[u8], at: usize, count: usize, notes: usize) -> bool
         left -= own;
         fine &= reading_fields::measure_is_fine(reading, here);
         volta = reading_fields::volta_step(volta, reading[here + reading_records::VOLTA]);
-        i += 1;
     }
     fine & reading_fields::is_closed(volta) & (left == 0)
 }
@@ -41,8 +40,7 @@ fn are_notes(reading: &[u8], at: usize, count: usize, pitches: usize) -> bool
 {
     let mut fine = true;
     let mut left = pitches;
-    let mut i = 0;
-    while i < count {
+    for i in 0..count {
         let here = at + COUNT + NOTE * i;
         let own = store::get_u32(reading, here + reading_records::PITCHES) as usize;
         if left < own {
@@ -50,7 +48,6 @@ fn are_notes(reading: &[u8], at: usize, count: usize, pitches: usize) -> bool
         }
         left -= own;
         fine &= reading_fields::note_is_fine(reading, here);
-        i += 1;
     }
     fine & (left == 0)
 }
@@ -61,11 +58,9 @@ fn are_pitches(reading: &[u8], at: usize, count: usize) -> bool
     ensures { result ≡ pitches_fine reading.now at count }
 {
     let mut fine = true;
-    let mut i = 0;
-    while i < count {
+    for i in 0..count {
         let here = at + COUNT + PITCH * i;
         fine &= reading[here + reading_records::STEP] <= 6;
-        i += 1;
     }
     fine
 }
@@ -77,8 +72,7 @@ fn are_lyrics(reading: &[u8], at: usize, count: usize, notes: usize, text: usize
 {
     let mut fine = true;
     let mut left = text;
-    let mut i = 0;
-    while i < count {
+    for i in 0..count {
         let here = at + COUNT + LYRIC * i;
         let own = store::get_u32(reading, here + reading_records::TEXT) as usize;
         if left < own {
@@ -86,148 +80,87 @@ fn are_lyrics(reading: &[u8], at: usize, count: usize, notes: usize, text: usize
         }
         left -= own;
         fine &= reading_fields::lyric_is_fine(reading, here, notes);
-        i += 1;
     }
     fine & (left == 0)
 }
 
 // A PART
 
-// A section's count and end; or that it reaches beyond the bytes.
-#[derive(Clone, Copy)]
-enum Found {
-    Inside { count: usize, end: usize },
-    Beyond,
-}
-
-fn section_if_inside(reading: &[u8], width: usize, at: usize) -> Found
+// The section of records of `width` bytes at `at`, if it lies inside the bytes.
+fn section_if_inside(reading: &[u8], width: usize, at: usize) -> Option<Section>
     requires { (at ≤ length reading.now) × (width ≤ measure_width) }
     ensures { result ≡ section_for reading.now width at }
 {
     let room = reading.len() - at;
     if room < COUNT {
-        return Found::Beyond;
+        return None;
     }
     let count = store::get_u32(reading, at) as usize;
     if room - COUNT < width * count {
-        return Found::Beyond;
+        return None;
     }
-    Found::Inside {
+    Some(Section {
         count,
         end: at + COUNT + width * count,
-    }
+    })
 }
 
-// How many records a part's sections have and where they stand; or that some of it lies beyond the bytes.
+// The sections of a part.
 #[derive(Clone, Copy)]
-enum Layout {
-    Inside {
-        measures: usize,
-        notes_at: usize,
-        notes: usize,
-        pitches_at: usize,
-        pitches: usize,
-        lyrics_at: usize,
-        lyrics: usize,
-        text: usize,
-        end: usize,
-    },
-    Beyond,
+struct Layout {
+    measures: Section,
+    notes: Section,
+    pitches: Section,
+    lyrics: Section,
+    text: Section,
 }
 
-// The sections of the part at `at`, found before any record is read.
-fn sections_if_inside(reading: &[u8], at: usize) -> Layout
+// The sections of the part at `at`, found before any record is read, if all lie inside the bytes.
+fn sections_if_inside(reading: &[u8], at: usize) -> Option<Layout>
     requires { at ≤ length reading.now }
     ensures { result ≡ layout_for reading.now at }
 {
-    let Found::Inside {
-        count: measures,
-        end: notes_at,
-    } = section_if_inside(reading, MEASURE, at)
-    else {
-        return Layout::Beyond;
-    };
-    let Found::Inside {
-        count: notes,
-        end: pitches_at,
-    } = section_if_inside(reading, NOTE, notes_at)
-    else {
-        return Layout::Beyond;
-    };
-    let Found::Inside {
-        count: pitches,
-        end: lyrics_at,
-    } = section_if_inside(reading, PITCH, pitches_at)
-    else {
-        return Layout::Beyond;
-    };
-    let Found::Inside {
-        count: lyrics,
-        end: text_at,
-    } = section_if_inside(reading, LYRIC, lyrics_at)
-    else {
-        return Layout::Beyond;
-    };
-    let Found::Inside { count: text, end } = section_if_inside(reading, 1, text_at) else {
-        return Layout::Beyond;
-    };
-    Layout::Inside {
+    let measures = section_if_inside(reading, MEASURE, at)?;
+    let notes = section_if_inside(reading, NOTE, measures.end)?;
+    let pitches = section_if_inside(reading, PITCH, notes.end)?;
+    let lyrics = section_if_inside(reading, LYRIC, pitches.end)?;
+    let text = section_if_inside(reading, 1, lyrics.end)?;
+    Some(Layout {
         measures,
-        notes_at,
         notes,
-        pitches_at,
         pitches,
-        lyrics_at,
         lyrics,
         text,
-        end,
-    }
+    })
 }
 
-// Where a whole part ends; or that it is none.
-#[derive(Clone, Copy)]
-enum Part {
-    Ends(usize),
-    Broken,
-}
-
-// The part at `at`.
-fn part_if_whole(reading: &[u8], at: usize) -> Part
+// Where the part at `at` ends, if it is whole.
+fn part_if_whole(reading: &[u8], at: usize) -> Option<usize>
     requires { at ≤ length reading.now }
     ensures { result ≡ part_for reading.now at }
 {
-    let Layout::Inside {
-        measures,
-        notes_at,
-        notes,
-        pitches_at,
-        pitches,
-        lyrics_at,
-        lyrics,
-        text,
-        end,
-    } = sections_if_inside(reading, at)
-    else {
-        return Part::Broken;
-    };
-    let fine = are_measures(reading, at, measures, notes)
-        & are_notes(reading, notes_at, notes, pitches)
-        & are_pitches(reading, pitches_at, pitches)
-        & are_lyrics(reading, lyrics_at, lyrics, notes, text);
-    if fine { Part::Ends(end) } else { Part::Broken }
+    let layout = sections_if_inside(reading, at)?;
+    let measures = layout.measures;
+    let notes = layout.notes;
+    let pitches = layout.pitches;
+    let lyrics = layout.lyrics;
+    let text = layout.text;
+    let fine = are_measures(reading, at, measures.count, notes.count)
+        & are_notes(reading, measures.end, notes.count, pitches.count)
+        & are_pitches(reading, notes.end, pitches.count)
+        & are_lyrics(reading, pitches.end, lyrics.count, notes.count, text.count);
+    if fine { Some(text.end) } else { None }
 }
 
 // THE READING
 
-// Nothing but zeros from `at` on.
-fn is_zero_from(reading: &[u8], at: usize) -> bool
-    ensures { result ≡ is_zeros (drop at reading.now) }
+// Nothing but zeros. No test branches, so that many bytes are looked at together.
+fn is_zeros(bytes: &[u8]) -> bool
+    ensures { result ≡ is_zeros bytes.now }
 {
     let mut zero = true;
-    let mut i = at;
-    while i < reading.len() {
-        zero &= reading[i] == 0;
-        i += 1;
+    for byte in bytes {
+        zero &= *byte == 0;
     }
     zero
 }
@@ -239,15 +172,12 @@ pub fn is_whole(reading: &[u8]) -> bool
     if reading.len() < FIRST_PART {
         return false;
     }
-    let parts = store::get_u32(reading, 0);
     let mut at = FIRST_PART;
-    let mut i = 0;
-    while i < parts {
-        let Part::Ends(end) = part_if_whole(reading, at) else {
+    for i in 0..store::get_u32(reading, 0) {
+        let Some(end) = part_if_whole(reading, at) else {
             return false;
         };
         at = end;
-        i += 1;
     }
-    is_zero_from(reading, at)
+    is_zeros(&reading[at..])
 }

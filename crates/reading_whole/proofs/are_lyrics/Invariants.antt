@@ -1,5 +1,5 @@
 -- `reading_whole::are_lyrics` meets its contract: so far the lyrics below i are tested, and their texts taken.
-use Prim.Native.Nat.{◌+◌, ◌-◌, ◌≤◌}
+use Prim.Native.Nat.{◌+◌, ◌≤◌}
 use Rattle.laws.specs.Bytes.{u32_at}
 use Rattle.reader.specs.Records.{lyric_width}
 use Rattle.reading_records.specs.Fields.{text_field}
@@ -11,6 +11,3 @@ use Rattle.reading_whole.proofs.are_lyrics.Given as goal
 abbrev pub invariant-loop-i : goal.invariant-loop-i
 invariant-loop-i l =
     (l.i ≤ l.count) × Taken (λ i. is_lyric l.reading l.notes (record_at lyric_width l.at i)) (λ i. u32_at l.reading (record_at lyric_width l.at i + text_field)) l.text l.fine l.left l.i
-
-abbrev pub decreases-loop-i : goal.decreases-loop-i
-decreases-loop-i l = l.count - l.i

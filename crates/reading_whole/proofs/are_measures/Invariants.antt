@@ -1,5 +1,5 @@
 -- `reading_whole::are_measures` meets its contract: so far the measures below i are tested, their notes taken and their voltas followed.
-use Prim.Native.Nat.{◌-◌, ◌≤◌}
+use Prim.Native.Nat.{◌≤◌}
 use mathlib.Core.Path.{◌≡◌}
 use Rattle.reader.specs.Records.{measure_width}
 use Rattle.reading_sections.specs.Sections.{record_at, notes_in}
@@ -13,6 +13,3 @@ invariant-loop-i l =
     (l.i ≤ l.count)
     × Taken (λ i. is_measure l.reading (record_at measure_width l.at i)) (λ i. notes_in l.reading (record_at measure_width l.at i)) l.notes l.fine l.left l.i
     × (span_of l.volta ≡ voltas l.reading l.at l.i)
-
-abbrev pub decreases-loop-i : goal.decreases-loop-i
-decreases-loop-i l = l.count - l.i

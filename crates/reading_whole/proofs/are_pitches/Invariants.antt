@@ -1,5 +1,5 @@
 -- `reading_whole::are_pitches` meets its contract: so far the pitches below i are tested.
-use Prim.Native.Nat.{◌-◌, ◌≤◌}
+use Prim.Native.Nat.{◌≤◌}
 use mathlib.Core.Path.{◌≡◌}
 use Rattle.reader.specs.Records.{pitch_width}
 use Rattle.reading_sections.specs.Sections.{record_at}
@@ -8,6 +8,3 @@ use Rattle.reading_whole.proofs.are_pitches.Given as goal
 
 abbrev pub invariant-loop-i : goal.invariant-loop-i
 invariant-loop-i l = (l.i ≤ l.count) × (l.fine ≡ every (λ i. is_pitch l.reading (record_at pitch_width l.at i)) l.i)
-
-abbrev pub decreases-loop-i : goal.decreases-loop-i
-decreases-loop-i l = l.count - l.i

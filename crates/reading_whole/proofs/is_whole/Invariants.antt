@@ -6,7 +6,4 @@ use Rattle.reading_whole.specs.Whole.{whole_from, is_whole}
 use Rattle.reading_whole.proofs.is_whole.Given as goal
 
 abbrev pub invariant-loop-i : goal.invariant-loop-i
-invariant-loop-i l = (l.at ≤ length l.reading) × (whole_from l.reading l.at (l.parts - l.i) ≡ is_whole l.reading)
-
-abbrev pub decreases-loop-i : goal.decreases-loop-i
-decreases-loop-i l = l.parts - l.i
+invariant-loop-i l = (l.at ≤ length l.reading) × (whole_from l.reading l.at (l.i-end - l.i) ≡ is_whole l.reading)

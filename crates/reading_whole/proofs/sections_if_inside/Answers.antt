@@ -6,67 +6,67 @@ use Rattle.reading_sections.proofs.Inside.{inside}
 use Rattle.reading_whole.proofs.Places.{SectionIs, section_is, section_is_not, pitches_at_lem, lyrics_at_lem, text_at_lem, layout_inside, layout_beyond}
 use Rattle.reading_whole.proofs.sections_if_inside.Goals as goal
 
-pub returns-in_default : goal.returns-in_default
-returns-in_default c =
-    layout_beyond _ _ (λ h. section_is_not _ _ _ (sym c.section_if_inside.ensures ∙ c.in_default.is) (inside _ _ h).notes)
+pub returns-in_err-measures : goal.returns-in_err-measures
+returns-in_err-measures c =
+    c.from_residual.ensures ∙ layout_beyond _ _ (λ h. section_is_not _ _ _ (sym c.in_err-measures.ensures) (inside _ _ h).notes)
 
 pub section_if_inside-requires-2 : goal.section_if_inside-requires-2
 section_if_inside-requires-2 c =
-    let m : SectionIs c.args.reading.now measure_width c.args.at c.in-Inside.measures c.in-Inside.notes_at = section_is _ _ _ _ _ (sym c.section_if_inside.ensures ∙ c.in-Inside.is) in
+    let m : SectionIs c.args.reading.now measure_width c.args.at c.in_ok-measures.measures = section_is _ _ _ _ (sym c.in_ok-measures.ensures) in
     (m.fits, search rules)
 
-pub returns-in_default-section_if_inside : goal.returns-in_default-section_if_inside
-returns-in_default-section_if_inside c =
-    let m : SectionIs c.args.reading.now measure_width c.args.at c.in-Inside.measures c.in-Inside.notes_at = section_is _ _ _ _ _ (sym c.section_if_inside.ensures ∙ c.in-Inside.is) in
-    layout_beyond _ _ (λ h. section_is_not _ _ _ (sym c.section_if_inside-2.ensures ∙ c.in_default-section_if_inside.is) (rw m.end (inside _ _ h).pitches))
+pub returns-in_err-notes : goal.returns-in_err-notes
+returns-in_err-notes c =
+    let m : SectionIs c.args.reading.now measure_width c.args.at c.in_ok-measures.measures = section_is _ _ _ _ (sym c.in_ok-measures.ensures) in
+    c.from_residual-in_err-notes.ensures ∙ layout_beyond _ _ (λ h. section_is_not _ _ _ (sym c.in_err-notes.ensures) (rw m.end (inside _ _ h).pitches))
 
 pub section_if_inside-requires-3 : goal.section_if_inside-requires-3
 section_if_inside-requires-3 c =
-    let m : SectionIs c.args.reading.now measure_width c.args.at c.in-Inside.measures c.in-Inside.notes_at = section_is _ _ _ _ _ (sym c.section_if_inside.ensures ∙ c.in-Inside.is) in
-    let n : SectionIs c.args.reading.now note_width c.in-Inside.notes_at c.in-Inside-section_if_inside.notes c.in-Inside-section_if_inside.pitches_at = section_is _ _ _ _ _ (sym c.section_if_inside-2.ensures ∙ c.in-Inside-section_if_inside.is) in
+    let m : SectionIs c.args.reading.now measure_width c.args.at c.in_ok-measures.measures = section_is _ _ _ _ (sym c.in_ok-measures.ensures) in
+    let n : SectionIs c.args.reading.now note_width c.in_ok-measures.measures.end c.in_ok-notes.notes = section_is _ _ _ _ (sym c.in_ok-notes.ensures) in
     (n.fits, search rules)
 
-pub returns-in_default-section_if_inside-2 : goal.returns-in_default-section_if_inside-2
-returns-in_default-section_if_inside-2 c =
-    let m : SectionIs c.args.reading.now measure_width c.args.at c.in-Inside.measures c.in-Inside.notes_at = section_is _ _ _ _ _ (sym c.section_if_inside.ensures ∙ c.in-Inside.is) in
-    let n : SectionIs c.args.reading.now note_width c.in-Inside.notes_at c.in-Inside-section_if_inside.notes c.in-Inside-section_if_inside.pitches_at = section_is _ _ _ _ _ (sym c.section_if_inside-2.ensures ∙ c.in-Inside-section_if_inside.is) in
-    layout_beyond _ _ (λ h. section_is_not _ _ _ (sym c.section_if_inside-3.ensures ∙ c.in_default-section_if_inside-2.is) (rw (pitches_at_lem m n) (inside _ _ h).lyrics))
+pub returns-in_err-pitches : goal.returns-in_err-pitches
+returns-in_err-pitches c =
+    let m : SectionIs c.args.reading.now measure_width c.args.at c.in_ok-measures.measures = section_is _ _ _ _ (sym c.in_ok-measures.ensures) in
+    let n : SectionIs c.args.reading.now note_width c.in_ok-measures.measures.end c.in_ok-notes.notes = section_is _ _ _ _ (sym c.in_ok-notes.ensures) in
+    c.from_residual-in_err-pitches.ensures ∙ layout_beyond _ _ (λ h. section_is_not _ _ _ (sym c.in_err-pitches.ensures) (rw (pitches_at_lem m n) (inside _ _ h).lyrics))
 
 pub section_if_inside-requires-4 : goal.section_if_inside-requires-4
 section_if_inside-requires-4 c =
-    let m : SectionIs c.args.reading.now measure_width c.args.at c.in-Inside.measures c.in-Inside.notes_at = section_is _ _ _ _ _ (sym c.section_if_inside.ensures ∙ c.in-Inside.is) in
-    let n : SectionIs c.args.reading.now note_width c.in-Inside.notes_at c.in-Inside-section_if_inside.notes c.in-Inside-section_if_inside.pitches_at = section_is _ _ _ _ _ (sym c.section_if_inside-2.ensures ∙ c.in-Inside-section_if_inside.is) in
-    let p : SectionIs c.args.reading.now pitch_width c.in-Inside-section_if_inside.pitches_at c.in-Inside-section_if_inside-2.pitches c.in-Inside-section_if_inside-2.lyrics_at = section_is _ _ _ _ _ (sym c.section_if_inside-3.ensures ∙ c.in-Inside-section_if_inside-2.is) in
+    let m : SectionIs c.args.reading.now measure_width c.args.at c.in_ok-measures.measures = section_is _ _ _ _ (sym c.in_ok-measures.ensures) in
+    let n : SectionIs c.args.reading.now note_width c.in_ok-measures.measures.end c.in_ok-notes.notes = section_is _ _ _ _ (sym c.in_ok-notes.ensures) in
+    let p : SectionIs c.args.reading.now pitch_width c.in_ok-notes.notes.end c.in_ok-pitches.pitches = section_is _ _ _ _ (sym c.in_ok-pitches.ensures) in
     (p.fits, search rules)
 
-pub returns-in_default-section_if_inside-3 : goal.returns-in_default-section_if_inside-3
-returns-in_default-section_if_inside-3 c =
-    let m : SectionIs c.args.reading.now measure_width c.args.at c.in-Inside.measures c.in-Inside.notes_at = section_is _ _ _ _ _ (sym c.section_if_inside.ensures ∙ c.in-Inside.is) in
-    let n : SectionIs c.args.reading.now note_width c.in-Inside.notes_at c.in-Inside-section_if_inside.notes c.in-Inside-section_if_inside.pitches_at = section_is _ _ _ _ _ (sym c.section_if_inside-2.ensures ∙ c.in-Inside-section_if_inside.is) in
-    let p : SectionIs c.args.reading.now pitch_width c.in-Inside-section_if_inside.pitches_at c.in-Inside-section_if_inside-2.pitches c.in-Inside-section_if_inside-2.lyrics_at = section_is _ _ _ _ _ (sym c.section_if_inside-3.ensures ∙ c.in-Inside-section_if_inside-2.is) in
-    layout_beyond _ _ (λ h. section_is_not _ _ _ (sym c.section_if_inside-4.ensures ∙ c.in_default-section_if_inside-3.is) (rw (lyrics_at_lem m n p) (inside _ _ h).text))
+pub returns-in_err-lyrics : goal.returns-in_err-lyrics
+returns-in_err-lyrics c =
+    let m : SectionIs c.args.reading.now measure_width c.args.at c.in_ok-measures.measures = section_is _ _ _ _ (sym c.in_ok-measures.ensures) in
+    let n : SectionIs c.args.reading.now note_width c.in_ok-measures.measures.end c.in_ok-notes.notes = section_is _ _ _ _ (sym c.in_ok-notes.ensures) in
+    let p : SectionIs c.args.reading.now pitch_width c.in_ok-notes.notes.end c.in_ok-pitches.pitches = section_is _ _ _ _ (sym c.in_ok-pitches.ensures) in
+    c.from_residual-in_err-lyrics.ensures ∙ layout_beyond _ _ (λ h. section_is_not _ _ _ (sym c.in_err-lyrics.ensures) (rw (lyrics_at_lem m n p) (inside _ _ h).text))
 
 pub section_if_inside-requires-5 : goal.section_if_inside-requires-5
 section_if_inside-requires-5 c =
-    let m : SectionIs c.args.reading.now measure_width c.args.at c.in-Inside.measures c.in-Inside.notes_at = section_is _ _ _ _ _ (sym c.section_if_inside.ensures ∙ c.in-Inside.is) in
-    let n : SectionIs c.args.reading.now note_width c.in-Inside.notes_at c.in-Inside-section_if_inside.notes c.in-Inside-section_if_inside.pitches_at = section_is _ _ _ _ _ (sym c.section_if_inside-2.ensures ∙ c.in-Inside-section_if_inside.is) in
-    let p : SectionIs c.args.reading.now pitch_width c.in-Inside-section_if_inside.pitches_at c.in-Inside-section_if_inside-2.pitches c.in-Inside-section_if_inside-2.lyrics_at = section_is _ _ _ _ _ (sym c.section_if_inside-3.ensures ∙ c.in-Inside-section_if_inside-2.is) in
-    let l : SectionIs c.args.reading.now lyric_width c.in-Inside-section_if_inside-2.lyrics_at c.in-Inside-section_if_inside-3.lyrics c.in-Inside-section_if_inside-3.text_at = section_is _ _ _ _ _ (sym c.section_if_inside-4.ensures ∙ c.in-Inside-section_if_inside-3.is) in
+    let m : SectionIs c.args.reading.now measure_width c.args.at c.in_ok-measures.measures = section_is _ _ _ _ (sym c.in_ok-measures.ensures) in
+    let n : SectionIs c.args.reading.now note_width c.in_ok-measures.measures.end c.in_ok-notes.notes = section_is _ _ _ _ (sym c.in_ok-notes.ensures) in
+    let p : SectionIs c.args.reading.now pitch_width c.in_ok-notes.notes.end c.in_ok-pitches.pitches = section_is _ _ _ _ (sym c.in_ok-pitches.ensures) in
+    let l : SectionIs c.args.reading.now lyric_width c.in_ok-pitches.pitches.end c.in_ok-lyrics.lyrics = section_is _ _ _ _ (sym c.in_ok-lyrics.ensures) in
     (l.fits, search rules)
 
-pub returns-in_default-section_if_inside-4 : goal.returns-in_default-section_if_inside-4
-returns-in_default-section_if_inside-4 c =
-    let m : SectionIs c.args.reading.now measure_width c.args.at c.in-Inside.measures c.in-Inside.notes_at = section_is _ _ _ _ _ (sym c.section_if_inside.ensures ∙ c.in-Inside.is) in
-    let n : SectionIs c.args.reading.now note_width c.in-Inside.notes_at c.in-Inside-section_if_inside.notes c.in-Inside-section_if_inside.pitches_at = section_is _ _ _ _ _ (sym c.section_if_inside-2.ensures ∙ c.in-Inside-section_if_inside.is) in
-    let p : SectionIs c.args.reading.now pitch_width c.in-Inside-section_if_inside.pitches_at c.in-Inside-section_if_inside-2.pitches c.in-Inside-section_if_inside-2.lyrics_at = section_is _ _ _ _ _ (sym c.section_if_inside-3.ensures ∙ c.in-Inside-section_if_inside-2.is) in
-    let l : SectionIs c.args.reading.now lyric_width c.in-Inside-section_if_inside-2.lyrics_at c.in-Inside-section_if_inside-3.lyrics c.in-Inside-section_if_inside-3.text_at = section_is _ _ _ _ _ (sym c.section_if_inside-4.ensures ∙ c.in-Inside-section_if_inside-3.is) in
-    layout_beyond _ _ (λ h. section_is_not _ _ _ (sym c.section_if_inside-5.ensures ∙ c.in_default-section_if_inside-4.is) (rw (text_at_lem m n p l) (inside _ _ h).end))
+pub returns-in_err-text : goal.returns-in_err-text
+returns-in_err-text c =
+    let m : SectionIs c.args.reading.now measure_width c.args.at c.in_ok-measures.measures = section_is _ _ _ _ (sym c.in_ok-measures.ensures) in
+    let n : SectionIs c.args.reading.now note_width c.in_ok-measures.measures.end c.in_ok-notes.notes = section_is _ _ _ _ (sym c.in_ok-notes.ensures) in
+    let p : SectionIs c.args.reading.now pitch_width c.in_ok-notes.notes.end c.in_ok-pitches.pitches = section_is _ _ _ _ (sym c.in_ok-pitches.ensures) in
+    let l : SectionIs c.args.reading.now lyric_width c.in_ok-pitches.pitches.end c.in_ok-lyrics.lyrics = section_is _ _ _ _ (sym c.in_ok-lyrics.ensures) in
+    c.from_residual-in_err-text.ensures ∙ layout_beyond _ _ (λ h. section_is_not _ _ _ (sym c.in_err-text.ensures) (rw (text_at_lem m n p l) (inside _ _ h).end))
 
 pub returns : goal.returns
 returns c =
-    let m : SectionIs c.args.reading.now measure_width c.args.at c.in-Inside.measures c.in-Inside.notes_at = section_is _ _ _ _ _ (sym c.section_if_inside.ensures ∙ c.in-Inside.is) in
-    let n : SectionIs c.args.reading.now note_width c.in-Inside.notes_at c.in-Inside-section_if_inside.notes c.in-Inside-section_if_inside.pitches_at = section_is _ _ _ _ _ (sym c.section_if_inside-2.ensures ∙ c.in-Inside-section_if_inside.is) in
-    let p : SectionIs c.args.reading.now pitch_width c.in-Inside-section_if_inside.pitches_at c.in-Inside-section_if_inside-2.pitches c.in-Inside-section_if_inside-2.lyrics_at = section_is _ _ _ _ _ (sym c.section_if_inside-3.ensures ∙ c.in-Inside-section_if_inside-2.is) in
-    let l : SectionIs c.args.reading.now lyric_width c.in-Inside-section_if_inside-2.lyrics_at c.in-Inside-section_if_inside-3.lyrics c.in-Inside-section_if_inside-3.text_at = section_is _ _ _ _ _ (sym c.section_if_inside-4.ensures ∙ c.in-Inside-section_if_inside-3.is) in
-    let t : SectionIs c.args.reading.now 1 c.in-Inside-section_if_inside-3.text_at c.in-Inside-section_if_inside-4.text c.in-Inside-section_if_inside-4.end = section_is _ _ _ _ _ (sym c.section_if_inside-5.ensures ∙ c.in-Inside-section_if_inside-4.is) in
+    let m : SectionIs c.args.reading.now measure_width c.args.at c.in_ok-measures.measures = section_is _ _ _ _ (sym c.in_ok-measures.ensures) in
+    let n : SectionIs c.args.reading.now note_width c.in_ok-measures.measures.end c.in_ok-notes.notes = section_is _ _ _ _ (sym c.in_ok-notes.ensures) in
+    let p : SectionIs c.args.reading.now pitch_width c.in_ok-notes.notes.end c.in_ok-pitches.pitches = section_is _ _ _ _ (sym c.in_ok-pitches.ensures) in
+    let l : SectionIs c.args.reading.now lyric_width c.in_ok-pitches.pitches.end c.in_ok-lyrics.lyrics = section_is _ _ _ _ (sym c.in_ok-lyrics.ensures) in
+    let t : SectionIs c.args.reading.now 1 c.in_ok-lyrics.lyrics.end c.in_ok-text.text = section_is _ _ _ _ (sym c.in_ok-text.ensures) in
     layout_inside m n p l t
