@@ -10,27 +10,35 @@ use Rattle.laws.proofs.Bools.{by_test, and_left, and_right, and_both}
 use Rattle.reader.specs.Records.{measure_width, note_width}
 use Rattle.part_rows.specs.Encoded.{note_row_width, voice_at}
 use Rattle.part_rows.specs.Read.{of_voice_at}
-use Rattle.store_sections.specs.declared.Wrote.TheVariants.{To}
+use Rattle.std.specs.Prelude.{Some}
 use Rattle.store_sections.specs.Writes.{WroteIs}
 use Rattle.part_measures.specs.Heads.{note_count, total}
 use Rattle.write_notes.specs.Out.{note_out, records_out, voice_out, voices_out, leads, notes_out}
 use Rattle.write_notes.proofs.Out.{length_note_out, wrote_as_lem}
 
--- STEPS, as the loop takes them
-leads_step : (s : List ℕ) (p k : ℕ) → 0 < k → leads s p k ≡ (of_voice_at s 0 p && leads s (p + note_row_width) (k - 1))
+-- STEPS, as the loop takes them: row i of k
+leads_step : (s : List ℕ) (p k i : ℕ) → i < k → leads s (p + note_row_width * i) (k - i) ≡ (of_voice_at s 0 (p + note_row_width * i) && leads s (p + note_row_width * (i + 1)) (k - (i + 1)))
 unfolding leads
-leads_step s p zero h = absurd (omega arith)
-leads_step s p (suc k) h = let e : suc k - 1 ≡ k = omega arith in rw e
+leads_step s p k i h =
+    let e : k - i ≡ suc (k - (i + 1)) = omega arith in
+    let f : p + note_row_width * i + note_row_width ≡ p + note_row_width * (i + 1) = omega arith in
+    rw (e, leads, f)
 
-pub leads_no : (s : List ℕ) (p k : ℕ) → 0 < k → of_voice_at s 0 p ≡ false → false ≡ leads s p k
-leads_no s p k h n = sym (leads_step s p k h ∙ rw n)
+pub leads_no : (s : List ℕ) (p k i : ℕ) → i < k → of_voice_at s 0 (p + note_row_width * i) ≡ false → false ≡ leads s (p + note_row_width * i) (k - i)
+leads_no s p k i h n = sym (leads_step s p k i h ∙ rw n)
 
-pub leads_yes : (s : List ℕ) (p k : ℕ) → 0 < k → of_voice_at s 0 p ≡ true → leads s (p + note_row_width) (k - 1) ≡ leads s p k
-leads_yes s p k h z = sym (leads_step s p k h ∙ rw z)
+pub leads_yes : (s : List ℕ) (p k i : ℕ) → i < k → of_voice_at s 0 (p + note_row_width * i) ≡ true → leads s (p + note_row_width * (i + 1)) (k - (i + 1)) ≡ leads s (p + note_row_width * i) (k - i)
+leads_yes s p k i h z = sym (leads_step s p k i h ∙ rw z)
 
-pub leads_none : (s : List ℕ) (p k : ℕ) → k ≡ 0 → true ≡ leads s p k
+pub leads_start : (s : List ℕ) (p k : ℕ) → leads s (p + note_row_width * 0) (k - 0) ≡ leads s p k
+leads_start s p k =
+    let e : k - 0 ≡ k = omega arith in
+    let f : p + note_row_width * 0 ≡ p = omega arith in
+    λ i. leads s (f i) (e i)
+
+pub leads_end : (s : List ℕ) (p k i : ℕ) → k ≤ i → true ≡ leads s p (k - i)
 unfolding leads
-leads_none s p k h = rw h
+leads_end s p k i h = let e : k - i ≡ 0 = omega arith in rw e
 
 -- the first row, and the others
 module _ (s : List ℕ) (p k : ℕ) (e : leads s p (suc k) ≡ true) where
@@ -101,18 +109,20 @@ pub voices_first : (s : List ℕ) (p k : ℕ) → voices_out s p k 0 4 ≡ voice
 unfolding voices_out
 voices_first s p k = refl
 
-pub full_measure : {d e : List ℕ} (s : List ℕ) (p k n : ℕ) → WroteIs d (voice_out s 0 p k) e (To n) → p + note_row_width * k ≤ length s → n ≡ note_width * k → WroteIs d (voices_out s p k 0 4) e (To n)
+pub full_measure : {d e : List ℕ} (s : List ℕ) (p k n : ℕ) → WroteIs d (voice_out s 0 p k) e (Some n) → p + note_row_width * k ≤ length s → n ≡ note_width * k → WroteIs d (voices_out s p k 0 4) e (Some n)
 full_measure s p k n w h q = wrote_as_lem w (lead_voices s p k (all_lead s p k h (sym w.says.0 ∙ q)))
 
 -- ALL ROWS AT ONCE
-pub records_step : (s : List ℕ) (p k : ℕ) → 0 < k → records_out s p k ≡ note_out s p ++ records_out s (p + note_row_width) (k - 1)
+pub records_step : (s : List ℕ) (p k i : ℕ) → i < k → records_out s (p + note_row_width * i) (k - i) ≡ note_out s (p + note_row_width * i) ++ records_out s (p + note_row_width * (i + 1)) (k - (i + 1))
 unfolding records_out
-records_step s p zero h = absurd (omega arith)
-records_step s p (suc k) h = let e : suc k - 1 ≡ k = omega arith in rw e
+records_step s p k i h =
+    let e : k - i ≡ suc (k - (i + 1)) = omega arith in
+    let f : p + note_row_width * i + note_row_width ≡ p + note_row_width * (i + 1) = omega arith in
+    rw (e, records_out, f)
 
-pub records_none : (s : List ℕ) (p k : ℕ) → k ≡ 0 → records_out s p k ≡ []
+pub records_none : (s : List ℕ) (p k i : ℕ) → k ≤ i → records_out s p (k - i) ≡ []
 unfolding records_out
-records_none s p k h = rw h
+records_none s p k i h = let e : k - i ≡ 0 = omega arith in rw e
 
 pub length_records : (s : List ℕ) (p k : ℕ) → p + note_row_width * k ≤ length s → length (records_out s p k) ≡ note_width * k
 unfolding records_out

@@ -29,30 +29,34 @@ use Rattle.part_rows.proofs.Bytes.{length_note}
 use Rattle.part_rows.proofs.Notes.{byte, byte_kind, byte_voice, marks_small}
 use Rattle.part_measures.specs.Heads.{head_row, note_count, total}
 use Rattle.part_measures.proofs.Heads.{length_head, head_row_lem}
-use Rattle.part_measures.proofs.Counts.{count_out, total_out}
-use Rattle.store_sections.specs.declared.Wrote.{Wrote}
-use Rattle.store_sections.specs.declared.Wrote.TheVariants.{To, NoRoom}
+use Rattle.part_measures.proofs.Counts.{count_out, total_out, total_step}
+use Rattle.std.specs.Prelude.{Option, Some, None}
 use Rattle.store_sections.specs.Writes.{WroteIs}
 use Rattle.write_notes.specs.declared.PartTables.{PartTables}
 use Rattle.write_notes.specs.Tables.{InStore, Represents}
 use Rattle.write_notes.specs.Out.{is_lone, flags_for, note_out, voice_out, voices_out, notes_out, measures_section, notes_section}
 use Rattle.part_rows.proofs.Cuts.{table_rest, table_take, table_drop, table_first}
 
--- STEPS, as the loops take them
-pub voice_step : (s : List ℕ) (v p k : ℕ) → 0 < k → voice_out s v p k ≡ cond (of_voice_at s v p) (note_out s p) [] ++ voice_out s v (p + note_row_width) (k - 1)
+-- STEPS, as the loops take them: row i of k
+voice_step : (s : List ℕ) (v p k i : ℕ) → i < k
+    → voice_out s v (p + note_row_width * i) (k - i) ≡ cond (of_voice_at s v (p + note_row_width * i)) (note_out s (p + note_row_width * i)) [] ++ voice_out s v (p + note_row_width * (i + 1)) (k - (i + 1))
 unfolding voice_out
-voice_step s v p zero h = absurd (omega arith)
-voice_step s v p (suc k) h = let e : suc k - 1 ≡ k = omega arith in rw e
+voice_step s v p k i h =
+    let e : k - i ≡ suc (k - (i + 1)) = omega arith in
+    let f : p + note_row_width * i + note_row_width ≡ p + note_row_width * (i + 1) = omega arith in
+    rw (e, voice_out, f)
 
-pub voice_yes : (s : List ℕ) (v p k : ℕ) → 0 < k → of_voice_at s v p ≡ true → voice_out s v p k ≡ note_out s p ++ voice_out s v (p + note_row_width) (k - 1)
-voice_yes s v p k h e = voice_step s v p k h ∙ rw e
+pub voice_yes : (s : List ℕ) (v p k i : ℕ) → i < k → of_voice_at s v (p + note_row_width * i) ≡ true
+    → voice_out s v (p + note_row_width * i) (k - i) ≡ note_out s (p + note_row_width * i) ++ voice_out s v (p + note_row_width * (i + 1)) (k - (i + 1))
+voice_yes s v p k i h e = voice_step s v p k i h ∙ rw e
 
-pub voice_no : (s : List ℕ) (v p k : ℕ) → 0 < k → of_voice_at s v p ≡ false → voice_out s v p k ≡ voice_out s v (p + note_row_width) (k - 1)
-voice_no s v p k h e = voice_step s v p k h ∙ rw e
+pub voice_no : (s : List ℕ) (v p k i : ℕ) → i < k → of_voice_at s v (p + note_row_width * i) ≡ false
+    → voice_out s v (p + note_row_width * i) (k - i) ≡ voice_out s v (p + note_row_width * (i + 1)) (k - (i + 1))
+voice_no s v p k i h e = voice_step s v p k i h ∙ rw e
 
-pub voice_none : (s : List ℕ) (v p k : ℕ) → k ≡ 0 → voice_out s v p k ≡ []
+pub voice_none : (s : List ℕ) (v p k i : ℕ) → k ≤ i → voice_out s v p (k - i) ≡ []
 unfolding voice_out
-voice_none s v p k h = rw h
+voice_none s v p k i h = let e : k - i ≡ 0 = omega arith in rw e
 
 pub voices_step : (s : List ℕ) (p k v j : ℕ) → v < j → voices_out s p k v (j - v) ≡ voice_out s v p k ++ voices_out s p k (v + 1) (j - (v + 1))
 unfolding voices_out
@@ -65,14 +69,31 @@ pub voices_none : (s : List ℕ) (p k v j : ℕ) → j ≤ v → voices_out s p 
 unfolding voices_out
 voices_none s p k v j h = let e : j - v ≡ 0 = omega arith in rw e
 
-pub notes_step : (s : List ℕ) (h p n : ℕ) → 0 < n → notes_out s h p n ≡ voices_out s p (note_count s h) 0 4 ++ notes_out s (h + measure_width) (p + note_row_width * note_count s h) (n - 1)
+-- measure i of n, which has k notes
+pub notes_step : (s : List ℕ) (h p n i k : ℕ) → i < n → k ≡ note_count s (h + measure_width * i)
+    → notes_out s (h + measure_width * i) p (n - i) ≡ voices_out s p k 0 4 ++ notes_out s (h + measure_width * (i + 1)) (p + note_row_width * k) (n - (i + 1))
 unfolding notes_out
-notes_step s h p zero l = absurd (omega arith)
-notes_step s h p (suc n) l = let e : suc n - 1 ≡ n = omega arith in rw e
+notes_step s h p n i k l q =
+    let e : n - i ≡ suc (n - (i + 1)) = omega arith in
+    let f : h + measure_width * i + measure_width ≡ h + measure_width * (i + 1) = omega arith in
+    rw (e, notes_out, f, q)
 
-pub notes_none : (s : List ℕ) (h p n : ℕ) → n ≡ 0 → notes_out s h p n ≡ []
+pub notes_none : (s : List ℕ) (h p n i : ℕ) → n ≤ i → notes_out s h p (n - i) ≡ []
 unfolding notes_out
-notes_none s h p n l = rw l
+notes_none s h p n i l = let e : n - i ≡ 0 = omega arith in rw e
+
+-- their notes
+pub total_first : (s : List ℕ) (h n : ℕ) → total s (h + measure_width * 0) (n - 0) ≡ total s h n
+total_first s h n =
+    let e : n - 0 ≡ n = omega arith in
+    let f : h + measure_width * 0 ≡ h = omega arith in
+    λ i. total s (f i) (e i)
+
+pub total_more : (s : List ℕ) (h n i : ℕ) → i < n → total s (h + measure_width * i) (n - i) ≡ note_count s (h + measure_width * i) + total s (h + measure_width * (i + 1)) (n - (i + 1))
+total_more s h n i l =
+    let e : n - i - 1 ≡ n - (i + 1) = omega arith in
+    let f : h + measure_width * i + measure_width ≡ h + measure_width * (i + 1) = omega arith in
+    total_step s (h + measure_width * i) (n - i) (omega arith) ∙ (λ j. note_count s (h + measure_width * i) + total s (f j) (e j))
 
 pub length_note_out : (s : List ℕ) (p : ℕ) → p + note_row_width ≤ length s → length (note_out s p) ≡ note_width
 unfolding note_out part
@@ -90,7 +111,7 @@ flags_are n r b e f = ap (λ (k : ℕ). n.flags % 32 + k) (ap (λ (k : ℕ). 32 
 
 -- A record, as it is written
 pub note_wrote : {d u e : List ℕ} (s : List ℕ) (p fl : ℕ) (n : NoteStart) → n ≡ start_at s p → u ≡ splice d 0 (n.kind ∷ n.value ∷ n.dots ∷ fl ∷ []) → e ≡ splice u beam_at (rest_at s p) → fl ≡ flags_for n
-    → p + note_row_width ≤ length s → note_width ≤ length d → WroteIs d (note_out s p) e (To note_width)
+    → p + note_row_width ≤ length s → note_width ≤ length d → WroteIs d (note_out s p) e (Some note_width)
 unfolding note_out
 note_wrote {d} {u} {e} s p fl n is q r f h l =
     record {
@@ -110,16 +131,16 @@ module _ (s : List ℕ) (t : PartTables) (i : InStore s t) where
       ∙ omega (arith, length_little 4 t.measures.count, length_part s t.measures.at (measure_width * t.measures.count) i.measures_in)
 
   pub measures_wrote : {d u e : List ℕ} → u ≡ splice d 0 (le32 t.measures.count) → e ≡ splice u count_width (part s t.measures.at (measure_width * t.measures.count))
-      → count_width + measure_width * t.measures.count ≤ length d → WroteIs d (measures_section s t) e (To (count_width + measure_width * t.measures.count))
+      → count_width + measure_width * t.measures.count ≤ length d → WroteIs d (measures_section s t) e (Some (count_width + measure_width * t.measures.count))
   measures_wrote {d} {u} {e} q r l =
       let four : length (le32 t.measures.count) ≡ count_width = length_little 4 t.measures.count in
       record { says = (sym measures_length, l, spliced_next d u e 0 count_width _ _ q r (omega arith)) }
 
-  pub measures_none : {d e : List ℕ} → length d < count_width + measure_width * t.measures.count → WroteIs d (measures_section s t) e NoRoom
+  pub measures_none : {d e : List ℕ} → length d < count_width + measure_width * t.measures.count → WroteIs d (measures_section s t) e None
   measures_none l = record { says = omega (arith, measures_length) }
 
 -- the same bytes in other words
-pub wrote_as_lem : {d a e : List ℕ} {r : Wrote} → WroteIs d a e r → {b : List ℕ} → a ≡ b → WroteIs d b e r
+pub wrote_as_lem : {d a e : List ℕ} {r : Option ℕ} → WroteIs d a e r → {b : List ℕ} → a ≡ b → WroteIs d b e r
 wrote_as_lem {d} {a} {e} {r} w p = subst (λ (l : List ℕ). WroteIs d l e r) p w
 
 module _ (s : List ℕ) (p : ℕ) (x : ℕ × Note) (e : part s p note_row_width ≡ note_row x) where
@@ -269,10 +290,10 @@ module _ {s : List ℕ} {t : PartTables} {ms : List Head} {log : List (ℕ × No
       ap (total s t.measures.at) (sym h.measures_are) ∙ total_out s t.measures.at ms h.measures_table f.four_counts (omega (arith, f.all_notes_lem, h.few_notes, h.notes_are)) ∙ f.all_notes_lem ∙ h.notes_are
 
 -- A WRITER OF THESE BYTES writes the section of whatever the tables represent
-pub measures_say : {d e : List ℕ} {r : Wrote} {s : List ℕ} {t : PartTables} → WroteIs d (measures_section s t) e r
+pub measures_say : {d e : List ℕ} {r : Option ℕ} {s : List ℕ} {t : PartTables} → WroteIs d (measures_section s t) e r
     → WroteIs d (measures_section s t) e r × ((ms : List Head) (log : List (ℕ × Note)) → Represents s t ms log → WroteIs d (section head_bytes ms) e r)
 measures_say w = (w, λ ms log h. wrote_as_lem w (measures_section_lem h))
 
-pub notes_say : {d e : List ℕ} {r : Wrote} {s : List ℕ} {t : PartTables} → WroteIs d (notes_section s t) e r
+pub notes_say : {d e : List ℕ} {r : Option ℕ} {s : List ℕ} {t : PartTables} → WroteIs d (notes_section s t) e r
     → WroteIs d (notes_section s t) e r × ((ms : List Head) (log : List (ℕ × Note)) → Represents s t ms log → WroteIs d (section (λ (x : ℕ × Note). note_bytes x.1) (in_order ms log)) e r)
 notes_say w = (w, λ ms log h. wrote_as_lem w (notes_section_lem h))

@@ -2,13 +2,12 @@
 // got in that.
 #![tactic(auto)]
 
-ghost use Rattle.std.specs.Prelude.{◌≡◌, List, ℕ, ◌+◌, ◌*◌, ◌≤◌, length};
+ghost use Rattle.std.specs.Prelude.{◌≡◌, List, ℕ, ◌+◌, ◌*◌, ◌≤◌, Some, length};
 ghost use Rattle.reader.specs.State.{Note};
 ghost use Rattle.reader.specs.Records.{note_width, note_bytes, section};
 ghost use Rattle.part_layout.specs.Log.{Head};
 ghost use Rattle.part_layout.specs.Sections.{head_bytes, in_order};
 ghost use Rattle.part_rows.specs.Encoded.{note_row_width};
-ghost use Rattle.store_sections.specs.declared.Wrote.TheVariants.{To};
 ghost use Rattle.store_sections.specs.Writes.{WroteIs};
 ghost use Rattle.write_notes.specs.Tables.{InStore, Represents};
 ghost use Rattle.write_notes.specs.Out.{flags_for, note_out, records_out, voice_out, voices_out, leads, notes_out, measures_section, notes_section};
@@ -16,7 +15,6 @@ ghost use Rattle.write_notes.specs.Out.{flags_for, note_out, records_out, voice_
 use part_measures::MEASURE;
 use part_rows::{NOTE_ROW, NoteStart};
 use reading_records::{COUNT, NOTE};
-use store_sections::Wrote;
 
 // The rows of a table in scratch: where they begin, and how many there are.
 #[derive(Clone, Copy)]
@@ -36,21 +34,21 @@ pub struct PartTables {
 // MEASURES
 
 // The section of the measures: their rows as they are.
-pub fn write_measures(store: &[u8], t: PartTables, to: &mut [u8]) -> Wrote
+pub fn write_measures(store: &[u8], t: PartTables, to: &mut [u8]) -> Option<usize>
     requires { InStore store.now t }
-    ensures wrote_is { WroteIs to.old (measures_section store.now t) to.new result }
-    ensures wrote_is_2 { (ms : List Head) (log : List (ℕ × Note)) → Represents store.now t ms log → WroteIs to.old (section head_bytes ms) to.new result }
+    ensures bytes_of_store { WroteIs to.old (measures_section store.now t) to.new result }
+    ensures bytes_of_tables { (ms : List Head) (log : List (ℕ × Note)) → Represents store.now t ms log → WroteIs to.old (section head_bytes ms) to.new result }
 {
     let len = MEASURE * t.measures.count;
     if to.len() < COUNT {
-        return Wrote::NoRoom;
+        return None;
     }
     if to.len() - COUNT < len {
-        return Wrote::NoRoom;
+        return None;
     }
     store::put_u32(to, 0, t.measures.count as u32);
     store::copy(store, t.measures.at, to, COUNT, len);
-    Wrote::To(COUNT + len)
+    Some(COUNT + len)
 }
 
 // NOTES
@@ -66,7 +64,7 @@ fn flags_of(n: NoteStart) -> u8
 // Puts the note record of the row at `place`, for which there is room.
 fn put_record(store: &[u8], place: usize, to: &mut [u8])
     requires { (place + note_row_width ≤ length store.now) × (note_width ≤ length to.old) }
-    ensures { WroteIs to.old (note_out store.now place) to.new (To note_width) }
+    ensures { WroteIs to.old (note_out store.now place) to.new (Some note_width) }
 {
     let n = part_rows::note_start(store, place);
     let flags = flags_of(n);
@@ -75,59 +73,44 @@ fn put_record(store: &[u8], place: usize, to: &mut [u8])
 }
 
 // The same, if there is room.
-fn write_note(store: &[u8], place: usize, to: &mut [u8]) -> Wrote
+fn write_note(store: &[u8], place: usize, to: &mut [u8]) -> Option<usize>
     requires { place + note_row_width ≤ length store.now }
     ensures { WroteIs to.old (note_out store.now place) to.new result }
 {
     if to.len() < NOTE {
-        return Wrote::NoRoom;
+        return None;
     }
     put_record(store, place, to);
-    Wrote::To(NOTE)
+    Some(NOTE)
 }
 
 // The records of the k rows from `place` on, of whatever voices, as they stand.
-fn write_rows(store: &[u8], place: usize, k: usize, to: &mut [u8]) -> Wrote
+fn write_rows(store: &[u8], place: usize, k: usize, to: &mut [u8]) -> Option<usize>
     requires { place + note_row_width * k ≤ length store.now }
     ensures { WroteIs to.old (records_out store.now place k) to.new result }
 {
     if to.len() < NOTE * k {
-        return Wrote::NoRoom;
+        return None;
     }
-    let mut at = 0;
-    let mut p = place;
-    let mut left = k;
-    while 0 < left {
-        put_record(store, p, &mut to[at..]);
-        at += NOTE;
-        p += NOTE_ROW;
-        left -= 1;
+    for row in 0..k {
+        put_record(store, place + NOTE_ROW * row, &mut to[NOTE * row..]);
     }
-    Wrote::To(at)
+    Some(NOTE * k)
 }
 
 // The records of those of the k rows from `place` on that are of one voice.
-fn write_voice(store: &[u8], place: usize, k: usize, voice: u8, to: &mut [u8]) -> Wrote
+fn write_voice(store: &[u8], place: usize, k: usize, voice: u8, to: &mut [u8]) -> Option<usize>
     requires { place + note_row_width * k ≤ length store.now }
     ensures { WroteIs to.old (voice_out store.now voice place k) to.new result }
 {
     let mut at = 0;
-    let mut p = place;
-    let mut left = k;
-    while 0 < left {
-        if !part_rows::is_of_voice(store, p, voice) {
-            p += NOTE_ROW;
-            left -= 1;
-            continue;
+    for row in 0..k {
+        let p = place + NOTE_ROW * row;
+        if part_rows::is_of_voice(store, p, voice) {
+            at += write_note(store, p, &mut to[at..])?;
         }
-        let Wrote::To(m) = write_note(store, p, &mut to[at..]) else {
-            return Wrote::NoRoom;
-        };
-        at += m;
-        p += NOTE_ROW;
-        left -= 1;
     }
-    Wrote::To(at)
+    Some(at)
 }
 
 // The k rows from `place` on are all of voice 0.
@@ -135,76 +118,56 @@ pub fn is_lead(store: &[u8], place: usize, k: usize) -> bool
     requires { place + note_row_width * k ≤ length store.now }
     ensures { result ≡ leads store.now place k }
 {
-    let mut p = place;
-    let mut left = k;
-    while 0 < left {
-        if !part_rows::is_of_voice(store, p, 0) {
+    for row in 0..k {
+        if !part_rows::is_of_voice(store, place + NOTE_ROW * row, 0) {
             return false;
         }
-        p += NOTE_ROW;
-        left -= 1;
     }
     true
 }
 
 // The records of the k rows from `place` on that are of voice 1 to 3, each as written.
-fn write_overlays(store: &[u8], place: usize, k: usize, to: &mut [u8]) -> Wrote
+fn write_overlays(store: &[u8], place: usize, k: usize, to: &mut [u8]) -> Option<usize>
     requires { place + note_row_width * k ≤ length store.now }
     ensures { WroteIs to.old (voices_out store.now place k 1 3) to.new result }
 {
     let mut at = 0;
-    let mut voice: u8 = 1;
-    while voice < 4 {
-        let Wrote::To(m) = write_voice(store, place, k, voice, &mut to[at..]) else {
-            return Wrote::NoRoom;
-        };
-        at += m;
-        voice += 1;
+    for voice in 1..4 {
+        at += write_voice(store, place, k, voice, &mut to[at..])?;
     }
-    Wrote::To(at)
+    Some(at)
 }
 
 // The records of one measure, whose k rows begin at `place`. Most have one voice: then all are written after voice 0.
-fn write_measure_notes(store: &[u8], place: usize, k: usize, to: &mut [u8]) -> Wrote
+fn write_measure_notes(store: &[u8], place: usize, k: usize, to: &mut [u8]) -> Option<usize>
     requires { place + note_row_width * k ≤ length store.now }
     ensures { WroteIs to.old (voices_out store.now place k 0 4) to.new result }
 {
-    let Wrote::To(at) = write_voice(store, place, k, 0, to) else {
-        return Wrote::NoRoom;
-    };
+    let at = write_voice(store, place, k, 0, to)?;
     if at == NOTE * k {
-        return Wrote::To(at);
+        return Some(at);
     }
-    let Wrote::To(m) = write_overlays(store, place, k, &mut to[at..]) else {
-        return Wrote::NoRoom;
-    };
-    Wrote::To(at + m)
+    let m = write_overlays(store, place, k, &mut to[at..])?;
+    Some(at + m)
 }
 
 // The records of all notes, measure by measure.
-fn write_note_records(store: &[u8], t: PartTables, to: &mut [u8]) -> Wrote
+fn write_note_records(store: &[u8], t: PartTables, to: &mut [u8]) -> Option<usize>
     requires { InStore store.now t }
     ensures { WroteIs to.old (notes_out store.now t.measures.at t.notes.at t.measures.count) to.new result }
 {
     let mut at = 0;
-    let mut h = t.measures.at;
     let mut p = t.notes.at;
-    let mut left = t.measures.count;
-    while 0 < left {
-        let k = part_measures::note_count(store, h);
-        let Wrote::To(m) = write_measure_notes(store, p, k, &mut to[at..]) else {
-            return Wrote::NoRoom;
-        };
-        at += m;
-        h += MEASURE;
+    for measure in 0..t.measures.count {
+        let k = part_measures::note_count(store, t.measures.at + MEASURE * measure);
+        at += write_measure_notes(store, p, k, &mut to[at..])?;
         p += NOTE_ROW * k;
-        left -= 1;
     }
-    Wrote::To(at)
+    Some(at)
 }
 
 // The records of all notes: at once where all of them are of voice 0 (`lead`), else measure by measure.
-fn write_all(store: &[u8], t: PartTables, lead: bool, to: &mut [u8]) -> Wrote
+fn write_all(store: &[u8], t: PartTables, lead: bool, to: &mut [u8]) -> Option<usize>
     requires { InStore store.now t × (lead ≡ leads store.now t.notes.at t.notes.count) }
     ensures { WroteIs to.old (notes_out store.now t.measures.at t.notes.at t.measures.count) to.new result }
 {
@@ -215,16 +178,12 @@ fn write_all(store: &[u8], t: PartTables, lead: bool, to: &mut [u8]) -> Wrote
 }
 
 // The section of the notes: by measure, then by voice, then as written. `lead` tells whether all of them are of voice 0.
-pub fn write_notes(store: &[u8], t: PartTables, lead: bool, to: &mut [u8]) -> Wrote
+pub fn write_notes(store: &[u8], t: PartTables, lead: bool, to: &mut [u8]) -> Option<usize>
     requires { InStore store.now t × (lead ≡ leads store.now t.notes.at t.notes.count) }
-    ensures wrote_is { WroteIs to.old (notes_section store.now t) to.new result }
-    ensures wrote_is_2 { (ms : List Head) (log : List (ℕ × Note)) → Represents store.now t ms log → WroteIs to.old (section (λ (x : ℕ × Note). note_bytes x.1) (in_order ms log)) to.new result }
+    ensures bytes_of_store { WroteIs to.old (notes_section store.now t) to.new result }
+    ensures bytes_of_tables { (ms : List Head) (log : List (ℕ × Note)) → Represents store.now t ms log → WroteIs to.old (section (λ (x : ℕ × Note). note_bytes x.1) (in_order ms log)) to.new result }
 {
-    let Wrote::To(at) = store_sections::write_u32(to, t.notes.count as u32) else {
-        return Wrote::NoRoom;
-    };
-    let Wrote::To(k) = write_all(store, t, lead, &mut to[at..]) else {
-        return Wrote::NoRoom;
-    };
-    Wrote::To(at + k)
+    let at = store_sections::write_u32(to, t.notes.count as u32)?;
+    let m = write_all(store, t, lead, &mut to[at..])?;
+    Some(at + m)
 }

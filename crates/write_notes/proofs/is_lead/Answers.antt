@@ -1,19 +1,16 @@
 -- `write_notes::is_lead` meets its contract.
-use mathlib.Core.Path.{refl, sym, ◌∙◌}
-use native.Mathlib.Omega.{arith}
-use Rattle.write_notes.proofs.Leads.{leads_yes, leads_no, leads_none}
+use mathlib.Core.Path.{sym, ◌∙◌}
+use Rattle.write_notes.proofs.Leads.{leads_start, leads_yes, leads_no, leads_end}
 use Rattle.write_notes.proofs.is_lead.Goals as goal
 
-pub loop-left-init : goal.loop-left-init
-loop-left-init c = (c.requires, refl)
+pub loop-row-init : goal.loop-row-init
+loop-row-init c = leads_start _ _ _
 
 pub returns-then-not-is_of_voice : goal.returns-then-not-is_of_voice
-returns-then-not-is_of_voice c = leads_no _ _ _ c.loop-left-test.true (sym c.is_of_voice.ensures ∙ c.if-not-is_of_voice.true) ∙ c.loop-left.invariant.1
+returns-then-not-is_of_voice c = leads_no _ _ _ _ c.loop-row-test.true (sym c.is_of_voice.ensures ∙ c.if-not-is_of_voice.true) ∙ c.loop-row.invariant
 
-pub loop-left-preserved : goal.loop-left-preserved
-loop-left-preserved c =
-    let l = c.loop-left in
-    (omega (arith, l.invariant.0, c.loop-left-test.true), leads_yes _ _ _ c.loop-left-test.true (sym c.is_of_voice.ensures ∙ c.if-not-is_of_voice.false) ∙ l.invariant.1)
+pub loop-row-preserved : goal.loop-row-preserved
+loop-row-preserved c = leads_yes _ _ _ _ c.loop-row-test.true (sym c.is_of_voice.ensures ∙ c.if-not-is_of_voice.false) ∙ c.loop-row.invariant
 
 pub returns : goal.returns
-returns c = leads_none _ _ _ (omega arith) ∙ c.loop-left.invariant.1
+returns c = leads_end _ _ _ _ c.loop-row-test.false ∙ c.loop-row.invariant

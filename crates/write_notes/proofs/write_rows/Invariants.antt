@@ -1,5 +1,5 @@
 -- `write_notes::write_rows` meets its contract: what is left of the rows gives what is left of the records, for which there is room.
-use Prim.Native.Nat.{◌+◌, ◌*◌, ◌≤◌}
+use Prim.Native.Nat.{◌+◌, ◌-◌, ◌*◌, ◌≤◌}
 use mathlib.Core.Path.{◌≡◌}
 use lib.ListN.{length}
 use Rattle.reader.specs.Records.{note_width}
@@ -8,9 +8,6 @@ use Rattle.write_notes.specs.Out.{records_out}
 use Rattle.write_notes.proofs.Written.{Written}
 use Rattle.write_notes.proofs.write_rows.Given as goal
 
-abbrev pub invariant-loop-left : goal.invariant-loop-left
-invariant-loop-left l =
-    (l.p + note_row_width * l.left ≤ length l.store) × (l.at + note_width * l.left ≤ length l.to) × (length l.to ≡ length l.initial.to) × Written l.initial.to (records_out l.store l.place l.k) (records_out l.store l.p l.left) l.to l.at
-
-abbrev pub decreases-loop-left : goal.decreases-loop-left
-decreases-loop-left l = l.left
+abbrev pub invariant-loop-row : goal.invariant-loop-row
+invariant-loop-row l =
+    (note_width * l.k ≤ length l.to) × (length l.to ≡ length l.initial.to) × Written l.initial.to (records_out l.store l.place l.k) (records_out l.store (l.place + note_row_width * l.row) (l.k - l.row)) l.to (note_width * l.row)

@@ -1,5 +1,5 @@
 -- `write_notes::write_voice` meets its contract: what is left of the rows gives what is left of the records.
-use Prim.Native.Nat.{◌+◌, ◌*◌, ◌≤◌}
+use Prim.Native.Nat.{◌+◌, ◌-◌, ◌*◌}
 use mathlib.Core.Path.{◌≡◌}
 use lib.ListN.{length}
 use Rattle.part_rows.specs.Encoded.{note_row_width}
@@ -7,9 +7,6 @@ use Rattle.write_notes.specs.Out.{voice_out}
 use Rattle.write_notes.proofs.Written.{Written}
 use Rattle.write_notes.proofs.write_voice.Given as goal
 
-abbrev pub invariant-loop-left : goal.invariant-loop-left
-invariant-loop-left l =
-    (l.p + note_row_width * l.left ≤ length l.store) × (length l.to ≡ length l.initial.to) × Written l.initial.to (voice_out l.store l.voice l.place l.k) (voice_out l.store l.voice l.p l.left) l.to l.at
-
-abbrev pub decreases-loop-left : goal.decreases-loop-left
-decreases-loop-left l = l.left
+abbrev pub invariant-loop-row : goal.invariant-loop-row
+invariant-loop-row l =
+    (length l.to ≡ length l.initial.to) × Written l.initial.to (voice_out l.store l.voice l.place l.k) (voice_out l.store l.voice (l.place + note_row_width * l.row) (l.k - l.row)) l.to l.at
