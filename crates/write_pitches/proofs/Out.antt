@@ -23,8 +23,7 @@ use Rattle.part_rows.proofs.Bytes.{length_note, length_pitch}
 use Rattle.part_rows.proofs.Notes.{byte_voice}
 use Rattle.part_measures.specs.Heads.{head_row, note_count, total}
 use Rattle.part_measures.proofs.Heads.{length_head}
-use Rattle.store_sections.specs.declared.Wrote.{Wrote}
-use Rattle.store_sections.specs.declared.Wrote.TheVariants.{To, NoRoom}
+use Rattle.std.specs.Prelude.{Option, Some, None}
 use Rattle.store_sections.specs.Writes.{WroteIs}
 use Rattle.part_rows.proofs.Zipped.{table_front}
 use Rattle.write_notes.specs.declared.PartTables.{PartTables}
@@ -34,11 +33,19 @@ use Rattle.part_measures.proofs.Counts.{count_out}
 use Rattle.write_notes.proofs.Out.{wrote_as_lem, by_voice_lem, in_order_sum, notes_total}
 use Rattle.write_pitches.specs.Out.{voice_out, voices_out, pitches_out, pitches_section}
 
--- STEPS, as the loops take them
-pub pitch_total_step : (s : List ℕ) (p k : ℕ) → 0 < k → pitch_total s p k ≡ pitch_count s p + pitch_total s (p + note_row_width) (k - 1)
+-- STEPS, as the loops take them: row i of k
+pub pitch_total_more : (s : List ℕ) (p k i : ℕ) → i < k → pitch_total s (p + note_row_width * i) (k - i) ≡ pitch_count s (p + note_row_width * i) + pitch_total s (p + note_row_width * (i + 1)) (k - (i + 1))
 unfolding pitch_total
-pitch_total_step s p zero h = absurd (omega arith)
-pitch_total_step s p (suc k) h = let e : suc k - 1 ≡ k = omega arith in rw e
+pitch_total_more s p k i h =
+    let e : k - i ≡ suc (k - (i + 1)) = omega arith in
+    let f : p + note_row_width * i + note_row_width ≡ p + note_row_width * (i + 1) = omega arith in
+    rw (e, pitch_total, f)
+
+pub pitch_total_first : (s : List ℕ) (p k : ℕ) → pitch_total s (p + note_row_width * 0) (k - 0) ≡ pitch_total s p k
+pitch_total_first s p k =
+    let e : k - 0 ≡ k = omega arith in
+    let f : p + note_row_width * 0 ≡ p = omega arith in
+    λ i. pitch_total s (f i) (e i)
 
 pub pitch_total_none : (s : List ℕ) (p k : ℕ) → k ≡ 0 → pitch_total s p k ≡ 0
 unfolding pitch_total
@@ -55,21 +62,27 @@ pitch_total_add s p (suc a) b =
 pub pitch_total_split : (s : List ℕ) (p t a b : ℕ) → t ≡ a + b → pitch_total s p t ≡ pitch_total s p a + pitch_total s (p + note_row_width * a) b
 pitch_total_split s p t a b e = ap (pitch_total s p) e ∙ pitch_total_add s p a b
 
-voice_step : (s : List ℕ) (v p q k : ℕ) → 0 < k
-    → voice_out s v p q k ≡ cond (of_voice_at s v p) (part s q (pitch_row_width * pitch_count s p)) [] ++ voice_out s v (p + note_row_width) (q + pitch_row_width * pitch_count s p) (k - 1)
+voice_step : (s : List ℕ) (v p q k i : ℕ) → i < k
+    → voice_out s v (p + note_row_width * i) q (k - i)
+    ≡ cond (of_voice_at s v (p + note_row_width * i)) (part s q (pitch_row_width * pitch_count s (p + note_row_width * i))) []
+    ++ voice_out s v (p + note_row_width * (i + 1)) (q + pitch_row_width * pitch_count s (p + note_row_width * i)) (k - (i + 1))
 unfolding voice_out
-voice_step s v p q zero h = absurd (omega arith)
-voice_step s v p q (suc k) h = let e : suc k - 1 ≡ k = omega arith in rw e
+voice_step s v p q k i h =
+    let e : k - i ≡ suc (k - (i + 1)) = omega arith in
+    let f : p + note_row_width * i + note_row_width ≡ p + note_row_width * (i + 1) = omega arith in
+    rw (e, voice_out, f)
 
-pub voice_yes : (s : List ℕ) (v p q k len : ℕ) → 0 < k → len ≡ pitch_row_width * pitch_count s p → of_voice_at s v p ≡ true → voice_out s v p q k ≡ part s q len ++ voice_out s v (p + note_row_width) (q + len) (k - 1)
-voice_yes s v p q k len h l e = voice_step s v p q k h ∙ rw (e, l)
+pub voice_yes : (s : List ℕ) (v p q k i len : ℕ) → i < k → len ≡ pitch_row_width * pitch_count s (p + note_row_width * i) → of_voice_at s v (p + note_row_width * i) ≡ true
+    → voice_out s v (p + note_row_width * i) q (k - i) ≡ part s q len ++ voice_out s v (p + note_row_width * (i + 1)) (q + len) (k - (i + 1))
+voice_yes s v p q k i len h l e = voice_step s v p q k i h ∙ rw (e, l)
 
-pub voice_no : (s : List ℕ) (v p q k len : ℕ) → 0 < k → len ≡ pitch_row_width * pitch_count s p → of_voice_at s v p ≡ false → voice_out s v p q k ≡ voice_out s v (p + note_row_width) (q + len) (k - 1)
-voice_no s v p q k len h l e = voice_step s v p q k h ∙ rw (e, l)
+pub voice_no : (s : List ℕ) (v p q k i len : ℕ) → i < k → len ≡ pitch_row_width * pitch_count s (p + note_row_width * i) → of_voice_at s v (p + note_row_width * i) ≡ false
+    → voice_out s v (p + note_row_width * i) q (k - i) ≡ voice_out s v (p + note_row_width * (i + 1)) (q + len) (k - (i + 1))
+voice_no s v p q k i len h l e = voice_step s v p q k i h ∙ rw (e, l)
 
-pub voice_none : (s : List ℕ) (v p q k : ℕ) → k ≡ 0 → voice_out s v p q k ≡ []
+pub voice_none : (s : List ℕ) (v p q k i : ℕ) → k ≤ i → voice_out s v p q (k - i) ≡ []
 unfolding voice_out
-voice_none s v p q k h = rw h
+voice_none s v p q k i h = let e : k - i ≡ 0 = omega arith in rw e
 
 pub voices_step : (s : List ℕ) (p q k v j : ℕ) → v < j → voices_out s p q k v (j - v) ≡ voice_out s v p q k ++ voices_out s p q k (v + 1) (j - (v + 1))
 unfolding voices_out
@@ -82,20 +95,25 @@ pub voices_none : (s : List ℕ) (p q k v j : ℕ) → j ≤ v → voices_out s 
 unfolding voices_out
 voices_none s p q k v j h = let e : j - v ≡ 0 = omega arith in rw e
 
-pub pitches_step : (s : List ℕ) (h p q n k : ℕ) → 0 < n → k ≡ note_count s h → pitches_out s h p q n ≡ voices_out s p q k 0 4 ++ pitches_out s (h + measure_width) (p + note_row_width * k) (q + pitch_row_width * pitch_total s p k) (n - 1)
+-- measure i of n, which has k notes
+pub pitches_step : (s : List ℕ) (h p q n i k : ℕ) → i < n → k ≡ note_count s (h + measure_width * i)
+    → pitches_out s (h + measure_width * i) p q (n - i)
+    ≡ voices_out s p q k 0 4 ++ pitches_out s (h + measure_width * (i + 1)) (p + note_row_width * k) (q + pitch_row_width * pitch_total s p k) (n - (i + 1))
 unfolding pitches_out
-pitches_step s h p q zero k l e = absurd (omega arith)
-pitches_step s h p q (suc n) k l e = let f : suc n - 1 ≡ n = omega arith in rw (f, e)
+pitches_step s h p q n i k l x =
+    let e : n - i ≡ suc (n - (i + 1)) = omega arith in
+    let f : h + measure_width * i + measure_width ≡ h + measure_width * (i + 1) = omega arith in
+    rw (e, pitches_out, f, x)
 
-pub pitches_none : (s : List ℕ) (h p q n : ℕ) → n ≡ 0 → pitches_out s h p q n ≡ []
+pub pitches_none : (s : List ℕ) (h p q n i : ℕ) → n ≤ i → pitches_out s h p q (n - i) ≡ []
 unfolding pitches_out
-pitches_none s h p q n l = rw l
+pitches_none s h p q n i l = let e : n - i ≡ 0 = omega arith in rw e
 
 -- A run of bytes, as it is written
-pub run_wrote : {d e : List ℕ} (s : List ℕ) (from len : ℕ) → e ≡ splice d 0 (part s from len) → from + len ≤ length s → len ≤ length d → WroteIs d (part s from len) e (To len)
+pub run_wrote : {d e : List ℕ} (s : List ℕ) (from len : ℕ) → e ≡ splice d 0 (part s from len) → from + len ≤ length s → len ≤ length d → WroteIs d (part s from len) e (Some len)
 run_wrote s from len q h l = record { says = (sym (length_part s from len h), l, q) }
 
-pub run_none : {d e : List ℕ} (s : List ℕ) (from len : ℕ) → from + len ≤ length s → length d < len → WroteIs d (part s from len) e NoRoom
+pub run_none : {d e : List ℕ} (s : List ℕ) (from len : ℕ) → from + len ≤ length s → length d < len → WroteIs d (part s from len) e None
 run_none s from len h l = record { says = omega (arith, length_part s from len h) }
 
 -- A ROW
@@ -214,7 +232,7 @@ module _ {s : List ℕ} {t : PartTables} {ms : List Head} {log : List (ℕ × No
       ap (pitch_total s t.notes.at) (notes_total h ∙ sym h.notes_are) ∙ total_out s t.notes.at log h.notes_table (omega (arith, h.few_pitches, h.pitches_are)) ∙ h.pitches_are
 
 -- A WRITER OF THESE BYTES writes the section of whatever the tables represent
-pub pitches_say : {d e : List ℕ} {r : Wrote} {s : List ℕ} {t : PartTables} → WroteIs d (pitches_section s t) e r
+pub pitches_say : {d e : List ℕ} {r : Option ℕ} {s : List ℕ} {t : PartTables} → WroteIs d (pitches_section s t) e r
     → WroteIs d (pitches_section s t) e r
     × ((ms : List Head) (log : List (ℕ × Note)) → Represents s t ms log → WroteIs d (section pitch_bytes (concat (map (λ (x : ℕ × Note). x.1.pitches) (in_order ms log)))) e r)
 pitches_say w = (w, λ ms log h. wrote_as_lem w (pitches_section_lem h))

@@ -17,7 +17,6 @@ ghost use Rattle.write_pitches.specs.Out.{voice_out, voices_out, pitches_out, pi
 
 use part_measures::MEASURE;
 use part_rows::{NOTE_ROW, PITCH_ROW};
-use store_sections::Wrote;
 use write_notes::PartTables;
 
 // How many bytes the pitches of the note in the row at `place` take.
@@ -33,28 +32,23 @@ fn pitches_end(store: &[u8], place: usize, k: usize, pitches: usize) -> usize
     requires { (place + note_row_width * k ≤ length store.now) × (pitches + pitch_row_width * pitch_total store.now place k ≤ length store.now) }
     ensures { result ≡ pitches + pitch_row_width * pitch_total store.now place k }
 {
-    let mut q = pitches;
-    let mut p = place;
-    let mut left = k;
-    while 0 < left {
-        let len = pitch_bytes(store, p);
-        q += len;
-        p += NOTE_ROW;
-        left -= 1;
+    let mut end = pitches;
+    for row in 0..k {
+        end += pitch_bytes(store, place + NOTE_ROW * row);
     }
-    q
+    end
 }
 
 // Bytes of scratch as they are.
-fn write_run(store: &[u8], from: usize, len: usize, to: &mut [u8]) -> Wrote
+fn write_run(store: &[u8], from: usize, len: usize, to: &mut [u8]) -> Option<usize>
     requires { from + len ≤ length store.now }
     ensures { WroteIs to.old (part store.now from len) to.new result }
 {
     if to.len() < len {
-        return Wrote::NoRoom;
+        return None;
     }
     store::copy(store, from, to, 0, len);
-    Wrote::To(len)
+    Some(len)
 }
 
 // The pitches of those of the k rows from `place` on that are of one voice.
@@ -65,48 +59,39 @@ fn write_voice(
     pitches: usize,
     voice: u8,
     to: &mut [u8],
-) -> Wrote
+) -> Option<usize>
     requires { (place + note_row_width * k ≤ length store.now) × (pitches + pitch_row_width * pitch_total store.now place k ≤ length store.now) }
     ensures { WroteIs to.old (voice_out store.now voice place pitches k) to.new result }
 {
     let mut at = 0;
-    let mut p = place;
     let mut q = pitches;
-    let mut left = k;
-    while 0 < left {
+    for row in 0..k {
+        let p = place + NOTE_ROW * row;
         let len = pitch_bytes(store, p);
-        if !part_rows::is_of_voice(store, p, voice) {
-            p += NOTE_ROW;
-            q += len;
-            left -= 1;
-            continue;
+        if part_rows::is_of_voice(store, p, voice) {
+            at += write_run(store, q, len, &mut to[at..])?;
         }
-        let Wrote::To(m) = write_run(store, q, len, &mut to[at..]) else {
-            return Wrote::NoRoom;
-        };
-        at += m;
-        p += NOTE_ROW;
         q += len;
-        left -= 1;
     }
-    Wrote::To(at)
+    Some(at)
 }
 
 // The pitches of the k rows from `place` on: voice 0 to 3, each as written.
-fn write_voices(store: &[u8], place: usize, k: usize, pitches: usize, to: &mut [u8]) -> Wrote
+fn write_voices(
+    store: &[u8],
+    place: usize,
+    k: usize,
+    pitches: usize,
+    to: &mut [u8],
+) -> Option<usize>
     requires { (place + note_row_width * k ≤ length store.now) × (pitches + pitch_row_width * pitch_total store.now place k ≤ length store.now) }
     ensures { WroteIs to.old (voices_out store.now place pitches k 0 4) to.new result }
 {
     let mut at = 0;
-    let mut voice: u8 = 0;
-    while voice < 4 {
-        let Wrote::To(m) = write_voice(store, place, k, pitches, voice, &mut to[at..]) else {
-            return Wrote::NoRoom;
-        };
-        at += m;
-        voice += 1;
+    for voice in 0..4 {
+        at += write_voice(store, place, k, pitches, voice, &mut to[at..])?;
     }
-    Wrote::To(at)
+    Some(at)
 }
 
 // The pitches of one measure, whose k rows begin at `place`; they end at `end`. Those of one voice stand as they are written.
@@ -117,7 +102,7 @@ fn write_measure(
     pitches: usize,
     end: usize,
     to: &mut [u8],
-) -> Wrote
+) -> Option<usize>
     requires { (place + note_row_width * k ≤ length store.now) × (pitches + pitch_row_width * pitch_total store.now place k ≤ length store.now) × (end ≡ pitches + pitch_row_width * pitch_total store.now place k) }
     ensures { WroteIs to.old (voices_out store.now place pitches k 0 4) to.new result }
 {
@@ -128,32 +113,25 @@ fn write_measure(
 }
 
 // The pitches of all notes, measure by measure.
-fn write_records(store: &[u8], t: PartTables, to: &mut [u8]) -> Wrote
+fn write_records(store: &[u8], t: PartTables, to: &mut [u8]) -> Option<usize>
     requires { InStore store.now t }
     ensures { WroteIs to.old (pitches_out store.now t.measures.at t.notes.at t.pitches.at t.measures.count) to.new result }
 {
     let mut at = 0;
-    let mut h = t.measures.at;
     let mut p = t.notes.at;
     let mut q = t.pitches.at;
-    let mut left = t.measures.count;
-    while 0 < left {
-        let k = part_measures::note_count(store, h);
+    for measure in 0..t.measures.count {
+        let k = part_measures::note_count(store, t.measures.at + MEASURE * measure);
         let end = pitches_end(store, p, k, q);
-        let Wrote::To(m) = write_measure(store, p, k, q, end, &mut to[at..]) else {
-            return Wrote::NoRoom;
-        };
-        at += m;
+        at += write_measure(store, p, k, q, end, &mut to[at..])?;
         q = end;
-        h += MEASURE;
         p += NOTE_ROW * k;
-        left -= 1;
     }
-    Wrote::To(at)
+    Some(at)
 }
 
 // The pitches of all notes: one run where all notes are of voice 0 (`lead`), else measure by measure.
-fn write_all(store: &[u8], t: PartTables, lead: bool, to: &mut [u8]) -> Wrote
+fn write_all(store: &[u8], t: PartTables, lead: bool, to: &mut [u8]) -> Option<usize>
     requires { InStore store.now t × (lead ≡ leads store.now t.notes.at t.notes.count) }
     ensures { WroteIs to.old (pitches_out store.now t.measures.at t.notes.at t.pitches.at t.measures.count) to.new result }
 {
@@ -164,16 +142,12 @@ fn write_all(store: &[u8], t: PartTables, lead: bool, to: &mut [u8]) -> Wrote
 }
 
 // The section of the pitches, in the order of the notes that have them. `lead` tells whether all notes are of voice 0.
-pub fn write_pitches(store: &[u8], t: PartTables, lead: bool, to: &mut [u8]) -> Wrote
+pub fn write_pitches(store: &[u8], t: PartTables, lead: bool, to: &mut [u8]) -> Option<usize>
     requires { InStore store.now t × (lead ≡ leads store.now t.notes.at t.notes.count) }
-    ensures wrote_is { WroteIs to.old (pitches_section store.now t) to.new result }
-    ensures wrote_is_2 { (ms : List Head) (log : List (ℕ × Note)) → Represents store.now t ms log → WroteIs to.old (section pitch_bytes (concat (map (λ (x : ℕ × Note). x.1.pitches) (in_order ms log)))) to.new result }
+    ensures bytes_of_store { WroteIs to.old (pitches_section store.now t) to.new result }
+    ensures bytes_of_tables { (ms : List Head) (log : List (ℕ × Note)) → Represents store.now t ms log → WroteIs to.old (section pitch_bytes (concat (map (λ (x : ℕ × Note). x.1.pitches) (in_order ms log)))) to.new result }
 {
-    let Wrote::To(at) = store_sections::write_u32(to, t.pitches.count as u32) else {
-        return Wrote::NoRoom;
-    };
-    let Wrote::To(k) = write_all(store, t, lead, &mut to[at..]) else {
-        return Wrote::NoRoom;
-    };
-    Wrote::To(at + k)
+    let at = store_sections::write_u32(to, t.pitches.count as u32)?;
+    let m = write_all(store, t, lead, &mut to[at..])?;
+    Some(at + m)
 }

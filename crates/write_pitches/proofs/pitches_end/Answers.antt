@@ -1,36 +1,27 @@
 -- `write_pitches::pitches_end` meets its contract.
-use mathlib.Core.Path.{refl}
+use Prim.Native.Nat.{◌+◌, ◌-◌, ◌*◌}
 use native.Mathlib.Omega.{arith}
-use Rattle.write_pitches.proofs.Out.{pitch_total_step, pitch_total_none}
+use Rattle.part_rows.specs.Encoded.{note_row_width}
+use Rattle.write_pitches.proofs.Out.{pitch_total_more, pitch_total_first, pitch_total_none}
 use Rattle.write_pitches.proofs.pitches_end.Goals as goal
 
-pub loop-left-init : goal.loop-left-init
-loop-left-init c = (c.requires.0, refl)
+pub loop-row-init : goal.loop-row-init
+loop-row-init c = omega (arith, pitch_total_first c.args.store.now c.args.place c.args.k)
 
-pub pitch_bytes-len-requires : goal.pitch_bytes-len-requires
-pitch_bytes-len-requires c = omega (arith, c.loop-left.invariant.0)
+pub overflow_add-end : goal.overflow_add-end
+overflow_add-end c =
+    let l = c.loop-row in
+    let a = c.args in
+    omega (arith, l.invariant, pitch_total_more a.store.now a.place a.k l.row c.loop-row-test.true, c.pitch_bytes-end.ensures, c.requires, c.well_formed)
 
-pub overflow_add-q : goal.overflow_add-q
-overflow_add-q c =
-    let l = c.loop-left in
-    omega (arith, l.invariant, pitch_total_step c.args.store.now l.p l.left c.loop-left-test.true, c.pitch_bytes-len.ensures, c.requires, c.well_formed)
-
-pub overflow_add-p : goal.overflow_add-p
-overflow_add-p c = omega (arith, c.loop-left.invariant.0, c.well_formed)
-
-pub overflow_sub-left : goal.overflow_sub-left
-overflow_sub-left c = omega (arith, c.loop-left-test.true)
-
-pub loop-left-smaller : goal.loop-left-smaller
-loop-left-smaller c = omega (arith, c.loop-left-test.true)
-
-pub loop-left-preserved : goal.loop-left-preserved
-loop-left-preserved c =
-    let l = c.loop-left in
-    let e = pitch_total_step c.args.store.now l.p l.left c.loop-left-test.true in
-    (omega (arith, l.invariant.0), omega (arith, l.invariant.1, e, c.pitch_bytes-len.ensures))
+pub loop-row-preserved : goal.loop-row-preserved
+loop-row-preserved c =
+    let l = c.loop-row in
+    let a = c.args in
+    omega (arith, l.invariant, pitch_total_more a.store.now a.place a.k l.row c.loop-row-test.true, c.pitch_bytes-end.ensures)
 
 pub returns : goal.returns
 returns c =
-    let l = c.loop-left in
-    omega (arith, l.invariant.1, pitch_total_none c.args.store.now l.p l.left (omega arith))
+    let l = c.loop-row in
+    let a = c.args in
+    omega (arith, l.invariant, pitch_total_none a.store.now (a.place + note_row_width * l.row) (a.k - l.row) (omega (arith, c.loop-row-test.false)))

@@ -1,5 +1,5 @@
 -- `write_pitches::write_voices` meets its contract: voice after voice.
-use Prim.Native.Nat.{◌-◌, ◌≤◌}
+use Prim.Native.Nat.{◌-◌}
 use mathlib.Core.Path.{◌≡◌}
 use lib.ListN.{length}
 use Rattle.write_notes.proofs.Written.{Written}
@@ -8,7 +8,4 @@ use Rattle.write_pitches.proofs.write_voices.Given as goal
 
 abbrev pub invariant-loop-voice : goal.invariant-loop-voice
 invariant-loop-voice l =
-    (l.voice ≤ 4) × (length l.to ≡ length l.initial.to) × Written l.initial.to (voices_out l.store l.place l.pitches l.k 0 4) (voices_out l.store l.place l.pitches l.k l.voice (4 - l.voice)) l.to l.at
-
-abbrev pub decreases-loop-voice : goal.decreases-loop-voice
-decreases-loop-voice l = 4 - l.voice
+    (length l.to ≡ length l.initial.to) × Written l.initial.to (voices_out l.store l.place l.pitches l.k 0 4) (voices_out l.store l.place l.pitches l.k l.voice (4 - l.voice)) l.to l.at
