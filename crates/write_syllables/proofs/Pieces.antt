@@ -27,7 +27,7 @@ use Rattle.lyric_walk.specs.Walks.{chain, syllable_is, of_verse, within, found_a
 use Rattle.lyric_walk.proofs.Chains.{verses_small}
 use Rattle.lyric_walk.proofs.Verses.{rising_chain, within_split, within_next, within_all, within_start, within_past, within_none}
 use Rattle.lyric_walk.proofs.Walk.{same_syllable, text_length, text_more}
-use Rattle.store_sections.specs.declared.Wrote.TheVariants.{To, NoRoom}
+use Rattle.std.specs.Prelude.{Some, None}
 use Rattle.store_sections.specs.Writes.{WroteIs}
 use Rattle.write_syllables.specs.Pieces.{piece, pieces}
 
@@ -67,7 +67,7 @@ unfolding lyric_bytes
 length_record i y = length-append (le32 i) _ ∙ omega (arith, length_little 4 i, length_little 4 (length y.text))
 
 module _ (text : List ℕ) (i : ℕ) (f : Found) where
-  pub record_none : {d e : List ℕ} → length d < 11 → WroteIs d (lyric_bytes i (syllable_is text f)) e NoRoom
+  pub record_none : {d e : List ℕ} → length d < 11 → WroteIs d (lyric_bytes i (syllable_is text f)) e None
   record_none h = record { says = omega (arith, length_record i (syllable_is text f)) }
 
   record_is : f.end ≤ length text → lyric_bytes i (syllable_is text f) ≡ le32 i ++ (f.verse ∷ syllabic_code (as_syllabic f.syllabic) ∷ bit f.extend 1 ∷ le32 (f.end - f.at))
@@ -76,7 +76,7 @@ module _ (text : List ℕ) (i : ℕ) (f : Found) where
 
   pub record_wrote : {d t u e : List ℕ} (x n c b : ℕ) → le32 x ≡ le32 i → le32 n ≡ le32 (f.end - f.at) → c ≡ syllabic_code (as_syllabic f.syllabic) → b ≡ bit f.extend 1
       → t ≡ splice d 0 (le32 x) → u ≡ splice t 4 (f.verse ∷ c ∷ b ∷ []) → e ≡ splice u 7 (le32 n) → 11 ≤ length d → f.end ≤ length text
-      → WroteIs d (lyric_bytes i (syllable_is text f)) e (To 11)
+      → WroteIs d (lyric_bytes i (syllable_is text f)) e (Some 11)
   record_wrote {d} {t} {u} {e} x n c b xs ns cs bs p q r room h =
       let four : length (le32 x) ≡ 4 = length_little 4 x in
       let two = spliced_next d t u 0 4 _ _ p q (omega arith) in
@@ -87,11 +87,11 @@ module _ (text : List ℕ) (i : ℕ) (f : Found) where
       record { says = (sym (length_record i (syllable_is text f)), room, all ∙ ap (splice d 0) shape) }
 
 -- A TEXT
-pub text_none : {d e : List ℕ} (text : List ℕ) (at end : ℕ) → end ≤ length text → length d < end - at → WroteIs d (syllable_text (between text at end)) e NoRoom
+pub text_none : {d e : List ℕ} (text : List ℕ) (at end : ℕ) → end ≤ length text → length d < end - at → WroteIs d (syllable_text (between text at end)) e None
 unfolding syllable_text
 text_none text at end h l = record { says = omega (arith, length-map (between text at end) sung_byte ∙ length_between text at end h) }
 
-pub text_wrote : {d e : List ℕ} (text : List ℕ) (at end : ℕ) → end ≤ length text → end - at ≤ length d → e ≡ splice d 0 (syllable_text (between text at end)) → WroteIs d (syllable_text (between text at end)) e (To (end - at))
+pub text_wrote : {d e : List ℕ} (text : List ℕ) (at end : ℕ) → end ≤ length text → end - at ≤ length d → e ≡ splice d 0 (syllable_text (between text at end)) → WroteIs d (syllable_text (between text at end)) e (Some (end - at))
 unfolding syllable_text
 text_wrote text at end h l p = record { says = (sym (length-map (between text at end) sung_byte ∙ length_between text at end h), l, p) }
 

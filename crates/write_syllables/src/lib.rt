@@ -13,7 +13,6 @@ ghost use Rattle.lyric_walk.specs.Walks.{Tables, chain, syllable_is, within, sun
 ghost use Rattle.write_syllables.specs.Pieces.{piece, pieces};
 
 use reading_records::LYRIC;
-use store_sections::Wrote;
 
 // A RECORD
 
@@ -42,12 +41,12 @@ fn put_3(store: &mut [u8], at: usize, a: u8, b: u8, c: u8)
 }
 
 // The record of a syllable of the note at index `note`.
-fn write_record(note: usize, f: lyric_walk::Found, to: &mut [u8]) -> Wrote
+fn write_record(note: usize, f: lyric_walk::Found, to: &mut [u8]) -> Option<usize>
     requires { f.at ≤ f.end }
     ensures { (text : List ℕ) → f.end ≤ length text → WroteIs to.old (lyric_bytes note (syllable_is text f)) to.new result }
 {
     if to.len() < LYRIC {
-        return Wrote::NoRoom;
+        return None;
     }
     let index = low32(note);
     let len = low32(f.end - f.at);
@@ -56,33 +55,36 @@ fn write_record(note: usize, f: lyric_walk::Found, to: &mut [u8]) -> Wrote
     store::put_u32(to, 0, index);
     put_3(to, 4, f.verse, code, extend);
     store::put_u32(to, 7, len);
-    Wrote::To(LYRIC)
+    Some(LYRIC)
 }
 
 // A TEXT
 
 // The text between two places, `~` as a space.
-fn write_text(text: &[u8], at: usize, end: usize, to: &mut [u8]) -> Wrote
+fn write_text(text: &[u8], at: usize, end: usize, to: &mut [u8]) -> Option<usize>
     requires { (at ≤ end) × (end ≤ length text.now) }
     ensures { WroteIs to.old (syllable_text (between text.now at end)) to.new result }
 {
     let len = end - at;
     if to.len() < len {
-        return Wrote::NoRoom;
+        return None;
     }
-    let mut j = 0;
-    while j < len {
-        let b = lyric_walk::sung_byte(text[at + j]);
-        to[j] = b;
-        j += 1;
+    for j in 0..len {
+        to[j] = lyric_walk::sung_byte(text[at + j]);
     }
-    Wrote::To(len)
+    Some(len)
 }
 
 // THE SYLLABLES OF A NOTE
 
 // The text of a syllable, or its record.
-fn write_piece(text: &[u8], note: usize, f: lyric_walk::Found, texts: bool, to: &mut [u8]) -> Wrote
+fn write_piece(
+    text: &[u8],
+    note: usize,
+    f: lyric_walk::Found,
+    texts: bool,
+    to: &mut [u8],
+) -> Option<usize>
     requires { (f.at ≤ f.end) × (f.end ≤ length text.now) }
     ensures { WroteIs to.old (piece texts note (syllable_is text.now f)) to.new result }
 {
@@ -102,12 +104,12 @@ fn write_place(
     note: usize,
     texts: bool,
     to: &mut [u8],
-) -> Wrote
+) -> Option<usize>
     requires { log + lyric_row_width * place ≤ length store.now }
     ensures { WroteIs to.old (pieces texts note (sung_at text.now store.now log place held)) to.new result }
 {
     if place == 0 {
-        return Wrote::To(0);
+        return Some(0);
     }
     let f = lyric_walk::syllable_at(text, store, log, place, held);
     write_piece(text, note, f, texts, to)
@@ -126,25 +128,18 @@ fn write_window(
     note: usize,
     texts: bool,
     to: &mut [u8],
-) -> Wrote
+) -> Option<usize>
     requires { (log + lyric_row_width * k ≤ length store.now) × (from + window < 18446744073709551616) × Gathered store.now log k from places.now held.now span }
     ensures { WroteIs to.old (pieces texts note (within from (from + window) (chain text.now store.now log k))) to.new result }
 {
     let end = lyric_walk::lesser(span.most + 1, from + lyric_walk::WINDOW);
     let mut at = 0;
-    let mut verse = lyric_walk::greater(span.least, from);
-    while verse < end {
-        let i = verse - from;
-        let place = places[i];
-        let extend = held[i];
-        let Wrote::To(m) = write_place(text, store, log, place, extend, note, texts, &mut to[at..])
-        else {
-            return Wrote::NoRoom;
-        };
-        at += m;
-        verse += 1;
+    for verse in lyric_walk::greater(span.least, from)..end {
+        let place = places[verse - from];
+        let extend = held[verse - from];
+        at += write_place(text, store, log, place, extend, note, texts, &mut to[at..])?;
     }
-    Wrote::To(at)
+    Some(at)
 }
 
 // Those of the chain from row k of the log on: one walk where no verse is above the first window's.
@@ -156,7 +151,7 @@ fn write_verses(
     note: usize,
     texts: bool,
     to: &mut [u8],
-) -> Wrote
+) -> Option<usize>
     requires { log + lyric_row_width * k ≤ length store.now }
     ensures { WroteIs to.old (pieces texts note (chain text.now store.now log k)) to.new result }
 {
@@ -166,7 +161,7 @@ fn write_verses(
         let mut places = [0; 33];
         let mut held = [false; 33];
         let span = lyric_walk::gather(store, log, k, from, &mut places, &mut held);
-        let Wrote::To(n) = write_window(
+        at += write_window(
             text,
             store,
             log,
@@ -178,16 +173,13 @@ fn write_verses(
             note,
             texts,
             &mut to[at..],
-        ) else {
-            return Wrote::NoRoom;
-        };
-        at += n;
+        )?;
         if span.most < from + lyric_walk::WINDOW {
-            return Wrote::To(at);
+            return Some(at);
         }
         from += lyric_walk::WINDOW;
     }
-    Wrote::To(at)
+    Some(at)
 }
 
 // The records of note `sung` among the notes that are sung, which is the note at index `note` of all: none past the last of the sheet. Nearly every
@@ -199,17 +191,16 @@ pub fn write_syllable_records(
     sung: usize,
     note: usize,
     to: &mut [u8],
-) -> Wrote
+) -> Option<usize>
     requires { (Tables store.now sheet) × (sheet.count + 1 < 18446744073709551616) }
     ensures { WroteIs to.old (pieces false note (get_or (syllables_in text.now store.now sheet) sung [])) to.new result }
 {
     if sheet.sounded <= sung {
-        return Wrote::To(0);
+        return Some(0);
     }
     let k = lyric_walk::head(store, sheet, sung);
-    let sole = lyric_walk::sole_syllable(text, store, sheet.log, k);
-    match sole {
-        lyric_walk::Sole::Nothing => Wrote::To(0),
+    match lyric_walk::sole_syllable(text, store, sheet.log, k) {
+        lyric_walk::Sole::Nothing => Some(0),
         lyric_walk::Sole::One(f) => write_record(note, f, to),
         lyric_walk::Sole::Several => write_verses(text, store, sheet.log, k, note, false, to),
     }
@@ -222,17 +213,16 @@ pub fn write_syllable_texts(
     sheet: lyrics::Sheet,
     sung: usize,
     to: &mut [u8],
-) -> Wrote
+) -> Option<usize>
     requires { (Tables store.now sheet) × (sheet.count + 1 < 18446744073709551616) }
     ensures { WroteIs to.old (pieces true 0 (get_or (syllables_in text.now store.now sheet) sung [])) to.new result }
 {
     if sheet.sounded <= sung {
-        return Wrote::To(0);
+        return Some(0);
     }
     let k = lyric_walk::head(store, sheet, sung);
-    let sole = lyric_walk::sole_syllable(text, store, sheet.log, k);
-    match sole {
-        lyric_walk::Sole::Nothing => Wrote::To(0),
+    match lyric_walk::sole_syllable(text, store, sheet.log, k) {
+        lyric_walk::Sole::Nothing => Some(0),
         lyric_walk::Sole::One(f) => write_text(text, f.at, f.end, to),
         lyric_walk::Sole::Several => write_verses(text, store, sheet.log, k, 0, true, to),
     }

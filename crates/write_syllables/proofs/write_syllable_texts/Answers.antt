@@ -17,13 +17,13 @@ returns-then-sheet-sung c =
     let a = c.args in
     wrote_as_lem (start _) (sym (pieces_past true 0 (syllables_in a.text.now a.store.now a.sheet) a.sung (omega (arith, how_many a.text.now a.store.now a.sheet, c.if-sheet-sung.true))))
 
-pub sole_syllable-sole-requires : goal.sole_syllable-sole-requires
-sole_syllable-sole-requires c = omega (arith, c.head-k.ensures.low, c.requires.0.log)
+pub sole_syllable-requires : goal.sole_syllable-requires
+sole_syllable-requires c = omega (arith, c.head-k.ensures.low, c.requires.0.log)
 
 pub write_text-requires : goal.write_text-requires
 write_text-requires c =
     let a = c.args in
-    sole_in a.text.now a.store.now a.sheet.log c.head-k.result _ _ c.sole_syllable-sole.ensures c.in-One.is
+    sole_in a.text.now a.store.now a.sheet.log c.head-k.result _ _ c.sole_syllable.ensures c.in-One.is
 
 pub write_verses-requires : goal.write_verses-requires
 write_verses-requires c = omega (arith, c.head-k.ensures.low, c.requires.0.log)
@@ -33,7 +33,7 @@ pub returns-in-Nothing : goal.returns-in-Nothing
 returns-in-Nothing c =
     let a = c.args in
     let head = c.head-k in
-    wrote_as_lem (start _) (sym (sole_none true 0 a.text.now a.store.now a.sheet.log head.result _ c.sole_syllable-sole.ensures c.in-Nothing.is) ∙ ap (pieces true 0) (sym (head.ensures.sung a.text.now)))
+    wrote_as_lem (start _) (sym (sole_none true 0 a.text.now a.store.now a.sheet.log head.result _ c.sole_syllable.ensures c.in-Nothing.is) ∙ ap (pieces true 0) (sym (head.ensures.sung a.text.now)))
 
 -- one
 pub returns-in-One : goal.returns-in-One
@@ -41,7 +41,7 @@ unfolding syllable_is
 returns-in-One c =
     let a = c.args in
     let head = c.head-k in
-    wrote_as_lem c.write_text.ensures (sym (sole_one true 0 a.text.now a.store.now a.sheet.log head.result _ _ c.sole_syllable-sole.ensures c.in-One.is) ∙ ap (pieces true 0) (sym (head.ensures.sung a.text.now)))
+    wrote_as_lem c.write_text.ensures (sym (sole_one true 0 a.text.now a.store.now a.sheet.log head.result _ _ c.sole_syllable.ensures c.in-One.is) ∙ ap (pieces true 0) (sym (head.ensures.sung a.text.now)))
 
 -- several
 pub returns-in-Several : goal.returns-in-Several

@@ -3,7 +3,6 @@ use Prim.Native.Nat.{◌+◌}
 use mathlib.Core.Path.{refl}
 use native.Mathlib.Omega.{arith}
 use borrow.Author.Rules.{rules}
-use Rattle.store_sections.proofs.Writes.{told}
 use Rattle.write_notes.proofs.Written.{begin, written_in, written_as_lem, written_on_lem, written_none, written_all}
 use Rattle.lyric_walk.specs.Walks.{chain, within, window}
 use Rattle.lyric_walk.proofs.Steps.{clear}
@@ -30,18 +29,19 @@ pub write_window-requires : goal.write_window-requires
 write_window-requires c = (c.requires, omega (arith, c.loop-from.invariant.0), c.gather-span.ensures)
 
 -- no room for a window
-pub returns-in_default : goal.returns-in_default
-returns-in_default c =
+pub returns-in_err-at : goal.returns-in_err-at
+returns-in_err-at c =
     let a = c.args in
     let l = c.loop-from in
-    written_none l.invariant.3 (told c.write_window.ensures c.in_default.is) (pieces a.texts a.note (within (l.from + window) past (chain a.text.now a.store.now a.log a.k)))
-    (chain_next a.texts a.note a.text.now a.store.now a.log a.k l.from (l.from + window) past (omega arith) (omega (arith, c.loop-from-test.true, l.invariant.1)))
+    rw c.from_residual.ensures
+    (written_none l.invariant.3 c.in_err-at.ensures (pieces a.texts a.note (within (l.from + window) past (chain a.text.now a.store.now a.log a.k)))
+    (chain_next a.texts a.note a.text.now a.store.now a.log a.k l.from (l.from + window) past (omega arith) (omega (arith, c.loop-from-test.true, l.invariant.1))))
 
 pub overflow_add-at : goal.overflow_add-at
 overflow_add-at c =
     let a = c.args in
     let l = c.loop-from in
-    let w = written_on_lem l.invariant.3 (told c.write_window.ensures c.in-To.is) (chain_next a.texts a.note a.text.now a.store.now a.log a.k l.from (l.from + window) past (omega arith) (omega (arith, c.loop-from-test.true, l.invariant.1))) in
+    let w = written_on_lem l.invariant.3 c.in_ok-at.ensures (chain_next a.texts a.note a.text.now a.store.now a.log a.k l.from (l.from + window) past (omega arith) (omega (arith, c.loop-from-test.true, l.invariant.1))) in
     omega (arith, w.wrote.says.1, c.well_formed)
 
 pub overflow_add-from : goal.overflow_add-from
@@ -52,7 +52,7 @@ pub returns-then-span-from : goal.returns-then-span-from
 returns-then-span-from c =
     let a = c.args in
     let l = c.loop-from in
-    let w = written_on_lem l.invariant.3 (told c.write_window.ensures c.in-To.is) (chain_next a.texts a.note a.text.now a.store.now a.log a.k l.from (l.from + window) past (omega arith) (omega (arith, c.loop-from-test.true, l.invariant.1))) in
+    let w = written_on_lem l.invariant.3 c.in_ok-at.ensures (chain_next a.texts a.note a.text.now a.store.now a.log a.k l.from (l.from + window) past (omega arith) (omega (arith, c.loop-from-test.true, l.invariant.1))) in
     written_all w (verses_end a.texts a.note a.text.now a.store.now a.log a.k l.from _ _ _ c.gather-span.ensures (l.from + window) past c.if-span-from.true)
 
 pub overflow_add-from-in-loop-from : goal.overflow_add-from-in-loop-from
@@ -66,7 +66,7 @@ pub loop-from-preserved : goal.loop-from-preserved
 loop-from-preserved c =
     let a = c.args in
     let l = c.loop-from in
-    let w = written_on_lem l.invariant.3 (told c.write_window.ensures c.in-To.is) (chain_next a.texts a.note a.text.now a.store.now a.log a.k l.from (l.from + window) past (omega arith) (omega (arith, c.loop-from-test.true, l.invariant.1))) in
+    let w = written_on_lem l.invariant.3 c.in_ok-at.ensures (chain_next a.texts a.note a.text.now a.store.now a.log a.k l.from (l.from + window) past (omega arith) (omega (arith, c.loop-from-test.true, l.invariant.1))) in
     (omega (arith, c.loop-from-test.true, l.invariant.1), omega (arith, l.invariant.1), (written_in w).1, w)
 
 pub returns : goal.returns

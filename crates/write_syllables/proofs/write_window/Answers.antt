@@ -2,7 +2,6 @@
 use Prim.Native.Nat.{◌+◌, ◌-◌}
 use mathlib.Core.Path.{refl}
 use native.Mathlib.Omega.{arith}
-use Rattle.store_sections.proofs.Writes.{told}
 use Rattle.write_notes.proofs.Written.{begin, written_in, written_as_lem, written_on_lem, written_none, written_all}
 use Rattle.lyric_walk.specs.Walks.{chain, within, window}
 use Rattle.write_syllables.specs.Pieces.{pieces}
@@ -29,18 +28,19 @@ write_place-requires c =
     omega (arith, c.requires.2.low (l.verse - c.args.from) (omega (arith, c.loop-verse-test.true, c.lesser-end.ensures, l.invariant.0)), c.requires.0)
 
 -- no room for a syllable
-pub returns-in_default : goal.returns-in_default
-returns-in_default c =
+pub returns-in_err-at : goal.returns-in_err-at
+returns-in_err-at c =
     let a = c.args in
     let l = c.loop-verse in
-    written_none l.invariant.2 (told c.write_place.ensures c.in_default.is) (pieces a.texts a.note (within (l.verse + 1) (a.from + window) (chain a.text.now a.store.now a.log a.k)))
-    (window_next a.texts a.note a.text.now a.store.now a.log a.k a.from a.places.now a.held.now a.span c.requires.2 l.verse l.invariant.0 (omega (arith, c.loop-verse-test.true, c.lesser-end.ensures)))
+    rw c.from_residual.ensures
+    (written_none l.invariant.2 c.in_err-at.ensures (pieces a.texts a.note (within (l.verse + 1) (a.from + window) (chain a.text.now a.store.now a.log a.k)))
+    (window_next a.texts a.note a.text.now a.store.now a.log a.k a.from a.places.now a.held.now a.span c.requires.2 l.verse l.invariant.0 (omega (arith, c.loop-verse-test.true, c.lesser-end.ensures))))
 
 pub overflow_add-at : goal.overflow_add-at
 overflow_add-at c =
     let a = c.args in
     let l = c.loop-verse in
-    let w = written_on_lem l.invariant.2 (told c.write_place.ensures c.in-To.is) (window_next a.texts a.note a.text.now a.store.now a.log a.k a.from a.places.now a.held.now a.span c.requires.2 l.verse l.invariant.0 (omega (arith, c.loop-verse-test.true, c.lesser-end.ensures))) in
+    let w = written_on_lem l.invariant.2 c.in_ok-at.ensures (window_next a.texts a.note a.text.now a.store.now a.log a.k a.from a.places.now a.held.now a.span c.requires.2 l.verse l.invariant.0 (omega (arith, c.loop-verse-test.true, c.lesser-end.ensures))) in
     omega (arith, w.wrote.says.1, c.well_formed)
 
 -- a verse written
@@ -48,7 +48,7 @@ pub loop-verse-preserved : goal.loop-verse-preserved
 loop-verse-preserved c =
     let a = c.args in
     let l = c.loop-verse in
-    let w = written_on_lem l.invariant.2 (told c.write_place.ensures c.in-To.is) (window_next a.texts a.note a.text.now a.store.now a.log a.k a.from a.places.now a.held.now a.span c.requires.2 l.verse l.invariant.0 (omega (arith, c.loop-verse-test.true, c.lesser-end.ensures))) in
+    let w = written_on_lem l.invariant.2 c.in_ok-at.ensures (window_next a.texts a.note a.text.now a.store.now a.log a.k a.from a.places.now a.held.now a.span c.requires.2 l.verse l.invariant.0 (omega (arith, c.loop-verse-test.true, c.lesser-end.ensures))) in
     (omega arith, (written_in w).1, w)
 
 pub returns : goal.returns
