@@ -14,6 +14,7 @@ use Rattle.part_measures.specs.Heads.{note_count, total}
 use Rattle.write_notes.specs.Out.{leads}
 use Rattle.write_notes.proofs.Leads.{lead_first, lead_rest, leads_cut}
 use Rattle.write_syllables.specs.Pieces.{pieces}
+use Rattle.std.specs.Prelude.{Option}
 use Rattle.write_lyrics.specs.declared.Passed.{Passed}
 use Rattle.write_lyrics.specs.Out.{sung_rows, sung_total, rows_out, measures_out, PassedIs}
 
@@ -78,7 +79,7 @@ module _ (b : Bool) (ws : List (List Syllable)) (s : List ℕ) where
       rows_cut i j p t k r q x ∙ ap (λ (l : List ℕ). rows_out b ws s i j p k ++ l) (lead_measures (i + k) (j + sung_rows s p k) (h + measure_width) (p + note_row_width * k) n r refl y)
 
   -- a writer of all rows writes all measures
-  pub passed_all : {d e : List ℕ} {r : Passed} (h p n t : ℕ) → t ≡ total s h n → leads s p t ≡ true → PassedIs d (rows_out b ws s 0 0 p t) e (0 + sung_rows s p t) r → PassedIs d (measures_out b ws s 0 0 h p n) e (sung_total s h p n) r
+  pub passed_all : {d e : List ℕ} {r : Option Passed} (h p n t : ℕ) → t ≡ total s h n → leads s p t ≡ true → PassedIs d (rows_out b ws s 0 0 p t) e (0 + sung_rows s p t) r → PassedIs d (measures_out b ws s 0 0 h p n) e (sung_total s h p n) r
   passed_all {d} {e} {r} h p n t q l w =
       let count : 0 + sung_rows s p t ≡ sung_total s h p n = omega (arith, sung_measures s h p n t q) in
       subst (λ (k : ℕ). PassedIs d (measures_out b ws s 0 0 h p n) e k r) count (subst (λ (x : List ℕ). PassedIs d x e (0 + sung_rows s p t) r) (lead_measures 0 0 h p n t q l) w)

@@ -30,7 +30,7 @@ use Rattle.part_rows.proofs.Bytes.{length_note}
 use Rattle.part_rows.proofs.Notes.{row_other, row_rest, row_sung, lead_is, sung_is}
 use Rattle.part_measures.specs.Heads.{head_row, note_count}
 use Rattle.part_measures.proofs.Heads.{length_head}
-use Rattle.store_sections.specs.declared.Wrote.TheVariants.{To, NoRoom}
+use Rattle.std.specs.Prelude.{Some, None}
 use Rattle.store_sections.specs.Writes.{WroteIs}
 use Rattle.store_sections.proofs.Writes.{count_last}
 use Rattle.part_rows.specs.Read.{sounds_at, of_voice_at, lead_row, sung_row}
@@ -42,23 +42,29 @@ use Rattle.part_measures.proofs.Counts.{count_out}
 use Rattle.write_notes.proofs.Sung.{sung_in, lyrics_none, lyrics_passed, lyrics_taken, lyrics_measure}
 use Rattle.write_syllables.specs.Pieces.{piece, pieces}
 use Rattle.write_syllables.proofs.Pieces.{length_record}
-use Rattle.write_lyrics.specs.declared.Passed.{Passed}
-use Rattle.write_lyrics.specs.declared.Passed.TheVariants as P
-use Rattle.write_lyrics.specs.Out.{sung_rows, sung_total, rows_out, Says, PassedIs, measures_out, count_of, counted, section_out}
+use Rattle.write_lyrics.specs.Out.{sung_rows, sung_total, rows_out, measures_out, count_of, counted, section_out}
 
--- STEPS, as the loops take them
-sung_step : (s : List ℕ) (p k : ℕ) → 0 < k → sung_rows s p k ≡ bit (sung_row s p) 1 + sung_rows s (p + note_row_width) (k - 1)
+-- STEPS, as the loops take them: row r of k
+sung_step : (s : List ℕ) (p k r : ℕ) → r < k → sung_rows s (p + note_row_width * r) (k - r) ≡ bit (sung_row s (p + note_row_width * r)) 1 + sung_rows s (p + note_row_width * (r + 1)) (k - (r + 1))
 unfolding sung_rows
-sung_step s p zero h = absurd (omega arith)
-sung_step s p (suc k) h = let e : suc k - 1 ≡ k = omega arith in rw e
+sung_step s p k r h =
+    let e : k - r ≡ suc (k - (r + 1)) = omega arith in
+    let f : p + note_row_width * r + note_row_width ≡ p + note_row_width * (r + 1) = omega arith in
+    rw (e, sung_rows, f)
 
-pub sung_other : (s : List ℕ) (p k : ℕ) → 0 < k → sung_row s p ≡ false → sung_rows s p k ≡ sung_rows s (p + note_row_width) (k - 1)
-unfolding bit
-sung_other s p k h e = sung_step s p k h ∙ rw e (omega arith)
+pub sung_first : (s : List ℕ) (p k : ℕ) → sung_rows s (p + note_row_width * 0) (k - 0) ≡ sung_rows s p k
+sung_first s p k =
+    let e : k - 0 ≡ k = omega arith in
+    let f : p + note_row_width * 0 ≡ p = omega arith in
+    λ i. sung_rows s (f i) (e i)
 
-pub sung_one : (s : List ℕ) (p k : ℕ) → 0 < k → sung_row s p ≡ true → sung_rows s p k ≡ 1 + sung_rows s (p + note_row_width) (k - 1)
+pub sung_other : (s : List ℕ) (p k r : ℕ) → r < k → sung_row s (p + note_row_width * r) ≡ false → sung_rows s (p + note_row_width * r) (k - r) ≡ sung_rows s (p + note_row_width * (r + 1)) (k - (r + 1))
 unfolding bit
-sung_one s p k h e = sung_step s p k h ∙ rw e
+sung_other s p k r h e = sung_step s p k r h ∙ rw e (omega arith)
+
+pub sung_one : (s : List ℕ) (p k r : ℕ) → r < k → sung_row s (p + note_row_width * r) ≡ true → sung_rows s (p + note_row_width * r) (k - r) ≡ 1 + sung_rows s (p + note_row_width * (r + 1)) (k - (r + 1))
+unfolding bit
+sung_one s p k r h e = sung_step s p k r h ∙ rw e
 
 pub sung_none : (s : List ℕ) (p k : ℕ) → k ≡ 0 → sung_rows s p k ≡ 0
 unfolding sung_rows
@@ -69,58 +75,68 @@ unfolding sung_rows
 sung_low s p zero = omega arith
 sung_low s p (suc k) = omega (arith, bit_le (sung_row s p) 1, sung_low s (p + note_row_width) k)
 
-pub sung_total_step : (s : List ℕ) (h p n k : ℕ) → 0 < n → k ≡ note_count s h → sung_total s h p n ≡ sung_rows s p k + sung_total s (h + measure_width) (p + note_row_width * k) (n - 1)
+-- measure m of n, which has k notes
+pub sung_total_step : (s : List ℕ) (h p n m k : ℕ) → m < n → k ≡ note_count s (h + measure_width * m)
+    → sung_total s (h + measure_width * m) p (n - m) ≡ sung_rows s p k + sung_total s (h + measure_width * (m + 1)) (p + note_row_width * k) (n - (m + 1))
 unfolding sung_total
-sung_total_step s h p zero k l e = absurd (omega arith)
-sung_total_step s h p (suc n) k l e = let f : suc n - 1 ≡ n = omega arith in rw (f, e)
+sung_total_step s h p n m k l x =
+    let e : n - m ≡ suc (n - (m + 1)) = omega arith in
+    let f : h + measure_width * m + measure_width ≡ h + measure_width * (m + 1) = omega arith in
+    rw (e, sung_total, f, x)
+
+pub sung_total_first : (s : List ℕ) (h p n : ℕ) → sung_total s (h + measure_width * 0) p (n - 0) ≡ sung_total s h p n
+sung_total_first s h p n =
+    let e : n - 0 ≡ n = omega arith in
+    let f : h + measure_width * 0 ≡ h = omega arith in
+    λ i. sung_total s (f i) p (e i)
 
 pub sung_total_none : (s : List ℕ) (h p n : ℕ) → n ≡ 0 → sung_total s h p n ≡ 0
 unfolding sung_total
 sung_total_none s h p n l = rw l
 
--- what the writers of records say, where the answer is known
-pub passed_to : {d bs e : List ℕ} {j : ℕ} {r : Passed} → PassedIs d bs e j r → {n q : ℕ} → r ≡ P.To n q → WroteIs d bs e (To n) × (q ≡ j)
-passed_to {d} {bs} {e} {j} w p = subst (Says d bs e j) p w.says
-
-pub passed_none : {d bs e : List ℕ} {j : ℕ} {r : Passed} → PassedIs d bs e j r → r ≡ P.NoRoom → WroteIs d bs e NoRoom
-passed_none {d} {bs} {e} {j} w p = subst (Says d bs e j) p w.says
-
 module _ (b : Bool) (ws : List (List Syllable)) (s : List ℕ) where
-  rows_step : (i j p k : ℕ) → 0 < k
-      → rows_out b ws s i j p k ≡ cond (sung_row s p) (pieces b i (get_or ws j [])) [] ++ rows_out b ws s (i + bit (lead_row s p) 1) (j + bit (sung_row s p) 1) (p + note_row_width) (k - 1)
+  rows_step : (i j p k r : ℕ) → r < k
+      → rows_out b ws s i j (p + note_row_width * r) (k - r)
+      ≡ cond (sung_row s (p + note_row_width * r)) (pieces b i (get_or ws j [])) []
+      ++ rows_out b ws s (i + bit (lead_row s (p + note_row_width * r)) 1) (j + bit (sung_row s (p + note_row_width * r)) 1) (p + note_row_width * (r + 1)) (k - (r + 1))
   unfolding rows_out
-  rows_step i j p zero h = absurd (omega arith)
-  rows_step i j p (suc k) h = let e : suc k - 1 ≡ k = omega arith in rw e
+  rows_step i j p k r h =
+      let e : k - r ≡ suc (k - (r + 1)) = omega arith in
+      let f : p + note_row_width * r + note_row_width ≡ p + note_row_width * (r + 1) = omega arith in
+      rw (e, rows_out, f)
 
   -- of another voice
-  pub rows_other : (i j p k : ℕ) → 0 < k → of_voice_at s 0 p ≡ false → rows_out b ws s i j p k ≡ rows_out b ws s i j (p + note_row_width) (k - 1)
+  pub rows_other : (i j p k r : ℕ) → r < k → of_voice_at s 0 (p + note_row_width * r) ≡ false → rows_out b ws s i j (p + note_row_width * r) (k - r) ≡ rows_out b ws s i j (p + note_row_width * (r + 1)) (k - (r + 1))
   unfolding bit lead_row
-  rows_other i j p k h n = rows_step i j p k h ∙ rw (row_other s p n, n, add-zero i, add-zero j)
+  rows_other i j p k r h n = rows_step i j p k r h ∙ rw (row_other s (p + note_row_width * r) n, n, add-zero i, add-zero j)
 
   -- a rest
-  pub rows_rest : (i j p k : ℕ) → 0 < k → of_voice_at s 0 p ≡ true → sounds_at s p ≡ false → rows_out b ws s i j p k ≡ rows_out b ws s (i + 1) j (p + note_row_width) (k - 1)
+  pub rows_rest : (i j p k r : ℕ) → r < k → of_voice_at s 0 (p + note_row_width * r) ≡ true → sounds_at s (p + note_row_width * r) ≡ false
+      → rows_out b ws s i j (p + note_row_width * r) (k - r) ≡ rows_out b ws s (i + 1) j (p + note_row_width * (r + 1)) (k - (r + 1))
   unfolding bit lead_row
-  rows_rest i j p k h v n = rows_step i j p k h ∙ rw (row_rest s p n, v, add-zero j)
+  rows_rest i j p k r h v n = rows_step i j p k r h ∙ rw (row_rest s (p + note_row_width * r) n, v, add-zero j)
 
   -- one that is sung
-  pub rows_sung : (i j p k : ℕ) → 0 < k → of_voice_at s 0 p ≡ true → sounds_at s p ≡ true
-      → rows_out b ws s i j p k ≡ pieces b i (get_or ws j []) ++ rows_out b ws s (i + 1) (j + 1) (p + note_row_width) (k - 1)
+  pub rows_sung : (i j p k r : ℕ) → r < k → of_voice_at s 0 (p + note_row_width * r) ≡ true → sounds_at s (p + note_row_width * r) ≡ true
+      → rows_out b ws s i j (p + note_row_width * r) (k - r) ≡ pieces b i (get_or ws j []) ++ rows_out b ws s (i + 1) (j + 1) (p + note_row_width * (r + 1)) (k - (r + 1))
   unfolding bit lead_row
-  rows_sung i j p k h v n = rows_step i j p k h ∙ rw (row_sung s p v n, v)
+  rows_sung i j p k r h v n = rows_step i j p k r h ∙ rw (row_sung s (p + note_row_width * r) v n, v)
 
-  pub rows_none : (i j p k : ℕ) → k ≡ 0 → rows_out b ws s i j p k ≡ []
+  pub rows_none : (i j p k r : ℕ) → k ≤ r → rows_out b ws s i j p (k - r) ≡ []
   unfolding rows_out
-  rows_none i j p k h = rw h
+  rows_none i j p k r h = let e : k - r ≡ 0 = omega arith in rw e
 
-  pub measures_step : (i j h p n k q : ℕ) → 0 < n → k ≡ note_count s h → q ≡ sung_rows s p k
-      → measures_out b ws s i j h p n ≡ rows_out b ws s i j p k ++ measures_out b ws s (i + k) (j + q) (h + measure_width) (p + note_row_width * k) (n - 1)
+  pub measures_step : (i j h p n m k q : ℕ) → m < n → k ≡ note_count s (h + measure_width * m) → q ≡ sung_rows s p k
+      → measures_out b ws s i j (h + measure_width * m) p (n - m) ≡ rows_out b ws s i j p k ++ measures_out b ws s (i + k) (j + q) (h + measure_width * (m + 1)) (p + note_row_width * k) (n - (m + 1))
   unfolding measures_out
-  measures_step i j h p zero k q l e f = absurd (omega arith)
-  measures_step i j h p (suc n) k q l e f = let g : suc n - 1 ≡ n = omega arith in rw (g, f, e)
+  measures_step i j h p n m k q l x y =
+      let e : n - m ≡ suc (n - (m + 1)) = omega arith in
+      let f : h + measure_width * m + measure_width ≡ h + measure_width * (m + 1) = omega arith in
+      rw (e, measures_out, f, y, x)
 
-  pub measures_none : (i j h p n : ℕ) → n ≡ 0 → measures_out b ws s i j h p n ≡ []
+  pub measures_none : (i j h p n m : ℕ) → n ≤ m → measures_out b ws s i j h p (n - m) ≡ []
   unfolding measures_out
-  measures_none i j h p n l = rw l
+  measures_none i j h p n m l = let e : n - m ≡ 0 = omega arith in rw e
 
 -- WHAT IS WRITTEN FOR THE LYRICS
 abbrev pub out : Bool → ℕ × Syllable → List ℕ
@@ -299,22 +315,22 @@ module _ (b : Bool) (bs : List ℕ) where
   unfolding counted
   counted_length = length-append (le32 (count_of b (length bs))) bs ∙ omega (arith, length_little 4 (count_of b (length bs)))
 
-  pub counted_short : {d e : List ℕ} → length d < count_width → WroteIs d (counted b bs) e NoRoom
+  pub counted_short : {d e : List ℕ} → length d < count_width → WroteIs d (counted b bs) e None
   counted_short h = record { says = omega (arith, counted_length) }
 
-  pub counted_none : (d : List ℕ) {e f : List ℕ} → count_width ≤ length d → WroteIs (take (length d - count_width) (drop count_width d)) bs f NoRoom → WroteIs d (counted b bs) e NoRoom
+  pub counted_none : (d : List ℕ) {e f : List ℕ} → count_width ≤ length d → WroteIs (take (length d - count_width) (drop count_width d)) bs f None → WroteIs d (counted b bs) e None
   counted_none d h g =
       let room = simp (length-take, length-drop) at g.says in
       record { says = omega (arith, counted_length, room) }
 
-  pub counted_fits : (d : List ℕ) {f : List ℕ} {len : ℕ} → count_width ≤ length d → WroteIs (take (length d - count_width) (drop count_width d)) bs f (To len) → count_width + len ≤ length d
+  pub counted_fits : (d : List ℕ) {f : List ℕ} {len : ℕ} → count_width ≤ length d → WroteIs (take (length d - count_width) (drop count_width d)) bs f (Some len) → count_width + len ≤ length d
   counted_fits d h g =
       let (p, q, r) = g.says in
       let room = simp (length-take, length-drop) at q in
       omega (arith, room)
 
-  pub counted_wrote : (d : List ℕ) {e f : List ℕ} (len low count : ℕ) → count_width ≤ length d → WroteIs (take (length d - count_width) (drop count_width d)) bs f (To len) → le32 low ≡ le32 count
-      → count ≡ count_of b len → e ≡ splice (take count_width d ++ (f ++ drop (length d - count_width) (drop count_width d))) 0 (le32 low) → WroteIs d (counted b bs) e (To (count_width + len))
+  pub counted_wrote : (d : List ℕ) {e f : List ℕ} (len low count : ℕ) → count_width ≤ length d → WroteIs (take (length d - count_width) (drop count_width d)) bs f (Some len) → le32 low ≡ le32 count
+      → count ≡ count_of b len → e ≡ splice (take count_width d ++ (f ++ drop (length d - count_width) (drop count_width d))) 0 (le32 low) → WroteIs d (counted b bs) e (Some (count_width + len))
   unfolding counted
   counted_wrote d {e} {f} len low count h g l c p =
       let (q, room, r) = g.says in
@@ -322,4 +338,4 @@ module _ (b : Bool) (bs : List ℕ) where
       let back = lent_back d count_width (length d - count_width) f 0 bs r (omega arith) in
       let number : le32 low ≡ le32 (count_of b (length bs)) = l ∙ ap le32 c ∙ ap (λ (k : ℕ). le32 (count_of b k)) q in
       let w = count_last bs (count_of b (length bs)) back (p ∙ ap (splice (take count_width d ++ (f ++ drop (length d - count_width) (drop count_width d))) 0) number) (omega arith) in
-      subst (λ (k : ℕ). WroteIs d (le32 (count_of b (length bs)) ++ bs) e (To (count_width + k))) (sym q) w
+      subst (λ (k : ℕ). WroteIs d (le32 (count_of b (length bs)) ++ bs) e (Some (count_width + k))) (sym q) w

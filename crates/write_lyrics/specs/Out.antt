@@ -1,12 +1,11 @@
 -- THE LYRICS OF A PART in the order of the reading, as the bytes of its tables in scratch give them: records, or texts. ws has the syllables of each note that
 -- is sung.
-use Rattle.std.specs.Prelude.{ℕ, zero, suc, ◌+◌, ◌*◌, ◌/◌, ◌<◌, ◌≡◌, Bool, true, cond, List, [], ◌++◌, length, get_or}
+use Rattle.std.specs.Prelude.{ℕ, zero, suc, ◌+◌, ◌*◌, ◌/◌, ◌<◌, ◌≡◌, Bool, true, cond, List, [], ◌++◌, Option, Some, None, length, get_or}
 use Rattle.laws.specs.Bytes.{le32}
 use Rattle.reader.specs.Codes.{bit}
 use Rattle.reader.specs.Lyrics.{Syllable}
 use Rattle.reader.specs.Records.{measure_width, lyric_width}
 use Rattle.part_rows.specs.Encoded.{note_row_width}
-use Rattle.store_sections.specs.declared.Wrote.TheVariants as W
 use Rattle.store_sections.specs.Writes.{WroteIs}
 use Rattle.part_rows.specs.Read.{lead_row, sung_row}
 use Rattle.part_measures.specs.Heads.{note_count}
@@ -15,7 +14,6 @@ use Rattle.lyric_walk.specs.Walks.{Tables}
 use Rattle.write_notes.specs.declared.PartTables.{PartTables}
 use Rattle.write_syllables.specs.Pieces.{pieces}
 use Rattle.write_lyrics.specs.declared.Passed.{Passed}
-use Rattle.write_lyrics.specs.declared.Passed.TheVariants as P
 
 -- how many of the k rows from p on are sung
 unfoldable pub sung_rows : List ℕ → ℕ → ℕ → ℕ
@@ -33,11 +31,11 @@ rows_out texts ws s i j p zero = []
 rows_out texts ws s i j p (suc k) = cond (sung_row s p) (pieces texts i (get_or ws j [])) [] ++ rows_out texts ws s (i + bit (lead_row s p) 1) (j + bit (sung_row s p) 1) (p + note_row_width) k
 
 -- bs was to be written for rows before which, and among which, j notes are sung
-abbrev pub Says : List ℕ → List ℕ → List ℕ → ℕ → Passed → Type 0
-Says d bs e j (P.To n q) = WroteIs d bs e (W.To n) × (q ≡ j)
-Says d bs e j P.NoRoom = WroteIs d bs e W.NoRoom
+abbrev pub Says : List ℕ → List ℕ → List ℕ → ℕ → Option Passed → Type 0
+Says d bs e j (Some x) = WroteIs d bs e (Some x.to) × (x.sung ≡ j)
+Says d bs e j None = WroteIs d bs e None
 
-pub record PassedIs (d bs e : List ℕ) (j : ℕ) (r : Passed) : Type 0 where
+pub record PassedIs (d bs e : List ℕ) (j : ℕ) (r : Option Passed) : Type 0 where
   pub says : Says d bs e j r
 
 -- what the rows of the n heads from h on give, which begin at p

@@ -13,14 +13,13 @@ ghost use Rattle.write_lyrics.specs.Out.{sung_rows, sung_total, rows_out, Passed
 use part_measures::MEASURE;
 use part_rows::NOTE_ROW;
 use reading_records::{COUNT, LYRIC};
-use store_sections::Wrote;
 use write_notes::PartTables;
 
 // How far records are written: up to where, and how many notes are sung up to there.
 #[derive(Clone, Copy)]
-enum Passed {
-    To(usize, usize),
-    NoRoom,
+struct Passed {
+    to: usize,
+    sung: usize,
 }
 
 // RECORDS
@@ -35,44 +34,27 @@ fn write_rows(
     note: usize,
     sung: usize,
     to: &mut [u8],
-) -> Passed
+) -> Option<Passed>
     requires { SheetIn store.now sheet × (place + note_row_width * k ≤ length store.now) × (note + k < 18446744073709551616) × (sung + k < 18446744073709551616) }
     ensures { PassedIs to.old (rows_out false (syllables_in text.now store.now sheet) store.now note sung place k) to.new (sung + sung_rows store.now place k) result }
 {
     let mut at = 0;
     let mut i = note;
     let mut j = sung;
-    let mut p = place;
-    let mut left = k;
-    while 0 < left {
+    for row in 0..k {
+        let p = place + NOTE_ROW * row;
         if !part_rows::is_of_voice(store, p, 0) {
-            p += NOTE_ROW;
-            left -= 1;
             continue;
         }
         if part_rows::is_rest(store, p) {
             i += 1;
-            p += NOTE_ROW;
-            left -= 1;
             continue;
         }
-        let Wrote::To(m) = write_syllables::write_syllable_records(
-            text,
-            store,
-            sheet,
-            j,
-            i,
-            &mut to[at..],
-        ) else {
-            return Passed::NoRoom;
-        };
-        at += m;
+        at += write_syllables::write_syllable_records(text, store, sheet, j, i, &mut to[at..])?;
         i += 1;
         j += 1;
-        p += NOTE_ROW;
-        left -= 1;
     }
-    Passed::To(at, j)
+    Some(Passed { to: at, sung: j })
 }
 
 // Those of all measures.
@@ -82,29 +64,23 @@ fn write_measures(
     sheet: lyrics::Sheet,
     t: PartTables,
     to: &mut [u8],
-) -> Passed
+) -> Option<Passed>
     requires { SheetIn store.now sheet × InStore store.now t }
     ensures { PassedIs to.old (measures_out false (syllables_in text.now store.now sheet) store.now 0 0 t.measures.at t.notes.at t.measures.count) to.new (sung_total store.now t.measures.at t.notes.at t.measures.count) result }
 {
     let mut at = 0;
     let mut i = 0;
     let mut j = 0;
-    let mut h = t.measures.at;
     let mut p = t.notes.at;
-    let mut left = t.measures.count;
-    while 0 < left {
-        let k = part_measures::note_count(store, h);
-        let Passed::To(m, sung) = write_rows(text, store, sheet, p, k, i, j, &mut to[at..]) else {
-            return Passed::NoRoom;
-        };
-        at += m;
+    for measure in 0..t.measures.count {
+        let k = part_measures::note_count(store, t.measures.at + MEASURE * measure);
+        let passed = write_rows(text, store, sheet, p, k, i, j, &mut to[at..])?;
+        at += passed.to;
         i += k;
-        j = sung;
-        h += MEASURE;
+        j = passed.sung;
         p += NOTE_ROW * k;
-        left -= 1;
     }
-    Passed::To(at, j)
+    Some(Passed { to: at, sung: j })
 }
 
 // Those of all notes: all rows at once where all are of voice 0 (`lead`), else measure by measure.
@@ -115,7 +91,7 @@ fn write_all(
     t: PartTables,
     lead: bool,
     to: &mut [u8],
-) -> Passed
+) -> Option<Passed>
     requires { SheetIn store.now sheet × InStore store.now t × (lead ≡ leads store.now t.notes.at t.notes.count) }
     ensures { PassedIs to.old (measures_out false (syllables_in text.now store.now sheet) store.now 0 0 t.measures.at t.notes.at t.measures.count) to.new (sung_total store.now t.measures.at t.notes.at t.measures.count) result }
 {
@@ -133,75 +109,71 @@ fn write_records(
     t: PartTables,
     lead: bool,
     to: &mut [u8],
-) -> Passed
+) -> Option<Passed>
     requires { SheetIn store.now sheet × InStore store.now t × (lead ≡ leads store.now t.notes.at t.notes.count) }
     ensures { PassedIs to.old (section_out false (syllables_in text.now store.now sheet) store.now t) to.new (sung_total store.now t.measures.at t.notes.at t.measures.count) result }
 {
     if to.len() < COUNT {
-        return Passed::NoRoom;
+        return None;
     }
-    let Passed::To(len, sung) = write_all(text, store, sheet, t, lead, &mut to[COUNT..]) else {
-        return Passed::NoRoom;
-    };
-    let low = write_syllables::low32(len / LYRIC);
+    let passed = write_all(text, store, sheet, t, lead, &mut to[COUNT..])?;
+    let low = write_syllables::low32(passed.to / LYRIC);
     store::put_u32(to, 0, low);
-    Passed::To(COUNT + len, sung)
+    Some(Passed {
+        to: COUNT + passed.to,
+        sung: passed.sung,
+    })
 }
 
 // TEXTS: no byte of them depends on the index of a note, so the notes that are sung are enough, and no row is walked again.
 
 // Those of the first `sung` notes that are sung.
-fn write_texts(text: &[u8], store: &[u8], sheet: lyrics::Sheet, sung: usize, to: &mut [u8]) -> Wrote
+fn write_texts(
+    text: &[u8],
+    store: &[u8],
+    sheet: lyrics::Sheet,
+    sung: usize,
+    to: &mut [u8],
+) -> Option<usize>
     requires { SheetIn store.now sheet }
     ensures { WroteIs to.old (texts_out (syllables_in text.now store.now sheet) 0 sung) to.new result }
 {
     let mut at = 0;
-    let mut j = 0;
-    while j < sung {
-        let Wrote::To(m) = write_syllables::write_syllable_texts(
-            text,
-            store,
-            sheet,
-            j,
-            &mut to[at..],
-        ) else {
-            return Wrote::NoRoom;
-        };
-        at += m;
-        j += 1;
+    for j in 0..sung {
+        at += write_syllables::write_syllable_texts(text, store, sheet, j, &mut to[at..])?;
     }
-    Wrote::To(at)
+    Some(at)
 }
 
 // Their section. Its count is written last.
-fn write_text(text: &[u8], store: &[u8], sheet: lyrics::Sheet, sung: usize, to: &mut [u8]) -> Wrote
+fn write_text(
+    text: &[u8],
+    store: &[u8],
+    sheet: lyrics::Sheet,
+    sung: usize,
+    to: &mut [u8],
+) -> Option<usize>
     requires { SheetIn store.now sheet }
     ensures { WroteIs to.old (counted true (texts_out (syllables_in text.now store.now sheet) 0 sung)) to.new result }
 {
     if to.len() < COUNT {
-        return Wrote::NoRoom;
+        return None;
     }
-    let Wrote::To(len) = write_texts(text, store, sheet, sung, &mut to[COUNT..]) else {
-        return Wrote::NoRoom;
-    };
+    let len = write_texts(text, store, sheet, sung, &mut to[COUNT..])?;
     let low = write_syllables::low32(len);
     store::put_u32(to, 0, low);
-    Wrote::To(COUNT + len)
+    Some(COUNT + len)
 }
 
 // BOTH SECTIONS
 
 // Two that are empty.
-fn write_none(to: &mut [u8]) -> Wrote
+fn write_none(to: &mut [u8]) -> Option<usize>
     ensures { WroteIs to.old (le32 0 ++ le32 0) to.new result }
 {
-    let Wrote::To(at) = store_sections::write_u32(to, 0) else {
-        return Wrote::NoRoom;
-    };
-    let Wrote::To(k) = store_sections::write_u32(&mut to[at..], 0) else {
-        return Wrote::NoRoom;
-    };
-    Wrote::To(at + k)
+    let at = store_sections::write_u32(to, 0)?;
+    let m = store_sections::write_u32(&mut to[at..], 0)?;
+    Some(at + m)
 }
 
 // The records, and the texts of as many notes as are sung.
@@ -212,17 +184,13 @@ fn write_sung(
     t: PartTables,
     lead: bool,
     to: &mut [u8],
-) -> Wrote
+) -> Option<usize>
     requires { SheetIn store.now sheet × InStore store.now t × (lead ≡ leads store.now t.notes.at t.notes.count) }
     ensures { WroteIs to.old (section_out false (syllables_in text.now store.now sheet) store.now t ++ section_out true (syllables_in text.now store.now sheet) store.now t) to.new result }
 {
-    let Passed::To(at, sung) = write_records(text, store, sheet, t, lead, to) else {
-        return Wrote::NoRoom;
-    };
-    let Wrote::To(k) = write_text(text, store, sheet, sung, &mut to[at..]) else {
-        return Wrote::NoRoom;
-    };
-    Wrote::To(at + k)
+    let passed = write_records(text, store, sheet, t, lead, to)?;
+    let m = write_text(text, store, sheet, passed.sung, &mut to[passed.to..])?;
+    Some(passed.to + m)
 }
 
 // The sections of the lyrics and of their texts. Where no row is written both are empty, and no note is asked. `lead` tells whether all notes are of voice 0.
@@ -233,7 +201,7 @@ pub fn write_lyrics(
     t: PartTables,
     lead: bool,
     to: &mut [u8],
-) -> Wrote
+) -> Option<usize>
     requires { SheetIn store.now sheet × InStore store.now t × (lead ≡ leads store.now t.notes.at t.notes.count) }
     ensures { WroteIs to.old (section_out false (syllables_in text.now store.now sheet) store.now t ++ section_out true (syllables_in text.now store.now sheet) store.now t) to.new result }
 {

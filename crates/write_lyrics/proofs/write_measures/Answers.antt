@@ -5,86 +5,104 @@ use mathlib.Core.Bool.{false}
 use native.Mathlib.Omega.{arith}
 use Rattle.reader.specs.Records.{measure_width}
 use Rattle.part_rows.specs.Encoded.{note_row_width}
-use Rattle.part_measures.proofs.Counts.{total_step}
-use Rattle.write_notes.proofs.Written.{begin, written_in, written_as_lem, written_on_lem, written_none, written_all}
+use Rattle.write_notes.proofs.Out.{total_first, total_more}
+use Rattle.write_notes.proofs.Written.{begin_rows, written_in, written_as_lem, written_on_lem, written_none, written_all}
 use Rattle.lyrics.specs.Sheet.{syllables_in}
 use Rattle.write_lyrics.specs.Out.{sung_rows, measures_out}
-use Rattle.write_lyrics.proofs.Out.{passed_to, passed_none, sung_low, sung_total_step, sung_total_none, measures_step, measures_none}
+use Rattle.write_lyrics.proofs.Out.{sung_low, sung_total_first, sung_total_step, sung_total_none, measures_step, measures_none}
 use Rattle.write_lyrics.proofs.write_measures.Goals as goal
 
-pub loop-left-init : goal.loop-left-init
-loop-left-init c = (c.requires.1.measures_in, c.requires.1.notes_in_lem, omega arith, omega arith, omega arith, refl, begin _ _)
+pub loop-measure-init : goal.loop-measure-init
+loop-measure-init c =
+    let a = c.args in
+    let t = a.t in (
+      omega (arith, c.requires.1.notes_in_lem, total_first a.store.now t.measures.at t.measures.count),
+      omega arith,
+      omega arith,
+      omega (arith, sung_total_first a.store.now t.measures.at t.notes.at t.measures.count),
+      refl,
+      begin_rows _ (λ h n. measures_out false (syllables_in a.text.now a.store.now a.sheet) a.store.now 0 0 h t.notes.at n) measure_width t.measures.at t.measures.count,
+    )
+
+pub note_count-k-requires : goal.note_count-k-requires
+note_count-k-requires c = omega (arith, c.requires.1.measures_in)
 
 pub slice_bounds-write_rows-count : goal.slice_bounds-write_rows-count
-slice_bounds-write_rows-count c = omega (arith, (written_in c.loop-left.invariant.6).0)
+slice_bounds-write_rows-count c = omega (arith, (written_in c.loop-measure.invariant.5).0)
 
 pub slice_bounds-write_rows-start : goal.slice_bounds-write_rows-start
-slice_bounds-write_rows-start c = omega (arith, (written_in c.loop-left.invariant.6).0)
+slice_bounds-write_rows-start c = omega (arith, (written_in c.loop-measure.invariant.5).0)
 
 pub write_rows-requires : goal.write_rows-requires
 write_rows-requires c =
-    let v = c.loop-left.invariant in
-    let l = c.loop-left in
-    let t = total_step c.args.store.now l.h l.left c.loop-left-test.true in
+    let l = c.loop-measure in
+    let v = l.invariant in
+    let m = c.args.t.measures in
+    let t = total_more c.args.store.now m.at m.count l.measure c.loop-measure-test.true in
     let k = c.note_count-k.ensures.0 in
     let good = c.well_formed in
-    (c.requires.0, omega (arith, v.1, t, k), omega (arith, v.1, v.2, t, k, good), omega (arith, v.1, v.2, v.3, t, k, good))
+    (c.requires.0, omega (arith, v.0, t, k), omega (arith, v.0, v.1, t, k, good), omega (arith, v.0, v.1, v.2, t, k, good))
 
 -- no room for a measure
-pub returns-in_default : goal.returns-in_default
-returns-in_default c =
-    let l = c.loop-left in
+pub returns-in_err-passed : goal.returns-in_err-passed
+returns-in_err-passed c =
+    let l = c.loop-measure in
     let a = c.args in
+    let t = a.t in
     let k = c.note_count-k in
     let q = sung_rows a.store.now l.p k.result in
-    record {
-      says = written_none l.invariant.6 (passed_none c.write_rows.ensures c.in_default.is) (measures_out false (syllables_in a.text.now a.store.now a.sheet) a.store.now (l.i + k.result) (l.j + q) (l.h + measure_width) (l.p + note_row_width * k.result) (l.left - 1))
-          (measures_step _ _ _ _ _ _ _ _ _ q c.loop-left-test.true k.ensures.0 refl);
-    }
+    rw c.from_residual.ensures
+    (record {
+      says = written_none l.invariant.5 c.in_err-passed.ensures.says (measures_out false (syllables_in a.text.now a.store.now a.sheet) a.store.now (l.i + k.result) (l.j + q) (t.measures.at + measure_width * (l.measure + 1)) (l.p + note_row_width * k.result) (t.measures.count - (l.measure + 1)))
+          (measures_step _ _ _ _ _ _ _ _ _ _ q c.loop-measure-test.true k.ensures.0 refl);
+    })
 
 pub overflow_add-at : goal.overflow_add-at
 overflow_add-at c =
-    let w = written_on_lem c.loop-left.invariant.6 (passed_to c.write_rows.ensures c.in-To.is).0 (measures_step _ _ _ _ _ _ _ _ _ _ c.loop-left-test.true c.note_count-k.ensures.0 refl) in
+    let w = written_on_lem c.loop-measure.invariant.5 c.in_ok-passed.ensures.says.0 (measures_step _ _ _ _ _ _ _ _ _ _ _ c.loop-measure-test.true c.note_count-k.ensures.0 refl) in
     omega (arith, w.wrote.says.1, c.well_formed)
 
 pub overflow_add-i : goal.overflow_add-i
 overflow_add-i c =
-    let l = c.loop-left in
-    omega (arith, l.invariant.1, l.invariant.2, total_step c.args.store.now l.h l.left c.loop-left-test.true, c.note_count-k.ensures.0, c.well_formed)
+    let l = c.loop-measure in
+    let m = c.args.t.measures in
+    omega (arith, l.invariant.0, l.invariant.1, total_more c.args.store.now m.at m.count l.measure c.loop-measure-test.true, c.note_count-k.ensures.0, c.well_formed)
 
 pub overflow_mul-p : goal.overflow_mul-p
 overflow_mul-p c =
-    let l = c.loop-left in
-    omega (arith, l.invariant.1, total_step c.args.store.now l.h l.left c.loop-left-test.true, c.note_count-k.ensures.0, c.well_formed)
+    let l = c.loop-measure in
+    let m = c.args.t.measures in
+    omega (arith, l.invariant.0, total_more c.args.store.now m.at m.count l.measure c.loop-measure-test.true, c.note_count-k.ensures.0, c.well_formed)
 
 pub overflow_add-p : goal.overflow_add-p
 overflow_add-p c =
-    let l = c.loop-left in
-    omega (arith, l.invariant.1, total_step c.args.store.now l.h l.left c.loop-left-test.true, c.note_count-k.ensures.0, c.well_formed)
+    let l = c.loop-measure in
+    let m = c.args.t.measures in
+    omega (arith, l.invariant.0, total_more c.args.store.now m.at m.count l.measure c.loop-measure-test.true, c.note_count-k.ensures.0, c.well_formed)
 
 -- one written
-pub loop-left-preserved : goal.loop-left-preserved
-loop-left-preserved c =
-    let l = c.loop-left in
+pub loop-measure-preserved : goal.loop-measure-preserved
+loop-measure-preserved c =
+    let l = c.loop-measure in
     let v = l.invariant in
-    let more = c.loop-left-test.true in
-    let t = total_step c.args.store.now l.h l.left more in
-    let k = c.note_count-k.ensures.0 in
-    let (w, e) = passed_to c.write_rows.ensures c.in-To.is in
     let a = c.args in
+    let t = a.t in
+    let more = c.loop-measure-test.true in
+    let m = total_more a.store.now t.measures.at t.measures.count l.measure more in
+    let k = c.note_count-k.ensures.0 in
+    let (w, e) = c.in_ok-passed.ensures.says in
     let n = c.note_count-k.result in
-    let q = sung_rows a.store.now l.p n in
-    let g = written_on_lem v.6 w (measures_step _ _ _ _ _ _ _ _ _ q more k refl) in (
-      omega (arith, v.0),
-      omega (arith, v.1, t, k),
-      omega (arith, v.2),
-      omega (arith, v.3, e, sung_low a.store.now l.p n),
-      omega (arith, v.4, e, sung_total_step a.store.now l.h l.p l.left n more k),
+    let g = written_on_lem v.5 w (measures_step _ _ _ _ _ _ _ _ _ _ _ more k refl) in (
+      omega (arith, v.0, m, k),
+      omega (arith, v.1),
+      omega (arith, v.2, e, sung_low a.store.now l.p n),
+      omega (arith, v.3, e, sung_total_step a.store.now t.measures.at l.p t.measures.count l.measure n more k),
       (written_in g).1,
-      written_as_lem g (ap (λ (x : ℕ). measures_out false (syllables_in a.text.now a.store.now a.sheet) a.store.now (l.i + n) x (l.h + measure_width) (l.p + note_row_width * n) (l.left - 1)) (sym e)),
+      written_as_lem g (ap (λ (x : ℕ). measures_out false (syllables_in a.text.now a.store.now a.sheet) a.store.now (l.i + n) x (t.measures.at + measure_width * (l.measure + 1)) (l.p + note_row_width * n) (t.measures.count - (l.measure + 1))) (sym e)),
     )
 
 pub returns : goal.returns
 returns c =
-    let l = c.loop-left in
-    record { says = (written_all l.invariant.6 (measures_none _ _ _ _ _ _ _ _ (omega arith)), omega (arith, l.invariant.4, sung_total_none c.args.store.now l.h l.p l.left (omega arith))) }
+    let l = c.loop-measure in
+    let t = c.args.t in
+    record { says = (written_all l.invariant.5 (measures_none _ _ _ _ _ _ _ _ _ c.loop-measure-test.false), omega (arith, l.invariant.3, sung_total_none c.args.store.now (t.measures.at + measure_width * l.measure) l.p (t.measures.count - l.measure) (omega (arith, c.loop-measure-test.false)))) }
