@@ -7,7 +7,7 @@ use Rattle.reader.specs.State.{Note}
 use Rattle.reader.specs.Lyrics.{Syllable}
 use Rattle.part_layout.specs.Log.{Head}
 use Rattle.part_layout.specs.Sections as layout
-use Rattle.store_sections.specs.declared.Wrote.{Wrote}
+use Rattle.std.specs.Prelude.{Option}
 use Rattle.store_sections.specs.Writes.{WroteIs}
 use Rattle.write_notes.specs.declared.PartTables.{PartTables}
 use Rattle.write_notes.specs.Tables.{Represents}
@@ -18,7 +18,7 @@ use Rattle.write_pitches.proofs.Out.{pitches_section_lem}
 use Rattle.write_lyrics.specs.Out.{section_out}
 use Rattle.write_lyrics.proofs.Out.{lyrics_section, text_section}
 
-pub sections_say : {x y : List ℕ} {r : Wrote} (s : List ℕ) (t : PartTables) (ws : List (List Syllable))
+pub sections_say : {x y : List ℕ} {r : Option ℕ} (s : List ℕ) (t : PartTables) (ws : List (List Syllable))
     → WroteIs x (measures_section s t ++ notes_section s t ++ pitches_section s t ++ (section_out false ws s t ++ section_out true ws s t)) y r
     → (ms : List Head) (log : List (ℕ × Note)) → Represents s t ms log → WroteIs x (layout.sections (record { heads = ms; log = log; words = ws })) y r
 unfolding layout.sections layout.lyrics layout.lyric_text layout.notes_of layout.pitches_of

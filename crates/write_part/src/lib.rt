@@ -12,7 +12,6 @@ ghost use Rattle.write_notes.specs.Out.{leads};
 ghost use Rattle.write_lyrics.specs.Out.{SheetIn};
 
 use lyrics::Sheet;
-use store_sections::Wrote;
 use write_notes::PartTables;
 
 // Measures, notes, pitches, lyrics and lyric text, each where the last one ended. `lead` tells whether all notes are of voice 0.
@@ -23,26 +22,17 @@ fn write_tables(
     sheet: Sheet,
     lead: bool,
     to: &mut [u8],
-) -> Wrote
+) -> Option<usize>
     requires { InStore store.now t × SheetIn store.now sheet × (lead ≡ leads store.now t.notes.at t.notes.count) }
     ensures { (ms : List Head) (log : List (ℕ × Note)) → Represents store.now t ms log → WroteIs to.old (layout.sections (record { heads = ms; log = log; words = syllables_in text.now store.now sheet })) to.new result }
 {
-    let Wrote::To(measures) = write_notes::write_measures(store, t, to) else {
-        return Wrote::NoRoom;
-    };
-    let Wrote::To(notes) = write_notes::write_notes(store, t, lead, &mut to[measures..]) else {
-        return Wrote::NoRoom;
-    };
+    let measures = write_notes::write_measures(store, t, to)?;
+    let notes = write_notes::write_notes(store, t, lead, &mut to[measures..])?;
     let b = measures + notes;
-    let Wrote::To(pitches) = write_pitches::write_pitches(store, t, lead, &mut to[b..]) else {
-        return Wrote::NoRoom;
-    };
+    let pitches = write_pitches::write_pitches(store, t, lead, &mut to[b..])?;
     let c = b + pitches;
-    let Wrote::To(lyrics) = write_lyrics::write_lyrics(text, store, sheet, t, lead, &mut to[c..])
-    else {
-        return Wrote::NoRoom;
-    };
-    Wrote::To(c + lyrics)
+    let lyrics = write_lyrics::write_lyrics(text, store, sheet, t, lead, &mut to[c..])?;
+    Some(c + lyrics)
 }
 
 // The same: whether all notes are of voice 0 is asked once. The two calls have a constant each, by which the compiler makes two shorter writers of one.
@@ -52,7 +42,7 @@ pub fn write_sections(
     t: PartTables,
     sheet: Sheet,
     to: &mut [u8],
-) -> Wrote
+) -> Option<usize>
     requires { InStore store.now t × SheetIn store.now sheet }
     ensures { (ms : List Head) (log : List (ℕ × Note)) → Represents store.now t ms log → WroteIs to.old (layout.sections (record { heads = ms; log = log; words = syllables_in text.now store.now sheet })) to.new result }
 {
