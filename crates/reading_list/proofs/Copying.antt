@@ -1,10 +1,10 @@
 -- HOW FAR THE COPYING HAS COME, step by step.
 use Prim.Native.Nat.{ℕ, ◌+◌, ◌-◌, ◌≤◌, ◌<◌}
 use mathlib.Core.Path.{◌≡◌, refl, sym, ap, subst, ◌∙◌}
-use mathlib.Core.Bool.{true, false, false≢true}
 use mathlib.Core.List.{List, [], ◌∷◌, ◌++◌}
 use native.Mathlib.Omega.{arith}
 use lib.ListN.{length, length-append}
+use Rattle.std.specs.Prelude.{Some, None}
 use Rattle.laws.specs.Bytes.{le32, u32_at, splice, enc_all}
 use Rattle.laws.proofs.Splices.{length_spliced}
 use Rattle.reading_list.specs.Numbers.{number_at, numbers_in, above, CopiedIs}
@@ -65,22 +65,20 @@ module _ (room listed least from to : ℕ) (l : List ℕ) where
         }
 
     -- a number has no room
-    pub copying_full : i < to → to ≤ listed → least < u32_at m (number_at i) → count ≡ room → CopiedIs room listed (kept l least from to) l m (record { count = count; full = true })
+    pub copying_full : i < to → to ≤ listed → least < u32_at m (number_at i) → count ≡ room → CopiedIs room listed (kept l least from to) l m None
     copying_full h t k n =
         let q = more (omega (arith, h, t)) k in
         record {
-          no_room =
-              λ e.
-              omega (arith, n, w.count_is, ap length q, length-append (kept l least from i) (u32_at m (number_at i) ∷ []), above_grows l least from (i + 1) to (omega (arith, w.low)) (omega (arith, h)));
-          listed = λ e. absurd (false≢true (sym e));
-          store = λ e. absurd (false≢true (sym e));
+          says = omega (arith, n, w.count_is, ap length q, length-append (kept l least from i) (u32_at m (number_at i) ∷ []), above_grows l least from (i + 1) to (omega (arith, w.low)) (omega (arith, h)));
         }
 
-    pub copying_end : to ≤ i → CopiedIs room listed (kept l least from to) l m (record { count = count; full = false })
+    pub copying_end : to ≤ i → CopiedIs room listed (kept l least from to) l m (Some count)
     copying_end h =
         let e : i ≡ to = omega (arith, h, w.high) in
         record {
-          no_room = λ f. absurd (false≢true f);
-          listed = λ f. (subst (λ (k : ℕ). count ≡ listed + length (kept l least from k)) e w.count_is, w.fits);
-          store = λ f. subst (λ (k : ℕ). m ≡ splice l (number_at listed) (enc_all le32 (kept l least from k))) e w.store;
+          says = (
+            subst (λ (k : ℕ). count ≡ listed + length (kept l least from k)) e w.count_is,
+            w.fits,
+            subst (λ (k : ℕ). m ≡ splice l (number_at listed) (enc_all le32 (kept l least from k))) e w.store,
+          );
         }

@@ -1,9 +1,8 @@
 -- A LIST IN ITS STORE: a count, then the numbers, four bytes each.
-use Rattle.std.specs.Prelude.{ℕ, ◌+◌, ◌*◌, ◌≤◌, ◌<◌, ◌^◌, ◌≡◌, true, false, List, ltb, length}
+use Rattle.std.specs.Prelude.{ℕ, ◌+◌, ◌*◌, ◌≤◌, ◌<◌, ◌^◌, ◌≡◌, List, Option, Some, None, ltb, length}
 use Rattle.laws.specs.Lists.{filter}
 use Rattle.laws.specs.Bytes.{le32, u32_at, splice, rows, enc_all}
 use Rattle.reading_records.specs.Widths.{count_width}
-use Rattle.reading_list.specs.declared.Copied.{Copied}
 
 -- the most numbers of a list
 abbrev pub most_numbers : ℕ
@@ -26,8 +25,10 @@ pub record Room (l : List ℕ) (room : ℕ) : Type 0 where
   pub fits : number_at room ≤ length l
   pub most : room < 2 ^ 32
 
--- THE NUMBERS COPIED: xs behind the c numbers of l, which is left as m
-pub record CopiedIs (room c : ℕ) (xs l m : List ℕ) (r : Copied) : Type 0 where
-  pub no_room : r.full ≡ true → room < c + length xs
-  pub listed : r.full ≡ false → (r.count ≡ c + length xs) × (r.count ≤ room)
-  pub store : r.full ≡ false → m ≡ splice l (number_at c) (enc_all le32 xs)
+-- THE NUMBERS COPIED: xs behind the c numbers of l, which is left as m, so that n are listed; or one had no room
+abbrev pub Says : ℕ → ℕ → List ℕ → List ℕ → List ℕ → Option ℕ → Type 0
+Says room c xs l m (Some n) = (n ≡ c + length xs) × (n ≤ room) × (m ≡ splice l (number_at c) (enc_all le32 xs))
+Says room c xs l m None = room < c + length xs
+
+pub record CopiedIs (room c : ℕ) (xs l m : List ℕ) (r : Option ℕ) : Type 0 where
+  pub says : Says room c xs l m r

@@ -8,13 +8,6 @@ ghost use Rattle.reading_list.specs.Numbers.{number_at, numbers_in, above, most_
 // The most numbers of a list.
 const MOST: usize = 4294967295;
 
-// How many numbers are listed, or that one had no room.
-#[derive(Clone, Copy)]
-pub struct Copied {
-    pub count: usize,
-    pub full: bool,
-}
-
 // Number i of the list, from 0.
 pub fn number_at(list: &[u8], i: usize) -> usize
     requires { number_at i + 4 ≤ length list.now }
@@ -34,7 +27,8 @@ pub fn put_number(list: &mut [u8], i: usize, number: usize)
     );
 }
 
-// Lists again those of the numbers `from` up to `to` that are above `least`, behind the `listed` that there are.
+// Lists again those of the numbers `from` up to `to` that are above `least`, behind the `listed` that there are. Answers how many numbers are listed then, or None where
+// one had no room.
 pub fn repeat_numbers(
     list: &mut [u8],
     room: usize,
@@ -42,24 +36,22 @@ pub fn repeat_numbers(
     to: usize,
     least: usize,
     listed: usize,
-) -> Copied
+) -> Option<usize>
     requires { (Room list.old room) × (from ≤ to) × (to ≤ listed) × (listed ≤ room) }
     ensures { CopiedIs room listed (above least (numbers_in list.old from (to - from))) list.old list.new result }
 {
     let mut count = listed;
-    let mut i = from;
-    while i < to {
+    for i in from..to {
         let number = number_at(list, i);
         if least < number {
             if count == room {
-                return Copied { count, full: true };
+                return None;
             }
             put_number(list, count, number);
             count += 1;
         }
-        i += 1;
     }
-    Copied { count, full: false }
+    Some(count)
 }
 
 // How many numbers a store of so many bytes has room for behind the count.
@@ -67,6 +59,5 @@ pub fn room_of(length: usize) -> usize
     requires { 4 ≤ length }
     ensures { result ≡ min ((length - 4) / 4) most_numbers }
 {
-    let room = (length - reading_records::COUNT) / reading_records::COUNT;
-    if room < MOST { room } else { MOST }
+    MOST.min((length - reading_records::COUNT) / reading_records::COUNT)
 }

@@ -9,48 +9,30 @@ use Rattle.reading_list.proofs.Copying.{copying_start, copying_keep, copying_lea
 use Rattle.reading_list.proofs.repeat_numbers.Goals as goal
 use Rattle.reading_list.proofs.repeat_numbers.Goals.{then-least-number+else-count-room, else-least-number}
 
--- src/lib.rt:50:5
 pub loop-i-init : goal.loop-i-init
 loop-i-init c = copying_start _ _ _ _ _ _ c.requires.1 c.requires.3
 
--- src/lib.rt:51:13
 pub number_at-number-requires : goal.number_at-number-requires
 number_at-number-requires c =
     let l = c.loop-i in
     let p = c.requires in
     omega (arith, l.invariant.same, p.0.fits, p.2, p.3, c.loop-i-test.true)
 
--- src/lib.rt:54:17
 pub shape_of-list-then-count-room : goal.shape_of-list-then-count-room
 shape_of-list-then-count-room c = search (rules, c.loop-i.invariant.same)
 
--- src/lib.rt:54:17
 pub returns-then-count-room : goal.returns-then-count-room
 returns-then-count-room c =
     let b = c in
     let p = b.requires in
     copying_full _ _ _ _ _ _ _ _ _ b.loop-i.invariant c.loop-i-test.true p.2 (omega (arith, c.number_at-number.ensures.0, c.if-least-number.true)) c.if-count-room.true
 
--- src/lib.rt:56:13
 pub put_number-requires : goal.put_number-requires
 put_number-requires c =
     let b = c in
     let p = b.requires in
     (omega (arith, b.loop-i.invariant.same, b.loop-i.invariant.fits, p.0.fits, c.if-count-room.false), c.number_at-number.ensures.1)
 
--- src/lib.rt:57:13
-pub overflow_add-count : goal.overflow_add-count
-overflow_add-count c = search rules
-
--- src/lib.rt:59:9
-pub overflow_add-i : goal.overflow_add-i
-overflow_add-i c = search rules
-
--- src/lib.rt:50:5
-pub loop-i-smaller : goal.loop-i-smaller
-loop-i-smaller c = search rules
-
--- src/lib.rt:50:5
 pub loop-i-preserved : goal.loop-i-preserved
 loop-i-preserved c =
     let b = c in
@@ -63,10 +45,8 @@ loop-i-preserved c =
       | else-least-number w ↦ rw (w.list-is, w.count-is) (copying_leave _ _ _ _ _ _ _ _ _ b.loop-i.invariant h p.2 (omega (arith, x, w.if-least-number.false)))
     ]
 
--- src/lib.rt:37:1
 pub shape_of-list : goal.shape_of-list
 shape_of-list c = search (rules, c.loop-i.invariant.same)
 
--- src/lib.rt:37:1
 pub returns : goal.returns
 returns c = copying_end _ _ _ _ _ _ _ _ _ c.loop-i.invariant c.loop-i-test.false
