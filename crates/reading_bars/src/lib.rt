@@ -1,4 +1,4 @@
-// Measures as a player sees them, read off a part's records, and the limit of a section. A span is kept as a number: 0 is none, else its passes and 1.
+// Measures as a player sees them, read off a part's records, and the limit of a section. A span is kept by its passes.
 #![tactic(auto)]
 
 ghost use Rattle.std.specs.Prelude.{◌≡◌, cond, suc, ◌+◌, ◌≤◌, ◌<◌, ◌^◌, max, leb, length};
@@ -9,60 +9,55 @@ ghost use Rattle.reading_walk.specs.Walk as walk;
 ghost use Rattle.reading_walk.specs.Spans.{span_at, span_after, open_before};
 ghost use Rattle.reading_bars.specs.Bars.{span_of, BarIs, LimitIs};
 
-// How many sets of the 32 passes there are.
-const PASS_SETS: u64 = 4294967296;
-
 // A measure: its barlines, the span that it lies in, and the span that is open behind it.
 #[derive(Clone, Copy)]
 pub struct Bar {
     pub left: u8,
     pub right: u8,
-    pub span: u64,
-    pub after: u64,
+    pub span: Option<u32>,
+    pub after: Option<u32>,
 }
 
 // The limit of sections; it is known for those that start below `end`.
 #[derive(Clone, Copy)]
 pub struct Limit {
-    pub most: u64,
+    pub most: usize,
     pub end: usize,
 }
 
 // The span of a measure, before which another is open.
-fn span_at(before: u64, volta: u8, passes: u64) -> u64
-    requires { passes < 2 ^ 32 }
+fn span_at(before: Option<u32>, volta: u8, passes: u32) -> Option<u32>
     ensures { span_of result ≡ span_at (span_of before) volta passes }
 {
     if volta == 1 {
-        return passes + 1;
+        return Some(passes);
     }
     if volta == 3 {
-        return passes + 1;
+        return Some(passes);
     }
     before
 }
 
 // The span that is open behind it.
-fn span_after(before: u64, volta: u8, passes: u64) -> u64
-    requires { passes < 2 ^ 32 }
+fn span_after(before: Option<u32>, volta: u8, passes: u32) -> Option<u32>
     ensures { span_of result ≡ span_after (span_of before) volta passes }
 {
     if volta == 1 {
-        return passes + 1;
+        return Some(passes);
     }
     if volta == 0 {
         return before;
     }
-    0
+    None
 }
 
 // The measure whose record stands at `at`, before which `before` is open.
-pub fn bar_at(reading: &[u8], at: usize, before: u64) -> Bar
+pub fn bar_at(reading: &[u8], at: usize, before: Option<u32>) -> Bar
     requires { at + measure_width ≤ length reading.now }
     ensures { BarIs reading.now at before result }
 {
     let volta = store::get_u8(reading, at + reading_records::VOLTA);
-    let passes = store::get_u32(reading, at + reading_records::PASSES) as u64;
+    let passes = store::get_u32(reading, at + reading_records::PASSES);
     Bar {
         left: store::get_u8(reading, at + reading_records::LEFT),
         right: store::get_u8(reading, at + reading_records::RIGHT),
@@ -85,7 +80,7 @@ pub fn closes(right: u8) -> bool
     right == 2 || right == 3
 }
 
-fn has_pass(passes: u64, pass: u64) -> bool
+fn has_pass(passes: u32, pass: usize) -> bool
     requires { (1 ≤ pass) × (pass ≤ 32) }
     ensures { result ≡ walk.has_pass passes pass }
 {
@@ -93,23 +88,22 @@ fn has_pass(passes: u64, pass: u64) -> bool
 }
 
 // A measure of this span is left out in this pass.
-pub fn is_skipped(span: u64, pass: u64) -> bool
+pub fn is_skipped(span: Option<u32>, pass: usize) -> bool
     requires { (1 ≤ pass) × (pass ≤ 32) }
     ensures { result ≡ walk.is_skipped (span_of span) pass }
 {
-    if span == 0 {
-        return false;
+    match span {
+        Some(passes) => !has_pass(passes, pass),
+        None => false,
     }
-    !has_pass(span - 1, pass)
 }
 
 // The greatest of some passes, 0 if there is none: as often as they can be halved.
-fn greatest_of(passes: u64) -> u64
-    requires { passes < 2 ^ 32 }
+fn greatest_of(passes: u32) -> usize
     ensures { result ≡ walk.greatest 32 passes }
 {
     let mut rest = passes;
-    let mut pass: u64 = 0;
+    let mut pass = 0;
     while 0 < rest {
         rest /= 2;
         pass += 1;
@@ -118,27 +112,24 @@ fn greatest_of(passes: u64) -> u64
 }
 
 // The greatest pass of a span, 0 if there is none.
-fn greatest_pass(span: u64) -> u64
+fn greatest_pass(span: Option<u32>) -> usize
     ensures { result ≡ walk.top_of (span_of span) }
 {
-    if span == 0 {
-        return 0;
+    match span {
+        Some(passes) => greatest_of(passes),
+        None => 0,
     }
-    greatest_of((span - 1) % PASS_SETS)
 }
 
 // The limit of a section of one measure, whose greatest pass is `top`.
-fn limit_alone(top: u64) -> u64
+fn limit_alone(top: usize) -> usize
     ensures { result ≡ max 2 top }
 {
-    if top < 2 {
-        return 2;
-    }
-    top
+    top.max(2)
 }
 
 // The limit where measure i, whose greatest pass is `top`, is looked at too: it holds for every section start up to i if no measure before i has a greater pass.
-fn raised(limit: Limit, top: u64, i: usize) -> Limit
+fn raised(limit: Limit, top: usize, i: usize) -> Limit
     requires { (2 ≤ limit.most) × (i + 1 < 2 ^ 64) }
     ensures { (result.most ≡ max limit.most top) × (result.end ≡ cond (leb limit.most (max 2 top)) (suc i) limit.end) }
 {
@@ -150,7 +141,7 @@ fn raised(limit: Limit, top: u64, i: usize) -> Limit
 }
 
 // The limit of the section that starts at measure `start`, before which `before` is open, in the part at `at` with n measures.
-pub fn limit_from(reading: &[u8], at: usize, n: usize, start: usize, before: u64) -> Limit
+pub fn limit_from(reading: &[u8], at: usize, n: usize, start: usize, before: Option<u32>) -> Limit
     requires at_in_bounds { (notes_at reading.now at ≤ length reading.now) × (n ≡ u32_at reading.now at) × (start < n) }
     requires before_value { span_of before ≡ open_before reading.now at start }
     ensures start_lt_end { start < result.end }
@@ -161,8 +152,7 @@ pub fn limit_from(reading: &[u8], at: usize, n: usize, start: usize, before: u64
         end: start,
     };
     let mut span = before;
-    let mut i = start;
-    while i < n {
+    for i in start..n {
         let bar = bar_at(
             reading,
             at + reading_records::COUNT + reading_records::MEASURE * i,
@@ -173,7 +163,6 @@ pub fn limit_from(reading: &[u8], at: usize, n: usize, start: usize, before: u64
         }
         limit = raised(limit, greatest_pass(bar.span), i);
         span = bar.after;
-        i += 1;
     }
     limit
 }

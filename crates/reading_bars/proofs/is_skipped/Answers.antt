@@ -2,13 +2,12 @@
 use mathlib.Core.Path.{ap}
 use mathlib.Core.Bool.{not}
 use Rattle.reading_walk.specs.Walk as walk
-use Rattle.reading_bars.proofs.Spans.{span_none, span_there}
 use Rattle.reading_bars.proofs.is_skipped.Goals as goal
 
-pub returns-then-span-eq0 : goal.returns-then-span-eq0
+pub returns-in-Some : goal.returns-in-Some
 unfolding walk.is_skipped
-returns-then-span-eq0 c = rw (span_none _ c.if-span-eq0.true)
+returns-in-Some c = rw c.in-Some.is (ap not c.has_pass.ensures)
 
-pub returns : goal.returns
+pub returns-in-None : goal.returns-in-None
 unfolding walk.is_skipped
-returns c = rw (span_there _ c.if-span-eq0.false) (ap not c.has_pass.ensures)
+returns-in-None c = rw c.in-None.is

@@ -1,5 +1,4 @@
 -- `reading_bars::limit_from` meets its contract: so far the measures from `start` to just before i are seen.
-use Prim.Native.Nat.{◌-◌, ◌≤◌}
 use mathlib.Core.Path.{◌≡◌}
 use Rattle.reading_walk.specs.Walk as walk
 use Rattle.reading_walk.specs.Spans.{open_before, bars_of}
@@ -10,7 +9,4 @@ use Rattle.reading_bars.proofs.limit_from.Given as goal
 
 abbrev pub invariant-loop-i : goal.invariant-loop-i
 invariant-loop-i l =
-    (l.i ≤ l.n) × (span_of l.span ≡ open_before l.reading l.at l.i) × Seen (walk.limit (bars_of l.reading l.at)) l.start l.i l.limit.most l.limit.end (top_from l.reading l.at l.i)
-
-abbrev pub decreases-loop-i : goal.decreases-loop-i
-decreases-loop-i l = l.n - l.i
+    (span_of l.span ≡ open_before l.reading l.at l.i) × Seen (walk.limit (bars_of l.reading l.at)) l.start l.i l.limit.most l.limit.end (top_from l.reading l.at l.i)
