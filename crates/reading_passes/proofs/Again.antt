@@ -8,13 +8,13 @@ use native.Mathlib.Omega.{arith}
 use lib.Dec.{leb}
 use lib.ListN.{length, take, drop, length-append, length-drop}
 use lib.Seq.{take-take, take_at, drop_at, drop-drop}
+use Rattle.std.specs.Prelude.{Some, None}
 use Rattle.laws.specs.Bytes.{le32, u32_at, splice, rows, enc_all}
 use Rattle.laws.proofs.Bools.{by_test, and_left}
 use Rattle.laws.proofs.Parts.{take_drop}
 use Rattle.laws.proofs.Rows.{rows_take, rows_drop}
 use Rattle.reading_records.specs.Widths.{count_width}
 use Rattle.reading_list.specs.Numbers.{number_at, numbers_in, above, CopiedIs}
-use Rattle.reading_list.specs.declared.Copied.{Copied}
 use Rattle.reading_list.proofs.Above.{above_above}
 use Rattle.reading_walk.specs.Spans.{open_before, bars_of}
 use Rattle.reading_walk.specs.Passes.{played_on, segment, Closes}
@@ -47,53 +47,62 @@ lists_segment s at l c from to h a b =
 
 -- A KEPT PASS is listed again
 module _ (s : List ℕ) (at n room : ℕ) (p : Pass) (k : Kept) (l m : List ℕ) (h : Starts s at n room p) (kept : KeptIs s at n p.from p.pass k) (i : Lists s at l p.from) where
-  pub listed_again : (r : Copied) → k.least ≤ p.at → p.at < k.end → CopiedIs room p.from (above p.at (numbers_in l k.from (k.to - k.from))) l m r
-      → WalkedIs s at n room p l m (record { section = p.section; pass = p.pass; before = p.before; from = p.from; at = k.end - 1; after = k.span; count = r.count; closed = true; full = r.full })
+  listed_front : k.least ≤ p.at → p.at < k.end → drop p.from (all_of s at) ≡ above p.at (segment (all_of s at) k.from k.to) ++ played_on (bars_of s at) (k.end - 1) p.section p.pass
+  listed_front a b = h.stands.rest ∙ kept.again p.at p.section a b h.stands.low
+
+  same_numbers : above p.at (numbers_in l k.from (k.to - k.from)) ≡ above p.at (segment (all_of s at) k.from k.to)
+  same_numbers = ap (above p.at) (lists_segment s at l p.from k.from k.to i kept.order kept.listed)
+
+  pub listed_short : k.least ≤ p.at → p.at < k.end → CopiedIs room p.from (above p.at (numbers_in l k.from (k.to - k.from))) l m None → WalkedIs s at n room p l m None
+  listed_short a b c =
+      let f = front_length (all_of s at) p.from (above p.at (segment (all_of s at) k.from k.to)) _ h.listed (listed_front a b) in
+      record { says = omega (arith, c.says, ap length same_numbers, f) }
+
+  pub listed_again : (count : ℕ) → k.least ≤ p.at → p.at < k.end → CopiedIs room p.from (above p.at (numbers_in l k.from (k.to - k.from))) l m (Some count)
+      → WalkedIs s at n room p l m (Some (record { section = p.section; pass = p.pass; before = p.before; from = p.from; at = k.end - 1; after = k.span; count = count; closed = true }))
   unfolding Closes
-  listed_again r a b c =
+  listed_again count a b c =
       let x = h.stands in
       let seg = segment (all_of s at) k.from k.to in
       let xs = above p.at seg in
-      let e : above p.at (numbers_in l k.from (k.to - k.from)) ≡ xs = ap (above p.at) (lists_segment s at l p.from k.from k.to i kept.order kept.listed) in
+      let e : above p.at (numbers_in l k.from (k.to - k.from)) ≡ xs = same_numbers in
       let z : suc (k.end - 1) ≡ k.end = omega (arith, b) in
-      let d : drop p.from (all_of s at) ≡ xs ++ played_on (bars_of s at) (k.end - 1) p.section p.pass = x.rest ∙ kept.again p.at p.section a b x.low in
+      let d : drop p.from (all_of s at) ≡ xs ++ played_on (bars_of s at) (k.end - 1) p.section p.pass = listed_front a b in
       let f : p.from + length xs ≤ length (all_of s at) = front_length (all_of s at) p.from xs _ h.listed d in
+      let (many, roomy, stored) = c.says in
+      let j : count ≡ p.from + length xs = many ∙ ap (λ (y : List ℕ). p.from + length y) e in
       record {
-        no_room = λ q. omega (arith, c.no_room q, ap length e, f);
-        listed = λ q. (omega (arith, (c.listed q).0), (c.listed q).1, omega (arith, (c.listed q).0, ap length e, f));
-        store =
-            λ q.
-            let j : r.count ≡ p.from + length xs = (c.listed q).0 ∙ ap (λ (y : List ℕ). p.from + length y) e in
-            c.store q
-            ∙ ap (λ (y : List ℕ). splice l (number_at p.from) (enc_all le32 y)) (e ∙ sym (front_segment (all_of s at) p.from xs _ d) ∙ ap (segment (all_of s at) p.from) (sym j));
-        went_on =
-            λ q.
-            let j : r.count ≡ p.from + length xs = (c.listed q).0 ∙ ap (λ (y : List ℕ). p.from + length y) e in
+        says =
             record {
-              closes =
-                  λ v.
+              listed = (omega (arith, many), roomy, omega (arith, many, ap length e, f));
+              store = stored ∙ ap (λ (y : List ℕ). splice l (number_at p.from) (enc_all le32 y)) (e ∙ sym (front_segment (all_of s at) p.from xs _ d) ∙ ap (segment (all_of s at) p.from) (sym j));
+              went_on =
                   record {
-                    in_part = omega (arith, kept.in_part, b);
-                    behind = omega (arith, b, x.low);
-                    pass_least = x.pass_least;
-                    pass_most = x.pass_most;
-                    before_is = x.before_is;
-                    after_is = kept.span_is (omega (arith, b)) ∙ ap (open_before s at) (sym z);
-                    closed_at_lem =
+                    closes =
+                        λ v.
                         record {
-                          order = omega (arith, j);
-                          rest = ap (λ (y : ℕ). drop y (all_of s at)) j ∙ front_rest (all_of s at) p.from xs _ d;
-                          again =
-                              λ t u g w o.
-                              kept.again t u (omega (arith, a, g, x.high)) (omega (arith, w, b)) o
-                              ∙ ap (λ (y : List ℕ). y ++ played_on (bars_of s at) (k.end - 1) u p.pass)
-                              (sym (above_above p.at t seg (omega (arith, g, x.high)))
-                              ∙ ap (above t) (sym (front_segment (all_of s at) p.from xs _ d) ∙ ap (segment (all_of s at) p.from) (sym j)));
+                          in_part = omega (arith, kept.in_part, b);
+                          behind = omega (arith, b, x.low);
+                          pass_least = x.pass_least;
+                          pass_most = x.pass_most;
+                          before_is = x.before_is;
+                          after_is = kept.span_is (omega (arith, b)) ∙ ap (open_before s at) (sym z);
+                          closed_at_lem =
+                              record {
+                                order = omega (arith, j);
+                                rest = ap (λ (y : ℕ). drop y (all_of s at)) j ∙ front_rest (all_of s at) p.from xs _ d;
+                                again =
+                                    λ t u g w o.
+                                    kept.again t u (omega (arith, a, g, x.high)) (omega (arith, w, b)) o
+                                    ∙ ap (λ (y : List ℕ). y ++ played_on (bars_of s at) (k.end - 1) u p.pass)
+                                    (sym (above_above p.at t seg (omega (arith, g, x.high)))
+                                    ∙ ap (above t) (sym (front_segment (all_of s at) p.from xs _ d) ∙ ap (segment (all_of s at) p.from) (sym j)));
+                              };
+                          later = omega arith;
+                          same = λ y. refl;
                         };
-                    later = omega arith;
-                    same = λ y. refl;
+                    opens = λ v. absurd (false≢true (sym v));
                   };
-              opens = λ v. absurd (false≢true (sym v));
             };
       }
 
@@ -119,7 +128,7 @@ pub kept_later : (s : List ℕ) (at n c d q : ℕ) (k : Kept) → c ≤ d → Ke
 kept_later s at n c d q k h x = record { order = x.order; listed = omega (arith, h, x.listed); in_part = x.in_part; span_is = x.span_is; again = x.again }
 
 -- nothing is kept at first
-pub kept_none : (s : List ℕ) (at n c q : ℕ) → KeptIs s at n c q (record { least = 0; end = 0; from = 0; to = 0; span = 0 })
+pub kept_none : (s : List ℕ) (at n c q : ℕ) → KeptIs s at n c q (record { least = 0; end = 0; from = 0; to = 0; span = None })
 kept_none s at n c q =
     record { order = omega arith; listed = omega arith; in_part = omega arith; span_is = λ x. absurd (omega (arith, x)); again = λ t u v w o. absurd (omega (arith, w)) }
 

@@ -1,13 +1,13 @@
 -- THE WHOLE WALK, pass after pass.
 use Prim.Native.Nat.{ℕ, zero, suc, ◌+◌, ◌-◌, ◌*◌, ◌≤◌, ◌<◌, ◌^◌}
 use mathlib.Core.Path.{◌≡◌, refl, sym, ap, subst, ◌∙◌}
-use mathlib.Core.Bool.{true, false, false≢true}
 use mathlib.Core.List.{List, [], ◌∷◌, ◌++◌}
 use native.Mathlib.Omega.{arith}
 use lib.Dec.{eqb}
 use lib.ListN.{length, take, get_or, set, length-set}
 use lib.Seq.{take_all, length-take-le, get_or-set_same, get_or-set_other}
 use borrow.Author.Tests.{eqb-true, eqb-false}
+use Rattle.std.specs.Prelude.{Some, None}
 use Rattle.laws.specs.Lists.{All}
 use Rattle.laws.specs.Bytes.{le32, splice, enc_all}
 use Rattle.laws.proofs.Bools.{by_test}
@@ -21,12 +21,12 @@ use Rattle.reading_walk.specs.Passes.{standing, played_at, segment}
 use Rattle.reading_walk.proofs.Bars.{length_bars, bar_none}
 use Rattle.reading_walk.proofs.Bound.{played_own}
 use Rattle.reading_walk.proofs.Passes.{played_end}
-use Rattle.reading_bars.specs.Bars.{span_of, LimitIs}
+use Rattle.reading_bars.specs.Bars.{LimitIs}
 use Rattle.reading_passes.specs.declared.Pass.{Pass}
 use Rattle.reading_passes.specs.declared.Walked.{Walked}
 use Rattle.reading_passes.specs.declared.Kept.{Kept}
 use Rattle.reading_passes.specs.declared.Next.{Next}
-use Rattle.reading_passes.specs.Walks.{all_of, Here, Lists, StandsAt, Starts, WentOn, WalkedIs, KeptIs, kept_after, NextIs, PlayedIs}
+use Rattle.reading_passes.specs.Walks.{all_of, Here, Lists, StandsAt, Starts, WentOn, Went, KeptIs, kept_after, NextIs, PlayedIs}
 use Rattle.reading_passes.proofs.Walks.{ended}
 use Rattle.reading_passes.proofs.Again.{kept_none, kept_later, kept_after_lem}
 
@@ -82,9 +82,9 @@ module _ (s : List ℕ) (at n room : ℕ) (l : List ℕ) where
     pub store : m ≡ splice l (number_at 0) (enc_all le32 (take c (all_of s at)))
 
   -- at the first measure
-  pub playing_start : (ks : List Kept) → length ks ≡ 33 → ((d : Kept) (q : ℕ) → q < 33 → get_or ks q d ≡ record { least = 0; end = 0; from = 0; to = 0; span = 0 })
-      → Playing l ks (record { section = 0; pass = 1; before = 0; at = 0; span = 0; most = 2; end = 0 }) 0
-  unfolding span_of open_before played_at standing played begin
+  pub playing_start : (ks : List Kept) → length ks ≡ 33 → ((d : Kept) (q : ℕ) → q < 33 → get_or ks q d ≡ record { least = 0; end = 0; from = 0; to = 0; span = None })
+      → Playing l ks (record { section = 0; pass = 1; before = None; at = 0; span = None; most = 2; end = 0 }) 0
+  unfolding open_before played_at standing played begin
   playing_start ks e f =
       record {
         stands = record { in_part = omega arith; low = omega arith; high = omega arith; pass_least = omega arith; pass_most = omega arith; before_is = refl; span_is = refl; rest = refl };
@@ -112,27 +112,18 @@ module _ (s : List ℕ) (at n room : ℕ) (l : List ℕ) where
     playing_starts h = record { stands = g.stands; inside = h; listed = g.listed; roomy = g.roomy }
 
     -- the list is done
-    pub playing_end : n ≤ x.at → PlayedIs s at room l m (record { count = c; full = false })
+    pub playing_end : n ≤ x.at → PlayedIs s at room l m (Some c)
     playing_end h =
         let e : length (all_of s at) ≤ c = ended (all_of s at) c (g.stands.rest ∙ played_end (bars_of s at) x.at x.section x.pass (bar_none s at x.at (omega (arith, h, here.count_is)))) in
-        record {
-          no_room = λ q. absurd (false≢true q);
-          count_is = λ q. (omega (arith, e, g.listed), g.roomy);
-          store = λ q. g.store ∙ ap (λ (y : List ℕ). splice l (number_at 0) (enc_all le32 y)) (take_all c (all_of s at) e);
-        }
+        record { says = (omega (arith, e, g.listed), g.roomy, g.store ∙ ap (λ (y : List ℕ). splice l (number_at 0) (enc_all le32 y)) (take_all c (all_of s at) e)) }
 
-    module _ (p : Pass) (from : p.from ≡ c) (k : List ℕ) (w : Walked) (v : WalkedIs s at n room p m k w) where
-      -- a number has no room
-      pub playing_full : w.full ≡ true → PlayedIs s at room l k (record { count = w.count; full = true })
-      playing_full e =
-          record { no_room = λ q. v.no_room e; count_is = λ q. absurd (false≢true (sym q)); store = λ q. absurd (false≢true (sym q)) }
-
+    module _ (p : Pass) (from : p.from ≡ c) (k : List ℕ) (w : Walked) (v : Went s at n room p m k w) where
       -- the next pass
-      pub playing_on : (y : Next) (d₀ old new : Kept) → w.full ≡ false → NextIs s at n p w.count y → old ≡ get_or ks w.pass d₀ → new ≡ kept_after old w
+      pub playing_on : (y : Next) (d₀ old new : Kept) → NextIs s at n p w.count y → old ≡ get_or ks w.pass d₀ → new ≡ kept_after old w
           → Playing k (set ks w.pass new) y w.count
-      playing_on y d₀ old new e z o r =
-          let i = v.listed e in
-          let h : w.pass < 33 = omega (arith, (went_in s at n p w (v.went_on e)).0) in
+      playing_on y d₀ old new z o r =
+          let i = v.listed in
+          let h : w.pass < 33 = omega (arith, (went_in s at n p w (v.went_on)).0) in
           record {
             stands = z.stands;
             limit_is = z.limit_is;
@@ -144,16 +135,16 @@ module _ (s : List ℕ) (at n room : ℕ) (l : List ℕ) where
                 subst (λ (b : ℕ). KeptIs s at n w.count b (get_or (set ks w.pass new) b d)) (sym u)
                 (subst (KeptIs s at n w.count w.pass) (sym (get_or-set_same ks w.pass new d (omega (arith, h, g.many))))
                 (subst (KeptIs s at n w.count w.pass) (sym r)
-                (kept_after_lem s at n c p w old (omega (arith, i.0, from)) (v.went_on e) (subst (KeptIs s at n c w.pass) (sym o) (g.kept d₀ w.pass h))))))
+                (kept_after_lem s at n c p w old (omega (arith, i.0, from)) (v.went_on) (subst (KeptIs s at n c w.pass) (sym o) (g.kept d₀ w.pass h))))))
                 (λ t.
                 subst (KeptIs s at n w.count q) (sym (get_or-set_other ks w.pass q new d (eqb-false q w.pass t)))
                 (kept_later s at n c w.count q (get_or ks q d) (omega (arith, i.0, from)) (g.kept d q j)));
             many = length-set ks w.pass new ∙ g.many;
             listed = i.2;
             roomy = i.1;
-            long = length_spliced m k (number_at p.from) (enc_all le32 (segment (all_of s at) p.from w.count)) (v.store e) ∙ g.long;
+            long = length_spliced m k (number_at p.from) (enc_all le32 (segment (all_of s at) p.from w.count)) v.store ∙ g.long;
             store =
-                spliced_next l m k (number_at 0) (number_at p.from) (enc_all le32 (take c (all_of s at))) (enc_all le32 (segment (all_of s at) p.from w.count)) g.store (v.store e)
+                spliced_next l m k (number_at 0) (number_at p.from) (enc_all le32 (take c (all_of s at))) (enc_all le32 (segment (all_of s at) p.from w.count)) g.store v.store
                 (omega (arith, from, length_enc (take c (all_of s at)), length-take-le c (all_of s at) g.listed))
                 ∙ ap (splice l (number_at 0))
                 (sym (enc_all_append le32 (take c (all_of s at)) (segment (all_of s at) p.from w.count))

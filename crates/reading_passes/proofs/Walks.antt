@@ -21,6 +21,7 @@ use Rattle.reading_walk.specs.Passes.{played_at, played_past, segment, Walking, 
 use Rattle.reading_walk.proofs.Bars.{bar_get, bar_none}
 use Rattle.reading_walk.proofs.Passes.{played_end}
 use Rattle.reading_walk.proofs.Follow.{seg_more, seg_none, walking_start, walking_skip, walking_stay, walking_open, listing_on, listing_close}
+use Rattle.std.specs.Prelude as rust
 use Rattle.reading_bars.specs.Bars.{span_of, BarIs}
 use Rattle.reading_bars.proofs.Spans.{bar_left_lem, bar_right_lem, bar_span, bar_after}
 use Rattle.reading_bars.specs.declared.Bar as code
@@ -35,7 +36,7 @@ pub record Seen (s : List ℕ) (at i : ℕ) (b : code.Bar) : Type 0 where
   pub span_is : span_of b.span ≡ (bar_at s at i).span
   pub after_is : span_of b.after ≡ open_before s at (suc i)
 
-pub seen : (s : List ℕ) (at i span : ℕ) (b : code.Bar) → span_of span ≡ open_before s at i → BarIs s (record_at measure_width at i) span b → Seen s at i b
+pub seen : (s : List ℕ) (at i : ℕ) (span : rust.Option ℕ) (b : code.Bar) → span_of span ≡ open_before s at i → BarIs s (record_at measure_width at i) span b → Seen s at i b
 seen s at i span b e h = record { left_is = bar_left_lem s at i span b h e; right_is = bar_right_lem s at i span b h e; span_is = bar_span s at i span b h e; after_is = bar_after s at i span b h e }
 
 -- its record lies within the reading
@@ -68,7 +69,7 @@ length_segment (y ∷ ys) (suc from) (suc c) h k = omega (arith, length_segment 
 
 module _ (s : List ℕ) (at n room : ℕ) (start : Pass) (l : List ℕ) where
   -- what is listed so far, before measure i
-  pub record Listed (m : List ℕ) (span count i : ℕ) : Type 0 where
+  pub record Listed (m : List ℕ) (span : rust.Option ℕ) (count i : ℕ) : Type 0 where
     pub low : start.section ≤ i
     pub high : i ≤ n
     pub span_is : span_of span ≡ open_before s at i
@@ -79,12 +80,12 @@ module _ (s : List ℕ) (at n room : ℕ) (start : Pass) (l : List ℕ) where
     pub store : m ≡ splice l (number_at start.from) (enc_all le32 (segment (all_of s at) start.from count))
 
   -- the player stands before measure i
-  pub record Going (m : List ℕ) (span count i : ℕ) : Type 0 where
+  pub record Going (m : List ℕ) (span : rust.Option ℕ) (count i : ℕ) : Type 0 where
     pub listed : Listed m span count i
     pub walking : Walking (bars_of s at) (all_of s at) i start.section start.pass start.from count
 
   -- he plays measure i, which he entered with the pass p
-  pub record Plays (m : List ℕ) (p : Pass) (span count i : ℕ) : Type 0 where
+  pub record Plays (m : List ℕ) (p : Pass) (span : rust.Option ℕ) (count i : ℕ) : Type 0 where
     pub listed : Listed m span count i
     pub inside : i < n
     pub low : p.section ≤ i
@@ -116,7 +117,7 @@ module _ (s : List ℕ) (at n room : ℕ) (start : Pass) (l : List ℕ) where
 
   module _ (here : Here s at n) (h : Starts s at n room start) where
     -- a measure is left out
-    pub going_skip : (m : List ℕ) (span count i j : ℕ) (b : code.Bar) → j ≡ suc i → i < n → Going m span count i → Seen s at i b → is_skipped (span_of b.span) start.pass ≡ true
+    pub going_skip : (m : List ℕ) (span : rust.Option ℕ) (count i j : ℕ) (b : code.Bar) → j ≡ suc i → i < n → Going m span count i → Seen s at i b → is_skipped (span_of b.span) start.pass ≡ true
         → Going m b.after count j
     going_skip m span count i j b q k g e f =
         let o = g.listed in
@@ -139,7 +140,7 @@ module _ (s : List ℕ) (at n room : ℕ) (start : Pass) (l : List ℕ) where
         })
 
     -- a measure is entered
-    enter_by : (m : List ℕ) (span count i : ℕ) → i < n → Going m span count i → is_skipped (bar_at s at i).span start.pass ≡ false → (t : Bool) → (ltb start.section i && opens (bar_at s at i).left) ≡ t
+    enter_by : (m : List ℕ) (span : rust.Option ℕ) (count i : ℕ) → i < n → Going m span count i → is_skipped (bar_at s at i).span start.pass ≡ false → (t : Bool) → (ltb start.section i && opens (bar_at s at i).left) ≡ t
         → Plays m (cond t (record { section = i; pass = 1; before = span; at = i; span = span; from = count }) start) span count i
     enter_by m span count i k g f true e =
         let o = g.listed in
@@ -175,26 +176,19 @@ module _ (s : List ℕ) (at n room : ℕ) (start : Pass) (l : List ℕ) where
               (bar_get s at i (omega (arith, k, here.count_is))) f e;
         }
 
-    pub going_enter : (m : List ℕ) (p : Pass) (span count i : ℕ) (b : code.Bar) → i < n → Going m span count i → Seen s at i b → is_skipped (span_of b.span) start.pass ≡ false
+    pub going_enter : (m : List ℕ) (p : Pass) (span : rust.Option ℕ) (count i : ℕ) (b : code.Bar) → i < n → Going m span count i → Seen s at i b → is_skipped (span_of b.span) start.pass ≡ false
         → p ≡ entered_at start i b.left span count → Plays m p span count i
     going_enter m p span count i b k g e f q =
         subst (λ (x : Pass). Plays m x span count i) (sym (q ∙ ap (λ (x : ℕ). entered_at start i x span count) e.left_is))
         (enter_by m span count i k g (ap (λ (o : Option ℕ). is_skipped o start.pass) (sym e.span_is) ∙ f) (ltb start.section i && opens (bar_at s at i).left) refl)
 
-    module _ (m : List ℕ) (p : Pass) (span count i : ℕ) (g : Plays m p span count i) where
+    module _ (m : List ℕ) (p : Pass) (span : rust.Option ℕ) (count i : ℕ) (g : Plays m p span count i) where
       more_listed : count < length (all_of s at)
       more_listed = goes_on_lem (all_of s at) count (suc i) (played_past (bars_of s at) i p.section p.pass (bar_at s at i)) g.listing.rest
 
       -- its number has no room
-      pub plays_full : (after : ℕ) → count ≡ room
-          → WalkedIs s at n room start l m (record { section = p.section; pass = p.pass; before = p.before; from = p.from; at = i; after = after; count = count; closed = false; full = true })
-      plays_full after e =
-          record {
-            no_room = λ q. omega (arith, e, more_listed);
-            listed = λ q. absurd (false≢true (sym q));
-            store = λ q. absurd (false≢true (sym q));
-            went_on = λ q. absurd (false≢true (sym q));
-          }
+      pub plays_full : count ≡ room → {k : List ℕ} → WalkedIs s at n room start l k rust.None
+      plays_full e = record { says = omega (arith, e, more_listed) }
 
       -- its number is written
       module _ (k : List ℕ) (b : code.Bar) (e : Seen s at i b) (free : count ≡ room → ⊥) (w : k ≡ splice m (number_at count) (le32 (suc i))) where
@@ -235,20 +229,22 @@ module _ (s : List ℕ) (at n room : ℕ) (start : Pass) (l : List ℕ) where
             }))
 
         -- what every way out says
-        out : (w : Walked) → w.count ≡ suc count → w.full ≡ false → WentOn s at n start w → WalkedIs s at n room start l k w
-        out w c q x =
+        out : (w : Walked) → w.count ≡ suc count → WentOn s at n start w → WalkedIs s at n room start l k (rust.Some w)
+        out w c x =
             let o = g.listed in
             record {
-              no_room = λ y. absurd (false≢true (sym q ∙ y));
-              listed = λ y. (omega (arith, o.from_least, c), omega (arith, o.roomy, free, c), omega (arith, more_listed, c));
-              store = λ y. written ∙ ap (λ (z : ℕ). splice l (number_at start.from) (enc_all le32 (segment (all_of s at) start.from z))) (sym c);
-              went_on = λ y. x;
+              says =
+                  record {
+                    listed = (omega (arith, o.from_least, c), omega (arith, o.roomy, free, c), omega (arith, more_listed, c));
+                    store = written ∙ ap (λ (z : ℕ). splice l (number_at start.from) (enc_all le32 (segment (all_of s at) start.from z))) (sym c);
+                    went_on = x;
+                  };
             }
 
         pub plays_close : (c : ℕ) → c ≡ suc count → closes b.right ≡ true
-            → WalkedIs s at n room start l k (record { section = p.section; pass = p.pass; before = p.before; from = p.from; at = i; after = b.after; count = c; closed = true; full = false })
+            → WalkedIs s at n room start l k (rust.Some (record { section = p.section; pass = p.pass; before = p.before; from = p.from; at = i; after = b.after; count = c; closed = true }))
         plays_close c qc f =
-            out _ qc refl
+            out _ qc
             (record {
               closes =
                   λ y.
@@ -270,9 +266,9 @@ module _ (s : List ℕ) (at n room : ℕ) (start : Pass) (l : List ℕ) where
             })
 
         pub plays_open : (c j from : ℕ) → c ≡ suc count → j ≡ suc i → closes b.right ≡ false → start.section < p.section
-            → WalkedIs s at n room start l k (record { section = p.section; pass = p.pass; before = p.before; from = from; at = j; after = b.after; count = c; closed = false; full = false })
+            → WalkedIs s at n room start l k (rust.Some (record { section = p.section; pass = p.pass; before = p.before; from = from; at = j; after = b.after; count = c; closed = false }))
         plays_open c j from qc qj f x =
-            out _ qc refl
+            out _ qc
             (record {
               closes = λ y. absurd (false≢true y);
               opens =
@@ -297,36 +293,37 @@ module _ (s : List ℕ) (at n room : ℕ) (start : Pass) (l : List ℕ) where
             })
 
     -- no measure is left
-    pub going_end : (m : List ℕ) (span count i : ℕ) → n ≤ i → Going m span count i
-        → WalkedIs s at n room start l m (record { section = n; pass = 1; before = span; from = count; at = n; after = span; count = count; closed = false; full = false })
+    pub going_end : (m : List ℕ) (span : rust.Option ℕ) (count i : ℕ) → n ≤ i → Going m span count i
+        → WalkedIs s at n room start l m (rust.Some (record { section = n; pass = 1; before = span; from = count; at = n; after = span; count = count; closed = false }))
     going_end m span count i k g =
         let o = g.listed in
         let q : i ≡ n = omega (arith, k, o.high) in
         let z : span_of span ≡ open_before s at n = o.span_is ∙ ap (open_before s at) q in
         let e : drop count (all_of s at) ≡ [] = g.walking.rest ∙ played_end (bars_of s at) i start.section start.pass (bar_none s at i (omega (arith, k, here.count_is))) in
         record {
-          no_room = λ y. absurd (false≢true y);
-          listed = λ y. (o.from_least, o.roomy, o.counted);
-          store = λ y. o.store;
-          went_on =
-              λ y.
+          says =
               record {
-                closes = λ x. absurd (false≢true x);
-                opens =
-                    λ x.
+                listed = (o.from_least, o.roomy, o.counted);
+                store = o.store;
+                went_on =
                     record {
-                      stands =
+                      closes = λ x. absurd (false≢true x);
+                      opens =
+                          λ x.
                           record {
-                            in_part = omega arith;
-                            low = omega arith;
-                            high = omega arith;
-                            pass_least = omega arith;
-                            pass_most = omega arith;
-                            before_is = z;
-                            span_is = z;
-                            rest = e ∙ sym (played_end (bars_of s at) n n 1 (bar_none s at n (omega (arith, here.count_is))));
+                            stands =
+                                record {
+                                  in_part = omega arith;
+                                  low = omega arith;
+                                  high = omega arith;
+                                  pass_least = omega arith;
+                                  pass_most = omega arith;
+                                  before_is = z;
+                                  span_is = z;
+                                  rest = e ∙ sym (played_end (bars_of s at) n n 1 (bar_none s at n (omega (arith, here.count_is))));
+                                };
+                            later = omega (arith, h.stands.low, h.inside);
                           };
-                      later = omega (arith, h.stands.low, h.inside);
                     };
               };
         }

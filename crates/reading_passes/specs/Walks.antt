@@ -1,8 +1,7 @@
 -- What the code says of a list that is being written: its numbers stand in the store behind the count.
-use Rattle.std.specs.Prelude.{ℕ, suc, ◌+◌, ◌-◌, ◌≤◌, ◌<◌, ◌^◌, ◌≡◌, true, false, cond, ◌&&◌, List, ◌++◌, leb, ltb, length, drop, take}
+use Rattle.std.specs.Prelude.{ℕ, suc, ◌+◌, ◌-◌, ◌≤◌, ◌<◌, ◌^◌, ◌≡◌, true, false, cond, ◌&&◌, List, ◌++◌, Option, Some, None, leb, ltb, length, drop, take}
 use Rattle.laws.specs.Bytes.{le32, u32_at, splice, enc_all}
 use Rattle.reading_sections.specs.Sections.{notes_at}
-use Rattle.reading_list.specs.declared.Copied.{Copied}
 use Rattle.reading_list.specs.Numbers.{number_at, numbers_in, above}
 use Rattle.reading_walk.specs.Walk.{opens, played}
 use Rattle.reading_walk.specs.Spans.{open_before, bars_of}
@@ -28,7 +27,7 @@ pub record Lists (s : List ℕ) (at : ℕ) (l : List ℕ) (c : ℕ) : Type 0 whe
   pub are : numbers_in l 0 c ≡ take c (all_of s at)
 
 -- WHERE A PLAYER STANDS: before measure m, open before which is `span`, in pass p of the section that starts at s, open before which is `before`, with c numbers listed
-pub record StandsAt (s : List ℕ) (at n m span section pass before c : ℕ) : Type 0 where
+pub record StandsAt (s : List ℕ) (at n m : ℕ) (span : Option ℕ) (section pass : ℕ) (before : Option ℕ) (c : ℕ) : Type 0 where
   pub in_part : m ≤ n
   pub low : section ≤ m
   pub high : m ≤ suc section
@@ -46,7 +45,7 @@ pub record Starts (s : List ℕ) (at n room : ℕ) (p : Pass) : Type 0 where
   pub roomy : p.from ≤ room
 
 -- the pass with which measure m is entered, whose left barline is `left` and before which `span` is open, with c numbers listed
-abbrev pub entered_at : Pass → ℕ → ℕ → ℕ → ℕ → Pass
+abbrev pub entered_at : Pass → ℕ → ℕ → Option ℕ → ℕ → Pass
 entered_at p m left span c =
     cond (ltb p.section m && opens left) (record { section = m; pass = 1; before = span; at = m; span = span; from = c }) p
 
@@ -71,12 +70,19 @@ pub record WentOn (s : List ℕ) (at n : ℕ) (p : Pass) (w : Walked) : Type 0 w
   pub closes : w.closed ≡ true → ClosedIs s at n p w
   pub opens : w.closed ≡ false → OnIs s at n p w
 
--- how the pass p went, in the store l, which is left as m
-pub record WalkedIs (s : List ℕ) (at n room : ℕ) (p : Pass) (l m : List ℕ) (w : Walked) : Type 0 where
-  pub no_room : w.full ≡ true → room < length (all_of s at)
-  pub listed : w.full ≡ false → (p.from ≤ w.count) × (w.count ≤ room) × (w.count ≤ length (all_of s at))
-  pub store : w.full ≡ false → m ≡ splice l (number_at p.from) (enc_all le32 (segment (all_of s at) p.from w.count))
-  pub went_on : w.full ≡ false → WentOn s at n p w
+-- the pass p went as w says, in the store l, which is left as m
+pub record Went (s : List ℕ) (at n room : ℕ) (p : Pass) (l m : List ℕ) (w : Walked) : Type 0 where
+  pub listed : (p.from ≤ w.count) × (w.count ≤ room) × (w.count ≤ length (all_of s at))
+  pub store : m ≡ splice l (number_at p.from) (enc_all le32 (segment (all_of s at) p.from w.count))
+  pub went_on : WentOn s at n p w
+
+-- or a number had no room
+abbrev pub WalkSays : List ℕ → ℕ → ℕ → ℕ → Pass → List ℕ → List ℕ → Option Walked → Type 0
+WalkSays s at n room p l m (Some w) = Went s at n room p l m w
+WalkSays s at n room p l m None = room < length (all_of s at)
+
+pub record WalkedIs (s : List ℕ) (at n room : ℕ) (p : Pass) (l m : List ℕ) (r : Option Walked) : Type 0 where
+  pub says : WalkSays s at n room p l m r
 
 -- THE LAST WALK of pass q that was closed, of c numbers: from every measure from `least` up to below `end` it lists the same again, in whatever section
 pub record KeptIs (s : List ℕ) (at n c q : ℕ) (k : Kept) : Type 0 where
@@ -99,8 +105,10 @@ pub record NextIs (s : List ℕ) (at n : ℕ) (p : Pass) (c : ℕ) (x : Next) : 
   pub later : p.section ≤ x.section
   pub more : x.section ≤ p.section → x.pass ≡ suc p.pass
 
--- THE WHOLE LIST in the store l, which is left as m
-pub record PlayedIs (s : List ℕ) (at room : ℕ) (l m : List ℕ) (r : Copied) : Type 0 where
-  pub no_room : r.full ≡ true → room < length (all_of s at)
-  pub count_is : r.full ≡ false → (r.count ≡ length (all_of s at)) × (r.count ≤ room)
-  pub store : r.full ≡ false → m ≡ splice l (number_at 0) (enc_all le32 (all_of s at))
+-- THE WHOLE LIST in the store l, which is left as m; or a number had no room
+abbrev pub PlaySays : List ℕ → ℕ → ℕ → List ℕ → List ℕ → Option ℕ → Type 0
+PlaySays s at room l m (Some c) = (c ≡ length (all_of s at)) × (c ≤ room) × (m ≡ splice l (number_at 0) (enc_all le32 (all_of s at)))
+PlaySays s at room l m None = room < length (all_of s at)
+
+pub record PlayedIs (s : List ℕ) (at room : ℕ) (l m : List ℕ) (r : Option ℕ) : Type 0 where
+  pub says : PlaySays s at room l m r

@@ -8,7 +8,6 @@ ghost use Rattle.reading_bars.specs.Bars.{span_of, LimitIs};
 ghost use Rattle.reading_passes.specs.Walks.{Here, Lists, entered_at, Starts, WalkedIs, ClosedIs, WentOn, KeptIs, kept_after, NextIs, PlayedIs};
 
 use reading_bars::Limit;
-use reading_list::Copied;
 
 // A pass of a section: the section's first measure, the pass, the span that is open before the section, the measure before which the player stands, the span that
 // is open before that, and how many numbers are listed.
@@ -16,25 +15,25 @@ use reading_list::Copied;
 pub struct Pass {
     pub section: usize,
     pub pass: usize,
-    pub before: u64,
+    pub before: Option<u32>,
     pub at: usize,
-    pub span: u64,
+    pub span: Option<u32>,
     pub from: usize,
 }
 
 // How a pass went: the pass, where in the list its numbers begin, the measure that closed it and the span that is open behind that, and how many numbers are listed.
-// Where none closed it `at` is the measure before which the player stands, in a section that he opened or behind the last; `full` says that a number had no room.
+// Where none closed it (`closed`) `at` is the measure before which the player stands, in a section that he opened or behind the last: both ends have the same numbers, so
+// two cases of an enum would be no plainer than the flag.
 #[derive(Clone, Copy)]
 pub struct Walked {
     pub section: usize,
     pub pass: usize,
-    pub before: u64,
+    pub before: Option<u32>,
     pub from: usize,
     pub at: usize,
-    pub after: u64,
+    pub after: Option<u32>,
     pub count: usize,
     pub closed: bool,
-    pub full: bool,
 }
 
 // The last walk of a pass that was closed: from a measure from `least` up to below `end` it lists again those of the numbers `from` up to `to` that are above it; the
@@ -45,7 +44,7 @@ pub struct Kept {
     pub end: usize,
     pub from: usize,
     pub to: usize,
-    pub span: u64,
+    pub span: Option<u32>,
 }
 
 // Where the player goes on, and the limit that is known.
@@ -53,15 +52,15 @@ pub struct Kept {
 pub struct Next {
     pub section: usize,
     pub pass: usize,
-    pub before: u64,
+    pub before: Option<u32>,
     pub at: usize,
-    pub span: u64,
-    pub most: u64,
+    pub span: Option<u32>,
+    pub most: usize,
     pub end: usize,
 }
 
 // The pass with which a measure is entered: going forward into a left barline 1 or 3 begins a section.
-fn enter(p: Pass, at: usize, left: u8, span: u64, count: usize) -> Pass
+fn enter(p: Pass, at: usize, left: u8, span: Option<u32>, count: usize) -> Pass
     ensures { result ≡ entered_at p at left span count }
 {
     if p.section < at && reading_bars::opens(left) {
@@ -77,7 +76,7 @@ fn enter(p: Pass, at: usize, left: u8, span: u64, count: usize) -> Pass
     p
 }
 
-// One pass, measure by measure, until a measure closes it or opens another section.
+// One pass, measure by measure, until a measure closes it or opens another section; None where a number has no room.
 fn walk_pass(
     reading: &[u8],
     part: usize,
@@ -85,38 +84,27 @@ fn walk_pass(
     list: &mut [u8],
     room: usize,
     start: Pass,
-) -> Walked
+) -> Option<Walked>
     requires { (Here reading.now part n) × (Room list.old room) × (Starts reading.now part n room start) }
     ensures { WalkedIs reading.now part n room start list.old list.new result }
 {
     let mut span = start.span;
     let mut count = start.from;
-    let mut at = start.at;
-    while at < n {
+    for at in start.at..n {
         let bar = reading_bars::bar_at(
             reading,
             part + reading_records::COUNT + reading_records::MEASURE * at,
             span,
         );
-        if !reading_bars::is_skipped(bar.span, start.pass as u64) {
+        if !reading_bars::is_skipped(bar.span, start.pass) {
             let p = enter(start, at, bar.left, span, count);
             if count == room {
-                return Walked {
-                    section: p.section,
-                    pass: p.pass,
-                    before: p.before,
-                    from: p.from,
-                    at,
-                    after: 0,
-                    count,
-                    closed: false,
-                    full: true,
-                };
+                return None;
             }
             reading_list::put_number(list, count, at + 1);
             count += 1;
             if reading_bars::closes(bar.right) {
-                return Walked {
+                return Some(Walked {
                     section: p.section,
                     pass: p.pass,
                     before: p.before,
@@ -125,11 +113,10 @@ fn walk_pass(
                     after: bar.after,
                     count,
                     closed: true,
-                    full: false,
-                };
+                });
             }
             if start.section < p.section {
-                return Walked {
+                return Some(Walked {
                     section: p.section,
                     pass: p.pass,
                     before: p.before,
@@ -138,14 +125,12 @@ fn walk_pass(
                     after: bar.after,
                     count,
                     closed: false,
-                    full: false,
-                };
+                });
             }
         }
         span = bar.after;
-        at += 1;
     }
-    Walked {
+    Some(Walked {
         section: n,
         pass: 1,
         before: span,
@@ -154,8 +139,7 @@ fn walk_pass(
         after: span,
         count,
         closed: false,
-        full: false,
-    }
+    })
 }
 
 // A walk of the pass from this measure on is kept.
@@ -174,7 +158,7 @@ fn one_pass(
     room: usize,
     start: Pass,
     kept: Kept,
-) -> Walked
+) -> Option<Walked>
     requires here { (Here reading.now part n) × (Room list.old room) × (Starts reading.now part n room start) }
     requires kept_is { (KeptIs reading.now part n start.from start.pass kept) × (Lists reading.now part list.old start.from) }
     ensures { WalkedIs reading.now part n room start list.old list.new result }
@@ -182,18 +166,17 @@ fn one_pass(
     if !is_kept(kept, start.at) {
         return walk_pass(reading, part, n, list, room, start);
     }
-    let c = reading_list::repeat_numbers(list, room, kept.from, kept.to, start.at, start.from);
-    Walked {
+    let count = reading_list::repeat_numbers(list, room, kept.from, kept.to, start.at, start.from)?;
+    Some(Walked {
         section: start.section,
         pass: start.pass,
         before: start.before,
         from: start.from,
         at: kept.end - 1,
         after: kept.span,
-        count: c.count,
+        count,
         closed: true,
-        full: c.full,
-    }
+    })
 }
 
 // What is kept of a pass: the walk that was closed, unless what was kept before goes further.
@@ -219,7 +202,7 @@ fn limit_of(
     part: usize,
     n: usize,
     section: usize,
-    before: u64,
+    before: Option<u32>,
     known: Limit,
 ) -> Limit
     requires { (Here reading.now part n) × (section < n) × (span_of before ≡ open_before reading.now part section) × (LimitIs reading.now part section known) }
@@ -249,7 +232,7 @@ fn leave(reading: &[u8], part: usize, n: usize, start: Pass, w: Walked, known: L
         };
     }
     let limit = limit_of(reading, part, n, w.section, w.before, known);
-    if (w.pass as u64) < limit.most {
+    if w.pass < limit.most {
         return Next {
             section: w.section,
             pass: w.pass + 1,
@@ -290,8 +273,8 @@ fn go_on(reading: &[u8], part: usize, n: usize, start: Pass, w: Walked, known: L
     }
 }
 
-// Lists the n measures of a part as they are played.
-pub fn play(reading: &[u8], part: usize, n: usize, list: &mut [u8], room: usize) -> Copied
+// Lists the n measures of a part as they are played. Answers how many numbers are listed, or None where one has no room.
+pub fn play(reading: &[u8], part: usize, n: usize, list: &mut [u8], room: usize) -> Option<usize>
     requires { (Here reading.now part n) × (Room list.old room) }
     ensures { PlayedIs reading.now part room list.old list.new result }
 {
@@ -300,15 +283,15 @@ pub fn play(reading: &[u8], part: usize, n: usize, list: &mut [u8], room: usize)
         end: 0,
         from: 0,
         to: 0,
-        span: 0,
+        span: None,
     };
     let mut kept = [none; 33];
     let mut x = Next {
         section: 0,
         pass: 1,
-        before: 0,
+        before: None,
         at: 0,
-        span: 0,
+        span: None,
         most: 2,
         end: 0,
     };
@@ -324,11 +307,8 @@ pub fn play(reading: &[u8], part: usize, n: usize, list: &mut [u8], room: usize)
             from: count,
         };
         let k = kept[pass];
-        let w = one_pass(reading, part, n, list, room, start, k);
+        let w = one_pass(reading, part, n, list, room, start, k)?;
         count = w.count;
-        if w.full {
-            return Copied { count, full: true };
-        }
         let q = w.pass;
         let old = kept[q];
         kept[q] = keep(old, w);
@@ -338,5 +318,5 @@ pub fn play(reading: &[u8], part: usize, n: usize, list: &mut [u8], room: usize)
         };
         x = go_on(reading, part, n, start, w, known);
     }
-    Copied { count, full: false }
+    Some(count)
 }

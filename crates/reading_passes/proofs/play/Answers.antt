@@ -3,7 +3,7 @@ use mathlib.Core.Path.{refl}
 use native.Mathlib.Omega.{arith}
 use lib.ListN.{get_or-replicate}
 use borrow.Author.Rules.{rules}
-use Rattle.reading_passes.proofs.Playing.{rank_less, went_in, playing_start, playing_lists, playing_starts, playing_end, playing_full, playing_on, room_same}
+use Rattle.reading_passes.proofs.Playing.{rank_less, went_in, playing_start, playing_lists, playing_starts, playing_end, playing_on, room_same}
 use Rattle.reading_passes.proofs.play.Goals as goal
 
 pub loop-x-init : goal.loop-x-init
@@ -15,8 +15,8 @@ offset_bounds-kept-pass c = omega (arith, c.loop-x.invariant.stands.pass_most)
 pub bounds-kept-pass : goal.bounds-kept-pass
 bounds-kept-pass c = let o = c.loop-x.invariant.stands.pass_most in omega (arith, o)
 
-pub one_pass-w-requires : goal.one_pass-w-requires
-one_pass-w-requires c =
+pub one_pass-requires : goal.one_pass-requires
+one_pass-requires c =
     let l = c.loop-x in
     let p = c.requires in
     record {
@@ -24,38 +24,32 @@ one_pass-w-requires c =
       kept_is = (l.invariant.kept _ l.x.pass (omega (arith, l.invariant.stands.pass_most)), playing_lists _ _ _ _ _ _ _ _ _ p.0 p.1 l.invariant);
     }
 
-pub shape_of-list-then-w : goal.shape_of-list-then-w
-shape_of-list-then-w c = search (rules, c.loop-x.invariant.long)
-
-pub returns-then-w : goal.returns-then-w
-returns-then-w c =
-    let l = c.loop-x in
-    let p = c.requires in
-    playing_full _ _ _ _ _ _ _ _ _ p.0 p.1 l.invariant _ refl _ _ c.one_pass-w.ensures c.if-w.true
+pub returns-in_err-w : goal.returns-in_err-w
+returns-in_err-w c = rw c.from_residual.ensures (record { says = c.in_err-w.ensures.says })
 
 pub offset_bounds-kept-q : goal.offset_bounds-kept-q
-offset_bounds-kept-q c = let w = c.one_pass-w in omega (arith, (went_in _ _ _ _ _ (w.ensures.went_on c.if-w.false)).0)
+offset_bounds-kept-q c = omega (arith, (went_in _ _ _ _ _ c.in_ok-w.ensures.says.went_on).0)
 
 pub bounds-kept-q : goal.bounds-kept-q
-bounds-kept-q c = let w = c.one_pass-w in omega (arith, (went_in _ _ _ _ _ (w.ensures.went_on c.if-w.false)).0)
+bounds-kept-q c = omega (arith, (went_in _ _ _ _ _ c.in_ok-w.ensures.says.went_on).0)
 
 pub keep-requires : goal.keep-requires
 keep-requires c =
-    let x = went_in _ _ _ _ _ (c.one_pass-w.ensures.went_on c.if-w.false) in
+    let x = went_in _ _ _ _ _ c.in_ok-w.ensures.says.went_on in
     let p = c.requires in
     (omega (arith, x.1, p.0.few), omega (arith, x.2, p.0.few))
 
 pub offset_bounds-kept-q-in-loop-x : goal.offset_bounds-kept-q-in-loop-x
-offset_bounds-kept-q-in-loop-x c = omega (arith, (went_in _ _ _ _ _ (c.one_pass-w.ensures.went_on c.if-w.false)).0)
+offset_bounds-kept-q-in-loop-x c = omega (arith, (went_in _ _ _ _ _ c.in_ok-w.ensures.says.went_on).0)
 
 pub bounds-kept-q-in-loop-x : goal.bounds-kept-q-in-loop-x
-bounds-kept-q-in-loop-x c = omega (arith, (went_in _ _ _ _ _ (c.one_pass-w.ensures.went_on c.if-w.false)).0)
+bounds-kept-q-in-loop-x c = omega (arith, (went_in _ _ _ _ _ c.in_ok-w.ensures.says.went_on).0)
 
 pub go_on-x-requires : goal.go_on-x-requires
 go_on-x-requires c =
     let l = c.loop-x in
     let p = c.requires in
-    (p.0, c.one_pass-w.ensures.went_on c.if-w.false, l.invariant.limit_is)
+    (p.0, c.in_ok-w.ensures.says.went_on, l.invariant.limit_is)
 
 pub loop-x-smaller : goal.loop-x-smaller
 loop-x-smaller c = rank_less _ _ _ _ _ _ _ refl refl c.go_on-x.ensures
@@ -64,7 +58,7 @@ pub loop-x-preserved : goal.loop-x-preserved
 loop-x-preserved c =
     let l = c.loop-x in
     let p = c.requires in
-    playing_on _ _ _ _ _ _ _ _ _ p.0 p.1 l.invariant _ refl _ _ c.one_pass-w.ensures _ _ _ _ c.if-w.false c.go_on-x.ensures refl c.keep.ensures
+    playing_on _ _ _ _ _ _ _ _ _ p.0 p.1 l.invariant _ refl _ _ c.in_ok-w.ensures.says _ _ _ _ c.go_on-x.ensures refl c.keep.ensures
 
 pub shape_of-list : goal.shape_of-list
 shape_of-list c = search (rules, c.loop-x.invariant.long)

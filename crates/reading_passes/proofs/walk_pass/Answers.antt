@@ -10,39 +10,27 @@ use Rattle.reading_passes.proofs.Walks.{seen, record_in, going_start, going_skip
 use Rattle.reading_passes.proofs.walk_pass.Goals as goal
 use Rattle.reading_passes.proofs.walk_pass.Goals.{then-not-is_skipped+else-count-room+else-closes+else-start-p, else-not-is_skipped}
 
--- src/lib.rt:99:5
 pub loop-at-init : goal.loop-at-init
 loop-at-init c = going_start _ _ _ _ _ _ c.requires.2
 
--- src/lib.rt:102:13
 pub overflow_add-part : goal.overflow_add-part
 overflow_add-part c = omega (arith, record_in _ _ _ _ c.requires.0 c.loop-at-test.true, c.well_formed)
 
--- src/lib.rt:102:45
 pub overflow_mul-at : goal.overflow_mul-at
 overflow_mul-at c = omega (arith, record_in _ _ _ _ c.requires.0 c.loop-at-test.true, c.well_formed)
 
--- src/lib.rt:102:13
 pub overflow_add-part-in-loop-at : goal.overflow_add-part-in-loop-at
 overflow_add-part-in-loop-at c = omega (arith, record_in _ _ _ _ c.requires.0 c.loop-at-test.true, c.well_formed)
 
--- src/lib.rt:100:13
 pub bar_at-bar-requires : goal.bar_at-bar-requires
 bar_at-bar-requires c = record_in _ _ _ _ c.requires.0 c.loop-at-test.true
 
--- src/lib.rt:105:13
 pub is_skipped-requires : goal.is_skipped-requires
 is_skipped-requires c = let o = c.requires.2.stands in (o.pass_least, o.pass_most)
 
--- src/lib.rt:106:17
-pub enter-p-requires : goal.enter-p-requires
-enter-p-requires c = search rules
-
--- src/lib.rt:108:17
 pub shape_of-list-then-count-room : goal.shape_of-list-then-count-room
 shape_of-list-then-count-room c = search (rules, c.loop-at.invariant.listed.long)
 
--- src/lib.rt:108:17
 pub returns-then-count-room : goal.returns-then-count-room
 returns-then-count-room c =
     let l = c.loop-at in
@@ -50,32 +38,17 @@ returns-then-count-room c =
     let h = c.loop-at-test.true in
     let sn = seen _ _ _ _ _ l.invariant.listed.span_is c.bar_at-bar.ensures in
     let g = going_enter _ _ _ _ _ _ p.0 p.2 _ _ _ _ _ _ h l.invariant sn (sym c.is_skipped.ensures ∙ c.if-not-is_skipped.true) c.enter-p.ensures in
-    plays_full _ _ _ _ _ _ p.0 p.2 _ _ _ _ _ g _ c.if-count-room.true
+    plays_full _ _ _ _ _ _ p.0 p.2 _ _ _ _ _ g c.if-count-room.true
 
--- src/lib.rt:120:51
-pub overflow_add-at : goal.overflow_add-at
-overflow_add-at c = search rules
-
--- src/lib.rt:120:13
 pub put_number-requires : goal.put_number-requires
 put_number-requires c =
     let o = c.loop-at.invariant.listed in
     let p = c.requires in
     (omega (arith, o.long, o.roomy, p.1.fits, c.if-count-room.false), omega (arith, p.0.few, c.loop-at-test.true))
 
--- src/lib.rt:121:13
-pub overflow_add-count : goal.overflow_add-count
-overflow_add-count c = search rules
-
--- src/lib.rt:122:16
-pub closes-requires : goal.closes-requires
-closes-requires c = search rules
-
--- src/lib.rt:123:17
 pub shape_of-list-then-closes : goal.shape_of-list-then-closes
 shape_of-list-then-closes c = search (rules, c.loop-at.invariant.listed.long)
 
--- src/lib.rt:123:17
 pub returns-then-closes : goal.returns-then-closes
 returns-then-closes c =
     let l = c.loop-at in
@@ -85,15 +58,12 @@ returns-then-closes c =
     let g = going_enter _ _ _ _ _ _ p.0 p.2 _ _ _ _ _ _ h l.invariant sn (sym c.is_skipped.ensures ∙ c.if-not-is_skipped.true) c.enter-p.ensures in
     plays_close _ _ _ _ _ _ p.0 p.2 _ _ _ _ _ g _ _ sn c.if-count-room.false (c.put_number.ensures ∙ ap (λ (x : ℕ). splice l.list (number_at l.count) (le32 x)) (add-one l.at)) _ (add-one l.count) (sym c.closes.ensures ∙ c.if-closes.true)
 
--- src/lib.rt:141:25
 pub overflow_add-result : goal.overflow_add-result
 overflow_add-result c = omega (arith, c.requires.0.few, c.loop-at-test.true)
 
--- src/lib.rt:136:17
 pub shape_of-list-then-start-p : goal.shape_of-list-then-start-p
 shape_of-list-then-start-p c = search (rules, c.loop-at.invariant.listed.long)
 
--- src/lib.rt:136:17
 pub returns-then-start-p : goal.returns-then-start-p
 returns-then-start-p c =
     let l = c.loop-at in
@@ -103,15 +73,6 @@ returns-then-start-p c =
     let g = going_enter _ _ _ _ _ _ p.0 p.2 _ _ _ _ _ _ h l.invariant sn (sym c.is_skipped.ensures ∙ c.if-not-is_skipped.true) c.enter-p.ensures in
     plays_open _ _ _ _ _ _ p.0 p.2 _ _ _ _ _ g _ _ sn c.if-count-room.false (c.put_number.ensures ∙ ap (λ (x : ℕ). splice l.list (number_at l.count) (le32 x)) (add-one l.at)) _ _ _ (add-one l.count) (add-one l.at) (sym c.closes.ensures ∙ c.if-closes.false) c.if-start-p.true
 
--- src/lib.rt:150:9
-pub overflow_add-at-in-loop-at : goal.overflow_add-at-in-loop-at
-overflow_add-at-in-loop-at c = search rules
-
--- src/lib.rt:99:5
-pub loop-at-smaller : goal.loop-at-smaller
-loop-at-smaller c = search rules
-
--- src/lib.rt:99:5
 pub loop-at-preserved : goal.loop-at-preserved
 loop-at-preserved c =
     let l = c.loop-at in
@@ -126,10 +87,8 @@ loop-at-preserved c =
       | else-not-is_skipped w ↦ rw (w.list-is, w.count-is) (going_skip _ _ _ _ _ _ p.0 p.2 _ _ _ _ _ _ (add-one l.at) h l.invariant sn (sym c.is_skipped.ensures ∙ w.if-not-is_skipped.false))
     ]
 
--- src/lib.rt:85:1
 pub shape_of-list : goal.shape_of-list
 shape_of-list c = search (rules, c.loop-at.invariant.listed.long)
 
--- src/lib.rt:85:1
 pub returns : goal.returns
 returns c = let p = c.requires in going_end _ _ _ _ _ _ p.0 p.2 _ _ _ _ c.loop-at-test.false c.loop-at.invariant

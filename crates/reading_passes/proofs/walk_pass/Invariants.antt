@@ -1,10 +1,6 @@
 -- `reading_passes::walk_pass` meets its contract: measure by measure, as proofs/Walks has it.
-use Prim.Native.Nat.{◌-◌}
 use Rattle.reading_passes.proofs.Walks.{Going}
 use Rattle.reading_passes.proofs.walk_pass.Given as goal
 
 abbrev pub invariant-loop-at : goal.invariant-loop-at
 invariant-loop-at l = Going l.reading l.part l.n l.room l.start l.initial.list l.list l.span l.count l.at
-
-abbrev pub decreases-loop-at : goal.decreases-loop-at
-decreases-loop-at l = l.n - l.at
