@@ -1,9 +1,10 @@
--- The cases of an answer as the definitions have them.
+-- An answer as the definitions have it.
+use Rattle.std.specs.Prelude.{ℕ, Result, Ok, Err}
 use Rattle.reader.specs.Answer.{Answer, read, refused}
-use Rattle.reading_answers.specs.declared.Answer as code
-use Rattle.reading_answers.specs.declared.Answer.TheVariants as A
+use Rattle.refusals.specs.declared.Refused.{Refused}
+use Rattle.refusals.specs.Numbers.{number_of}
 
 -- the length in bytes of what was written; the number of a refusal, and its line
-abbrev pub answer_as : code.Answer → Answer
-answer_as (A.Read n) = read n
-answer_as (A.Refused n l) = refused n l
+abbrev pub answer_as : Result ℕ Refused → Answer
+answer_as (Ok n) = read n
+answer_as (Err e) = refused (number_of e.refusal) e.line

@@ -13,35 +13,34 @@ returns-then-list-lt-COUNT c =
     let e = list_short _ _ c.if-list-lt-COUNT.true in
     record { result_value = r.result_value ∙ ap (λ (o : Outcome). o.answer) e; list_after = r.list_after ∙ ap (λ (o : Outcome). o.store) e }
 
-pub play-c-requires : goal.play-c-requires
-play-c-requires c = search rules
+pub play-requires : goal.play-requires
+play-requires c = search rules
 
-pub returns-then-c : goal.returns-then-c
-returns-then-c c =
+pub returns-in_default : goal.returns-in_default
+returns-in_default c =
     let a = c.args in
-    let r = c.refuse-then-c.ensures in
+    let r = c.refuse-in_default.ensures in
     let e =
-    ap (refused_with 20) c.play-c.auto.list
-    ∙ list_full (all_of a.reading.now a.part) _ _ c.if-list-lt-COUNT.false c.room_of-room.ensures (c.play-c.ensures.no_room c.if-c.true) in
+    ap (refused_with 20) c.play.auto.list
+    ∙ list_full (all_of a.reading.now a.part) _ _ c.if-list-lt-COUNT.false c.room_of-room.ensures c.in_default.ensures.says in
     record { result_value = r.result_value ∙ ap (λ (o : Outcome). o.answer) e; list_after = r.list_after ∙ ap (λ (o : Outcome). o.store) e }
 
-pub overflow_cast-c : goal.overflow_cast-c
-overflow_cast-c c = let p = c.play-c.ensures.count_is c.if-c.false in omega (arith, p.1, c.room_of-room.ensures)
+pub overflow_cast-count : goal.overflow_cast-count
+overflow_cast-count c = let p = c.in-Some.ensures.says in omega (arith, p.1, c.room_of-room.ensures)
 
 pub overflow_mul-end : goal.overflow_mul-end
-overflow_mul-end c = let p = c.play-c.ensures.count_is c.if-c.false in omega (arith, p.1, c.room_of-room.ensures)
+overflow_mul-end c = let p = c.in-Some.ensures.says in omega (arith, p.1, c.room_of-room.ensures)
 
 pub overflow_add-end : goal.overflow_add-end
-overflow_add-end c = let p = c.play-c.ensures.count_is c.if-c.false in omega (arith, p.1, c.room_of-room.ensures)
+overflow_add-end c = let p = c.in-Some.ensures.says in omega (arith, p.1, c.room_of-room.ensures)
 
 pub clear-requires : goal.clear-requires
 clear-requires c =
-    let p = c.play-c.ensures.count_is c.if-c.false in
-    omega (arith, p.1, c.room_of-room.ensures, c.if-list-lt-COUNT.false, c.put_u32.auto.store, c.play-c.auto.list)
+    let p = c.in-Some.ensures.says in
+    omega (arith, p.1, c.room_of-room.ensures, c.if-list-lt-COUNT.false, c.put_u32.auto.store, c.play.auto.list)
 
 pub returns : goal.returns
 returns c =
-    let p = c.play-c.ensures in
-    let f = c.if-c.false in
-    let e = list_fits _ _ _ _ _ _ _ _ c.if-list-lt-COUNT.false c.room_of-room.ensures (p.count_is f).0 (p.count_is f).1 refl (p.store f) c.put_u32.ensures c.clear.ensures in
+    let p = c.in-Some.ensures.says in
+    let e = list_fits _ _ _ _ _ _ _ _ c.if-list-lt-COUNT.false c.room_of-room.ensures p.0 p.1 refl p.2 c.put_u32.ensures c.clear.ensures in
     record { result_value = e.0; list_after = e.1 }
