@@ -34,7 +34,7 @@ use Rattle.lyrics.specs.Sheet.{syllables_in, lyric_row_width}
 use Rattle.lyrics.specs.Items.{lines_in}
 use Rattle.lyrics.proofs.Items.{lines_front}
 use Rattle.part_stops.proofs.Bars.{stops_ready}
-use Rattle.store_sections.specs.declared.Wrote.{Wrote}
+use Rattle.std.specs.Prelude.{Option}
 use Rattle.store_sections.specs.Writes.{WroteIs}
 use Rattle.write_notes.specs.declared.PartTables.{PartTables}
 use Rattle.write_notes.specs.Tables.{InStore, Represents}
@@ -204,7 +204,7 @@ module _ (ed : Edition) (text s : List ℕ) (n p : ℕ) (header : Key) (t : Tabl
       )
 
   -- and are the part's
-  pub part_wrote : {to to' : List ℕ} {r : Wrote} → ((ms : List Head) (log : List (ℕ × Note)) → Represents s₃ d.tables ms log
+  pub part_wrote : {to to' : List ℕ} {r : Option ℕ} → ((ms : List Head) (log : List (ℕ × Note)) → Represents s₃ d.tables ms log
       → WroteIs to (layout.sections (record { heads = ms; log = log; words = syllables_in text s₃ sheet })) to' r)
       → WroteIs to (Records.sections (Part.build ed header (items_of p (items_in text s n)))) to' r
   part_wrote w =

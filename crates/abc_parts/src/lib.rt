@@ -17,7 +17,6 @@ use field_keys::Key;
 use lyric_stops::Stops;
 use lyrics::Sheet;
 use part_registers::Tables;
-use store_sections::Wrote;
 use write_notes::{PartTables, Rows};
 
 // A part that is read and ended: its tables, and how many of its notes are sung to.
@@ -143,10 +142,10 @@ pub fn write_part(
     part: u8,
     key: Key,
     to: &mut [u8],
-) -> Wrote
+) -> Option<usize>
     requires { PartRoom text.now scratch.old n part }
     ensures wrote_is { WroteIs to.old (Records.sections (build edition (key_as key) (items_of part (items_in text.now scratch.old n)))) to.new result }
-    ensures n_unchanged { (items_in text.now scratch.new n ≡ items_in text.now scratch.old n) × (length scratch.new ≡ length scratch.old) }
+    ensures items_unchanged { (items_in text.now scratch.new n ≡ items_in text.now scratch.old n) × (length scratch.new ≡ length scratch.old) }
 {
     let t = part_sizing::size_part(text, scratch, n, part);
     let d = read_part(edition, text, scratch, n, part, t, key);

@@ -26,7 +26,7 @@ returns c =
     let u = c.sing_part-sheet in
     let header = key_as a.key in record {
       wrote_is = part_wrote a.edition a.text.now a.scratch.now a.n a.part header t _ d.result d.ensures _ u.result u.ensures.0 u.ensures.1 c.write_sections.ensures;
-      n_unchanged = (
+      items_unchanged = (
         sung_items a.edition a.text.now a.scratch.now a.n a.part header t _ d.result d.ensures _ u.result u.ensures.0 u.ensures.1,
         sung_length a.edition a.text.now a.scratch.now a.n a.part header t _ d.result d.ensures _ u.result u.ensures.0 u.ensures.1,
       );
