@@ -18,10 +18,13 @@ use Rattle.reader.specs.Steps.{items_of}
 use Rattle.reader.specs.Records.{measure_width}
 use Rattle.bounds.specs.Weights.{lyric_bytes}
 use Rattle.capacity.specs.Sizes.{is_bar, is_rest, is_sign, bars, letters, rests, signs, tones}
+use Rattle.scan_table.specs.declared.Kind.{Kind}
+use Rattle.scan_table.specs.declared.Kind.TheVariants as K
 use Rattle.scan_table.specs.declared.Row.{Row}
-use Rattle.scan_table.specs.Rows.{items_from, item_row_width, lyric_line_kind, dec_item, item_as, item_in, items_in}
+use Rattle.lyrics.proofs.Items.{lyric_kind}
+use Rattle.scan_table.specs.Rows.{items_from, item_row_width, dec_item, item_as, item_in, items_in}
 use Rattle.lyrics.specs.declared.Sheet.{Sheet}
-use Rattle.lyrics.specs.Items.{is_line, line_in, lines_in, rows_of, Fits}
+use Rattle.lyrics.specs.Items.{is_lyric, is_line, line_in, lines_in, rows_of, Fits}
 use Rattle.part_rows.specs.Encoded.{note_row_width, pitch_row_width, scope_row_width}
 use Rattle.part_registers.specs.declared.Tables.{Tables}
 use Rattle.part_sizing.specs.declared.Made.{Made}
@@ -101,18 +104,18 @@ music_covered [] = omega arith
 music_covered (c ∷ l) = omega (arith, music_covered l, byte_covered c, count_cons is_bar c l, count_cons is_letter c l, count_cons is_rest c l, count_cons is_sign c l)
 
 -- LYRICS: the rows that the lyric lines of a part can need
-lyric_kind : (k : ℕ) (text : List ℕ) (r : Row) → k ≡ lyric_line_kind → lyric_bytes (item_as k text r) ≡ length (between text r.at r.end)
+lyric_length : (k : Kind) (text : List ℕ) (r : Row) → k ≡ K.LyricLine → lyric_bytes (item_as k text r) ≡ length (between text r.at r.end)
 unfolding item_as lyric_bytes
-lyric_kind k text r e = ap (λ (j : ℕ). lyric_bytes (item_as j text r)) e
+lyric_length k text r e = ap (λ (j : Kind). lyric_bytes (item_as j text r)) e
 
 lines_rows : (text : List ℕ) (p : ℕ) (rs : List Row) → rows_of (map (line_in text) (filter (is_line p) rs)) ≤ sum lyric_bytes (items_of p (map (item_in text) rs))
 unfolding rows_of line_in is_line item_in
 lines_rows text p [] = omega arith
 lines_rows text p (r ∷ rs) =
-    by_test (eqb r.kind lyric_line_kind && eqb r.part p)
+    by_test (is_lyric r.kind && eqb r.part p)
     (λ e.
-    let k = eqb-true r.kind lyric_line_kind (and_left (eqb r.kind lyric_line_kind) (eqb r.part p) e) in
-    rw (e, and_right (eqb r.kind lyric_line_kind) (eqb r.part p) e) (omega (arith, lines_rows text p rs, lyric_kind r.kind text r k)))
+    let k = lyric_kind r.kind (and_left (is_lyric r.kind) (eqb r.part p) e) in
+    rw (e, and_right (is_lyric r.kind) (eqb r.part p) e) (omega (arith, lines_rows text p rs, lyric_length r.kind text r k)))
     (λ e. rw e
     (by_test (eqb r.part p) (λ f. rw f (omega (arith, lines_rows text p rs))) (λ f. rw f (lines_rows text p rs))))
 
@@ -122,14 +125,14 @@ rows_most text s p n = lines_rows text p (rows dec_item item_row_width s items_f
 
 -- A PART
 module _ (text s : List ℕ) (n p : ℕ) (room : PartRoom text s n p) where
-  abbrev made : Made
+  abbrev made : Made ℕ
   made = made_of (music_at text s n p)
 
   -- the tables end early enough
-  pub tables_end : (m : Made) → m ≡ made → (tables_at n m).end < 2 ^ 32
+  pub tables_end : (m : Made ℕ) → m ≡ made → (tables_at n m).end < 2 ^ 32
   tables_end m e = rw e (omega (arith, room.small, bytes_in (items_of p (items_in text s n)), music_covered (music_at text s n p)))
 
-  pub tables_fit : (m : Made) (t : Tables) → m ≡ made → t ≡ tables_at n m → Sized text s n p t
+  pub tables_fit : (m : Made ℕ) (t : Tables) → m ≡ made → t ≡ tables_at n m → Sized text s n p t
   tables_fit m t e f =
       rw (f ∙ ap (tables_at n) e)
       (let b = bytes_in (items_of p (items_in text s n)) in

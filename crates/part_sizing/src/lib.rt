@@ -2,106 +2,80 @@
 #![tactic(auto)]
 
 ghost use Rattle.std.specs.Prelude.{◌≡◌, [], ◌∷◌, ◌+◌, ◌*◌, ◌^◌, ◌≤◌, ◌<◌, length};
-ghost use Rattle.laws.specs.Bytes.{between};
 ghost use Rattle.reader.specs.Steps.{items_of};
 ghost use Rattle.capacity.specs.Sizes.{is_bar, is_rest, is_sign};
 ghost use Rattle.capacity.specs.Music.{music_of};
 ghost use Rattle.scan_table.specs.Rows.{item_at, item_in, items_in, table_end};
-ghost use Rattle.part_sizing.specs.Counting.{made_of, more, both, as_made, Few, Under, Adds, tables_at};
+ghost use Rattle.part_sizing.specs.Counting.{made_of, more, both, Few, Under, Adds, tables_at};
 ghost use Rattle.part_sizing.specs.Room.{PartRoom, Sized};
 
 use part_registers::Tables;
+use scan_table::Kind;
 
 // How many bytes of music can open a measure, name a pitch, be a rest, be an accidental's sign.
 #[derive(Clone, Copy)]
-pub struct Made {
-    pub bars: usize,
-    pub letters: usize,
-    pub rests: usize,
-    pub signs: usize,
+pub struct Made<N> {
+    pub bars: N,
+    pub letters: N,
+    pub rests: N,
+    pub signs: N,
 }
+
+// The bytes that are counted in one go. Counts of one byte let a loop take many bytes at a time.
+const BLOCK: usize = 240;
 
 fn is_bar(c: u8) -> bool
     ensures { result ≡ is_bar c }
 {
-    if c == b'|' {
-        return true;
-    }
-    c == b':'
+    c == b'|' || c == b':'
 }
 
 fn is_rest(c: u8) -> bool
     ensures { result ≡ is_rest c }
 {
-    if c == b'z' {
-        return true;
-    }
-    if c == b'x' {
-        return true;
-    }
-    if c == b'Z' {
-        return true;
-    }
-    c == b'X'
+    c == b'z' || c == b'x' || c == b'Z' || c == b'X'
 }
 
 fn is_sign(c: u8) -> bool
     ensures { result ≡ is_sign c }
 {
-    if c == b'^' {
-        return true;
-    }
-    if c == b'_' {
-        return true;
-    }
-    c == b'='
-}
-
-// The same for at most 240 bytes. Counts of one byte let a loop take many bytes at a time.
-#[derive(Clone, Copy)]
-struct Block {
-    bars: u8,
-    letters: u8,
-    rests: u8,
-    signs: u8,
+    c == b'^' || c == b'_' || c == b'='
 }
 
 // One byte more.
-fn with_byte(m: Block, c: u8) -> Block
+fn with_byte(m: Made<u8>, c: u8) -> Made<u8>
     requires { Under 255 m }
-    ensures { as_made result ≡ more (as_made m) (c ∷ []) }
+    ensures { result ≡ more m (c ∷ []) }
 {
-    Block {
-        bars: m.bars + store::one_if(is_bar(c)),
-        letters: m.letters + store::one_if(token_pitches::is_letter(c)),
-        rests: m.rests + store::one_if(is_rest(c)),
-        signs: m.signs + store::one_if(is_sign(c)),
+    Made {
+        bars: m.bars + u8::from(is_bar(c)),
+        letters: m.letters + u8::from(token_pitches::is_letter(c)),
+        rests: m.rests + u8::from(is_rest(c)),
+        signs: m.signs + u8::from(is_sign(c)),
     }
 }
 
-// The bytes from `at` up to `end`.
-fn block_made(line: &[u8], at: usize, end: usize) -> Block
-    requires { (at ≤ end) × (end ≤ length line.now) × (end ≤ at + 240) }
-    ensures { as_made result ≡ made_of (between line.now at end) }
+// The bytes of a block.
+fn block_made(block: &[u8]) -> Made<u8>
+    requires { length block.now ≤ 240 }
+    ensures { result ≡ made_of block.now }
 {
-    let mut q = Block {
+    let mut q = Made {
         bars: 0,
         letters: 0,
         rests: 0,
         signs: 0,
     };
-    let mut i = at;
-    while i < end {
-        q = with_byte(q, line[i]);
-        i += 1;
+    for c in block {
+        q = with_byte(q, *c);
     }
     q
 }
 
 // A block more.
-fn with_block(m: Made, b: Block) -> Made
+fn with_block(m: Made<usize>, b: Made<u8>) -> Made<usize>
     requires { Adds m b }
-    ensures { result ≡ both m (as_made b) }
+    ensures { result ≡ both m b }
 {
     Made {
         bars: m.bars + b.bars as usize,
@@ -111,42 +85,27 @@ fn with_block(m: Made, b: Block) -> Made
     }
 }
 
-// Where the block at `at` ends, in a line that ends at `end`.
-fn block_end(at: usize, end: usize) -> usize
-    requires { at < end }
-    ensures { (at < result) × (result ≤ end) × (result ≤ at + 240) }
-{
-    if end - at <= 240 {
-        return end;
-    }
-    at + 240
-}
-
 // The bytes of a line more, block by block.
-fn with_line(line: &[u8], m: Made) -> Made
+fn with_line(line: &[u8], m: Made<usize>) -> Made<usize>
     requires { Few m (length line.now + 1) }
     ensures { result ≡ more m line.now }
 {
     let mut q = m;
-    let mut i: usize = 0;
-    while i < line.len() {
-        let end = block_end(i, line.len());
-        let b = block_made(line, i, end);
-        q = with_block(q, b);
-        i = end;
+    for block in line.chunks(BLOCK) {
+        q = with_block(q, block_made(block));
     }
     q
 }
 
 // Item i more, if it is a music line of the part.
-fn with_item(text: &[u8], scratch: &[u8], i: usize, part: u8, m: Made) -> Made
+fn with_item(text: &[u8], scratch: &[u8], i: usize, part: u8, m: Made<usize>) -> Made<usize>
     requires { (table_end (i + 1) ≤ length scratch.now) × Few m (length text.now + 1) }
     ensures { result ≡ more m (music_of (items_of part (item_in text.now (item_at scratch.now i) ∷ []))) }
 {
     let item = scan_table::get_item(text, scratch, i);
-    if item.kind < scan_table::MUSIC_LINE {
+    let Kind::MusicLine = item.kind else {
         return m;
-    }
+    };
     if item.part != part {
         return m;
     }
@@ -156,7 +115,7 @@ fn with_item(text: &[u8], scratch: &[u8], i: usize, part: u8, m: Made) -> Made
 }
 
 // The music of a part, which is among the first n items.
-fn made_by(text: &[u8], scratch: &[u8], n: usize, part: u8) -> Made
+fn made_by(text: &[u8], scratch: &[u8], n: usize, part: u8) -> Made<usize>
     requires { PartRoom text.now scratch.now n part }
     ensures { result ≡ made_of (music_of (items_of part (items_in text.now scratch.now n))) }
 {
@@ -166,16 +125,14 @@ fn made_by(text: &[u8], scratch: &[u8], n: usize, part: u8) -> Made
         rests: 0,
         signs: 0,
     };
-    let mut i: usize = 0;
-    while i < n {
+    for i in 0..n {
         q = with_item(text, scratch, i, part, q);
-        i += 1;
     }
     q
 }
 
 // The tables behind n items, one behind the other: measures, notes, pitches, accidentals in force.
-fn tables_at(n: usize, m: Made) -> Tables
+fn tables_at(n: usize, m: Made<usize>) -> Tables
     requires { (tables_at n m).end < 2 ^ 32 }
     ensures { result ≡ tables_at n m }
 {

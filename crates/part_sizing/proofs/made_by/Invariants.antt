@@ -1,5 +1,4 @@
 -- `part_sizing::made_by` meets its contract. The invariant: with the items to come it is what the part's music makes.
-use Prim.Native.Nat.{◌-◌, ◌≤◌}
 use mathlib.Core.Path.{◌≡◌}
 use lib.ListN.{drop}
 use Rattle.reader.specs.Steps.{items_of}
@@ -9,7 +8,4 @@ use Rattle.part_sizing.specs.Counting.{made_of, more}
 use Rattle.part_sizing.proofs.made_by.Given as goal
 
 abbrev pub invariant-loop-i : goal.invariant-loop-i
-invariant-loop-i l = (l.i ≤ l.n) × (more l.q (music_of (items_of l.part (drop l.i (items_in l.text l.scratch l.n)))) ≡ made_of (music_of (items_of l.part (items_in l.text l.scratch l.n))))
-
-abbrev pub decreases-loop-i : goal.decreases-loop-i
-decreases-loop-i l = l.n - l.i
+invariant-loop-i l = more l.q (music_of (items_of l.part (drop l.i (items_in l.text l.scratch l.n)))) ≡ made_of (music_of (items_of l.part (items_in l.text l.scratch l.n)))

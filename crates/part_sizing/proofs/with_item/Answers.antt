@@ -2,10 +2,10 @@
 use Rattle.part_sizing.proofs.Counting.{other_kind, other_part, line_counted}
 use Rattle.part_sizing.proofs.with_item.Goals as goal
 
-pub returns-then-item-lt-MUSIC_LINE : goal.returns-then-item-lt-MUSIC_LINE
-returns-then-item-lt-MUSIC_LINE c =
+pub returns-in_default : goal.returns-in_default
+returns-in_default c =
     let a = c.args in
-    other_kind a.text.now _ _ a.part a.m c.get_item-item.ensures c.if-item-lt-MUSIC_LINE.true
+    other_kind a.text.now _ _ a.part a.m c.get_item-item.ensures c.in_default.not-MusicLine
 
 pub returns-then-item-part : goal.returns-then-item-part
 returns-then-item-part c =
@@ -15,4 +15,4 @@ returns-then-item-part c =
 pub returns : goal.returns
 returns c =
     let a = c.args in
-    line_counted a.text.now _ _ a.part a.m c.get_item-item.ensures c.if-item-lt-MUSIC_LINE.false c.if-item-part.false _ c.with_line.ensures
+    line_counted a.text.now _ _ a.part a.m c.get_item-item.ensures c.in-MusicLine.is c.if-item-part.false _ c.with_line.ensures

@@ -1,13 +1,12 @@
--- `part_sizing::with_line` meets its contract. The invariant: with the bytes to come it is what the whole line makes.
-use Prim.Native.Nat.{◌-◌, ◌≤◌}
+-- `part_sizing::with_line` meets its contract. The invariant: with the blocks to come it is what the whole line makes.
 use mathlib.Core.Path.{◌≡◌}
-use lib.ListN.{length}
-use Rattle.laws.specs.Bytes.{between}
+use Rattle.std.specs.Slice.Iter.{chunks_rest, chunks_size}
 use Rattle.part_sizing.specs.Counting.{more}
 use Rattle.part_sizing.proofs.with_line.Given as goal
 
-abbrev pub invariant-loop-i : goal.invariant-loop-i
-invariant-loop-i l = (l.i ≤ length l.line) × (more l.q (between l.line l.i (length l.line)) ≡ more l.initial.q l.line)
-
-abbrev pub decreases-loop-i : goal.decreases-loop-i
-decreases-loop-i l = length l.line - l.i
+abbrev pub invariant-loop-block : goal.invariant-loop-block
+invariant-loop-block l =
+    goal.iterator-loop-block.can_next l.block-iterator
+    × goal.iterator-loop-block.is_finite l.block-iterator
+    × (chunks_size l.block-iterator ≡ 240)
+    × (more l.q (chunks_rest l.block-iterator) ≡ more l.initial.q l.line)
