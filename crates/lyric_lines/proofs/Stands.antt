@@ -5,18 +5,17 @@ use mathlib.Core.Option.{Option, none, some}
 use mathlib.Core.List.{List, [], ◌∷◌, ◌++◌}
 use native.Mathlib.Decide.{dec_lt}
 use native.Mathlib.Omega.{arith}
-use lib.Dec.{eqb}
 use lib.ListN.{length}
-use borrow.Author.Tests.{eqb-true, eqb-false, lt-ltb, le-ltb}
-use Rattle.laws.proofs.Bools.{by_test}
+use borrow.Author.Tests.{lt-ltb, le-ltb}
 use Rattle.standard.specs.Lyrics.{Syllabic, Word, skip, hold, bar, syllable, SungBar, last_or, placed}
 use Rattle.reader.specs.Lyrics.{Syllable, held_at, sung_at, sing_on, sing_bars, bar_of, sung_word, sung_each}
 use Rattle.lyrics.proofs.Sheets.{alter_past}
+use Rattle.lyric_stops.specs.declared.Kind.{Kind}
 use Rattle.lyric_stops.specs.declared.Stop.{Stop}
-use Rattle.lyric_stops.specs.Stops.{passed_kind, first_kind, kind_at, Left, left_from, back_of, note_at, Hints}
+use Rattle.lyric_stops.specs.Stops.{kind_at, Left, left_from, back_of, note_at, Hints}
 use Rattle.lyric_stops.specs.Walks.{TakerFrom, FirstFrom, BackFrom}
 use Rattle.lyric_stops.proofs.Left.{with_first, with_later, left_here, left_over, left_passed, left_moved, left_last, back_taker}
-use Rattle.lyric_stops.proofs.Walks.{kind_over}
+use Rattle.lyric_stops.proofs.Walks.{by_first, apart, kind_over}
 use Rattle.lyric_lines.specs.Stands.{Stand, On, Taken, Over, before_of, left_of, Reached, sing_from, next_in, next_at, taken_at, NextNote, Begun, Moved}
 
 -- no note is left: words do nothing
@@ -91,7 +90,7 @@ module _ (v : ℕ) (ws : List Word) where
           put_taken c t notes many ∙ ap (after_put c t notes) (sym (n.next hints)) ∙ sym (put_next c t (before_of st) (left_of xs st).0 (left_of xs st).1 notes)
 
 -- the note takes a syllable
-pub taken_reached : (xs : List Stop) (n j : ℕ) → (kind_at xs j ≡ passed_kind → ⊥) → Reached xs (taken_at n j)
+pub taken_reached : (xs : List Stop) (n j : ℕ) → (kind_at xs j ≡ Kind.Passed → ⊥) → Reached xs (taken_at n j)
 unfolding taken_at
 taken_reached xs n j k = go (dec_lt j n)
   where
@@ -101,13 +100,13 @@ taken_reached xs n j k = go (dec_lt j n)
 
 module _ (xs : List Stop) where
   -- A NOTE THAT TAKES A SYLLABLE
-  module _ (j : ℕ) (h : j < length xs) (n : kind_at xs j ≡ passed_kind → ⊥) where
+  module _ (j : ℕ) (h : j < length xs) (n : kind_at xs j ≡ Kind.Passed → ⊥) where
     -- what is left from it on
     taker_left : (P : Left → Type 0) → P ([], (j, (left_from xs (j + 1)).0) ∷ (left_from xs (j + 1)).1) → P (j ∷ (left_from xs (j + 1)).0, (left_from xs (j + 1)).1) → P (left_from xs j)
     taker_left P first later =
-        by_test (eqb (kind_at xs j) first_kind)
-        (λ e. rw (left_here xs j h ∙ with_first j (left_from xs (j + 1)) (kind_at xs j) (eqb-true (kind_at xs j) first_kind e)) first)
-        (λ e. rw (left_here xs j h ∙ with_later j (left_from xs (j + 1)) (kind_at xs j) n (eqb-false (kind_at xs j) first_kind e)) later)
+        by_first (kind_at xs j)
+        (λ e. rw (left_here xs j h ∙ with_first j (left_from xs (j + 1)) (kind_at xs j) e) first)
+        (λ e. rw (left_here xs j h ∙ with_later j (left_from xs (j + 1)) (kind_at xs j) n e) later)
 
     next_taker : next_in (left_from xs j).0 (left_from xs j).1 ≡ some (j, left_from xs (j + 1))
     unfolding next_in
@@ -167,13 +166,13 @@ module _ (xs : List Stop) where
     there : note + 1 + far ≡ r
     there = omega (arith, w.low)
 
-    passed : Hints xs → (k : ℕ) → note + 1 ≤ k → k < note + 1 + far → kind_at xs k ≡ first_kind → ⊥
+    passed : Hints xs → (k : ℕ) → note + 1 ≤ k → k < note + 1 + far → kind_at xs k ≡ Kind.First → ⊥
     passed hints k l m = w.passed hints k l (omega (arith, there))
 
     bars_behind : Hints xs → (left_from xs (note + 1)).1 ≡ (left_from xs r).1
     bars_behind hints = left_moved xs (note + 1) far (passed hints) ∙ ap (λ (k : ℕ). (left_from xs k).1) there
 
-    last_before : Hints xs → (kind_at xs note ≡ passed_kind → ⊥) → last_or (some note) (left_from xs (note + 1)).0 ≡ note_at (back_of xs r)
+    last_before : Hints xs → (kind_at xs note ≡ Kind.Passed → ⊥) → last_or (some note) (left_from xs (note + 1)).0 ≡ note_at (back_of xs r)
     unfolding note_at
     last_before hints n =
         ap (λ (p : ℕ). last_or (note_at p) (left_from xs (note + 1)).0) (sym (back_taker xs note n))
@@ -184,7 +183,7 @@ module _ (xs : List Stop) where
     unfolding before_of left_of placed sung_each sung_word
     moved_to place h b =
         record {
-          reached = λ e. absurd (omega (arith, e, w.here));
+          reached = λ e. apart (kind_at xs r) e w.here;
           sung = λ hints n v ws notes.
               let l = left_from xs (r + 1) in
               let bars : (left_from xs (note + 1)).1 ≡ (r, l.0) ∷ l.1 =

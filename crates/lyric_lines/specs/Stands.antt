@@ -3,9 +3,10 @@ use Rattle.std.specs.Prelude.{ℕ, ◌+◌, ◌≡◌, cond, List, [], ◌∷◌
 use Rattle.std.proofs.Math.Option.{Option, none, some}
 use Rattle.standard.specs.Lyrics.{Word, bar, SungBar}
 use Rattle.reader.specs.Lyrics.{Syllable, sing_on, sing_bars, bar_of}
+use Rattle.lyric_stops.specs.declared.Kind.{Kind}
 use Rattle.lyric_stops.specs.declared.Stop.{Stop}
 use Rattle.lyric_stops.specs.declared.Stops.{Stops}
-use Rattle.lyric_stops.specs.Stops.{passed_kind, kind_at, Left, left_from, note_at, Hints, stops_in}
+use Rattle.lyric_stops.specs.Stops.{kind_at, Left, left_from, note_at, Hints, stops_in}
 use Rattle.lyrics.specs.declared.Sheet.{Sheet}
 use Rattle.lyrics.specs.Sheet.{stops_from}
 
@@ -37,8 +38,8 @@ left_of xs Over = ([], [])
 
 -- the note last reached takes a syllable
 abbrev pub Reached : List Stop → Stand → Type 0
-Reached xs (On note place) = kind_at xs note ≡ passed_kind → ⊥
-Reached xs (Taken note) = kind_at xs note ≡ passed_kind → ⊥
+Reached xs (On note place) = kind_at xs note ≡ Kind.Passed → ⊥
+Reached xs (Taken note) = kind_at xs note ≡ Kind.Passed → ⊥
 Reached xs Over = Unit {0}
 
 -- words from there on
@@ -62,7 +63,7 @@ taken_at n j = cond (ltb j n) (Taken j) Over
 -- j is the next note, or there is none
 pub record NextNote (xs : List Stop) (st : Stand) (j : ℕ) : Type 0 where
   pub next : Hints xs → next_in (left_of xs st).0 (left_of xs st).1 ≡ next_at xs j
-  pub here : Reached xs st → kind_at xs j ≡ passed_kind → ⊥
+  pub here : Reached xs st → kind_at xs j ≡ Kind.Passed → ⊥
 
 -- A LINE BEGINS at note `start` or behind it
 pub record Begun (xs : List Stop) (start : ℕ) (st : Stand) : Type 0 where

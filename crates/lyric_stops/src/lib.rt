@@ -3,9 +3,9 @@
 // hint: it passes over nothing that is looked for, and may fall short. Nothing else knows a stop's bytes.
 #![tactic(auto)]
 
-ghost use Rattle.std.specs.Prelude.{◌≡◌, ◌+◌, ◌-◌, ◌*◌, ◌≤◌, ◌<◌, max, min, get_or};
+ghost use Rattle.std.specs.Prelude.{◌≡◌, ◌+◌, ◌-◌, ◌*◌, ◌≤◌, ◌<◌, min, get_or};
 ghost use Rattle.laws.specs.Bytes.{splice};
-ghost use Rattle.lyric_stops.specs.Stops.{lyric_stop_width, farthest, stop_bytes, Inside, stops_in, no_stop, passed_place};
+ghost use Rattle.lyric_stops.specs.Stops.{lyric_stop_width, farthest, bits_of, kind_of, stop_bytes, Inside, stops_in, no_stop, passed_place};
 ghost use Rattle.lyric_stops.specs.Walks.{TakerFrom, FirstFrom, BackFrom};
 
 // The bytes of a stop, and where the last of them stands.
@@ -13,55 +13,64 @@ pub const STOP: usize = 3;
 
 const TOP: usize = 2;
 
-// Kinds: no syllable; one, and a note of the measure before it takes one too; the first of its measure that takes one.
-pub const PASSED: u8 = 0;
+// A note takes no syllable; takes one, as a note of its measure before it does; is the first of its measure that takes one.
+#[derive(Clone, Copy, Debug, PartialEq, Eq)]
+pub enum Kind {
+    Passed,
+    Later,
+    First,
+}
 
-pub const LATER: u8 = 1;
+// The two bits of a kind.
+impl From<Kind> for u8 {
+    ghost from_gives = { λ kind bits. bits ≡ bits_of kind };
 
-pub const FIRST: u8 = 2;
+    fn from(kind: Kind) -> u8 {
+        match kind {
+            Kind::Passed => 0,
+            Kind::Later => 1,
+            Kind::First => 2,
+        }
+    }
+}
+
+// The kind of two bits: 3, which none has, is read as a later note's.
+impl From<u8> for Kind {
+    ghost from_gives = { λ bits kind. kind ≡ kind_of bits };
+
+    fn from(bits: u8) -> Kind {
+        match bits {
+            0 => Kind::Passed,
+            2 => Kind::First,
+            _ => Kind::Later,
+        }
+    }
+}
 
 // The greatest distance.
 const FARTHEST: usize = 4194303;
 
 // Where a part's stops stand, and how many there are.
-#[derive(Clone, Copy)]
+#[derive(Clone, Copy, Debug, PartialEq, Eq)]
 pub struct Stops {
     pub at: usize,
     pub count: usize,
 }
 
-#[derive(Clone, Copy)]
+#[derive(Clone, Copy, Debug, PartialEq, Eq)]
 pub struct Stop {
-    pub kind: u8,
+    pub kind: Kind,
     pub distance: usize,
-}
-
-// A distance is 1 at least,
-fn at_least_one(distance: usize) -> usize
-    ensures { result ≡ max 1 distance }
-{
-    if distance < 1 { 1 } else { distance }
-}
-
-// and FARTHEST at most.
-fn at_most_farthest(distance: usize) -> usize
-    ensures { result ≡ min distance farthest }
-{
-    if distance < FARTHEST {
-        distance
-    } else {
-        FARTHEST
-    }
 }
 
 // Stop j. Behind the last one a first note stands, at which every walk ends.
 pub fn get_stop(scratch: &[u8], stops: Stops, j: usize) -> Stop
     requires { Inside scratch.now stops }
-    ensures { (result ≡ get_or (stops_in scratch.now stops) j no_stop) × (1 ≤ result.distance) × (result.distance ≤ farthest) × (result.kind < 4) }
+    ensures { (result ≡ get_or (stops_in scratch.now stops) j no_stop) × (1 ≤ result.distance) × (result.distance ≤ farthest) }
 {
     if stops.count <= j {
         return Stop {
-            kind: FIRST,
+            kind: Kind::First,
             distance: 1,
         };
     }
@@ -69,20 +78,24 @@ pub fn get_stop(scratch: &[u8], stops: Stops, j: usize) -> Stop
     let low = store::get_u16(scratch, place);
     let top = scratch[place + TOP];
     Stop {
-        kind: top / 64,
-        distance: at_least_one(low as usize + (top % 64) as usize * 65536),
+        kind: Kind::from(top / 64),
+        distance: (low as usize + (top % 64) as usize * 65536).max(1),
     }
 }
 
 // Writes stop j.
-pub fn put_stop(scratch: &mut [u8], stops: Stops, j: usize, kind: u8, distance: usize)
-    requires { (Inside scratch.old stops) × (j < stops.count) × (kind < 4) }
+pub fn put_stop(scratch: &mut [u8], stops: Stops, j: usize, kind: Kind, distance: usize)
+    requires { (Inside scratch.old stops) × (j < stops.count) }
     ensures { scratch.new ≡ splice scratch.old (stops.at + lyric_stop_width * j) (stop_bytes kind (min distance farthest)) }
 {
     let place = stops.at + STOP * j;
-    let near = at_most_farthest(distance);
+    let near = distance.min(FARTHEST);
     store::put_u16(scratch, place, (near % 65536) as u16);
-    store::put_u8(scratch, place + TOP, kind * 64 + (near / 65536) as u8);
+    store::put_u8(
+        scratch,
+        place + TOP,
+        u8::from(kind) * 64 + (near / 65536) as u8,
+    );
 }
 
 // The first note from `from` on that takes a syllable; at the last note's number or beyond there is none.
@@ -92,7 +105,7 @@ pub fn seek_taker(scratch: &[u8], stops: Stops, from: usize) -> usize
 {
     let mut j = from;
     let mut x = get_stop(scratch, stops, j);
-    while x.kind == PASSED {
+    while x.kind == Kind::Passed {
         j += x.distance;
         x = get_stop(scratch, stops, j);
     }
@@ -106,7 +119,7 @@ pub fn seek_first(scratch: &[u8], stops: Stops, from: usize) -> usize
 {
     let mut j = from;
     let mut x = get_stop(scratch, stops, j);
-    while x.kind != FIRST {
+    while x.kind != Kind::First {
         j += x.distance;
         x = get_stop(scratch, stops, j);
     }
@@ -118,11 +131,7 @@ fn is_passed(scratch: &[u8], stops: Stops, place: usize) -> bool
     requires { Inside scratch.now stops }
     ensures { result ≡ passed_place (stops_in scratch.now stops) place }
 {
-    if place == 0 {
-        return false;
-    }
-    let x = get_stop(scratch, stops, place - 1);
-    x.kind == PASSED
+    place != 0 && get_stop(scratch, stops, place - 1).kind == Kind::Passed
 }
 
 // The place that is `distance` before note h, from 1: 0 where there are fewer notes.
@@ -130,10 +139,7 @@ fn place_before(h: usize, distance: usize) -> usize
     requires { (h < 18446744073709551615) × (1 ≤ distance) }
     ensures { result ≡ h + 1 - distance }
 {
-    if h < distance {
-        return 0;
-    }
-    h - distance + 1
+    if h < distance { 0 } else { h - distance + 1 }
 }
 
 // The note before h that takes a syllable, by its place from 1, 0 if there is none; h is the first of its measure.

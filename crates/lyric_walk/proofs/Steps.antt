@@ -3,12 +3,7 @@ use Prim.Native.Nat.{ℕ, zero, suc, ◌+◌, ◌≤◌, ◌<◌, min, max}
 use mathlib.Core.Path.{◌≡◌, refl, sym, ap, subst, ◌∙◌}
 use mathlib.Core.Bool.{Bool, true, false, cond}
 use mathlib.Core.List.{List, [], ◌∷◌}
-use native.Mathlib.Decide.{dec_lt}
 use native.Mathlib.Omega.{arith}
-use Rattle.std.specs.declared.cmp.Ordering.{Ordering}
-use Rattle.std.specs.declared.cmp.Ordering.TheVariants.{Less, Equal, Greater}
-use Rattle.std.specs.Ordering.{ord_max, nat_cmp, is_lt}
-use Rattle.std.specs.Cmp.{nat_cmp_is}
 use lib.Dec.{eqb}
 use lib.ListN.{get_or, set, replicate, length-set, length-replicate}
 use lib.Seq.{get_or-set_same, get_or-set_other}
@@ -24,21 +19,6 @@ use Rattle.lyric_walk.specs.declared.Link.{Link}
 use Rattle.lyric_walk.specs.Walks.{chain, row_of_link, LinkIs, of_verse, syllable_is, found_of, found_at, first_place, held_since, window, Wide, Clear, TakesRow, InSpan, Gathered}
 use Rattle.lyric_walk.proofs.Chains.{chain_none, row_all}
 use Rattle.lyric_walk.proofs.Verses.{by_syllabic, rising_chain, held_by, of_other, of_hold, of_found}
-
--- the library's greater of two numbers
-pub greater_is : (a b r : ℕ) → r ≡ ord_max nat_cmp a b → r ≡ max a b
-greater_is a b r e = e ∙ go (dec_lt b a) (dec_lt a b)
-  where
-    by_answer : (o : Ordering) → o ≡ nat_cmp b a → ord_max nat_cmp a b ≡ cond (is_lt o) a b
-    by_answer o f = ap (λ (x : Ordering). cond (is_lt x) a b) (sym f)
-
-    go : Dec (b < a) → Dec (a < b) → ord_max nat_cmp a b ≡ max a b
-    go (yes h) l = let m : a ≡ max a b = omega arith in by_answer Less (nat_cmp_is b a Less h) ∙ m
-    go (no h) (yes l) = let m : b ≡ max a b = omega arith in by_answer Greater (nat_cmp_is b a Greater l) ∙ m
-    go (no h) (no l) =
-        let same : b ≡ a = omega arith in
-        let m : b ≡ max a b = omega arith in
-        by_answer Equal (nat_cmp_is b a Equal same) ∙ m
 
 -- A VERSE: what the rows down to `place` say of it, the rest being ahead
 abbrev pub SoFar : List ℕ → List ℕ → ℕ → ℕ → ℕ → Bool → ℕ → List Syllable

@@ -7,4 +7,4 @@ use Rattle.lyric_stops.proofs.put_stop.Goals as goal
 
 pub returns : goal.returns
 unfolding stop_bytes little
-returns c = rw (← c.at_most_farthest-near.ensures) (spliced_next _ _ _ _ _ _ _ c.put_u16.ensures c.put_u8.ensures refl)
+returns c = rw (← c.min-near.ensures, ← c.from.ensures) (spliced_next _ _ _ _ _ _ _ c.put_u16.ensures c.put_u8.ensures refl)

@@ -1,11 +1,11 @@
 -- `lyric_stops::seek_first` meets its contract.
 use native.Mathlib.Omega.{arith}
 use Rattle.lyric_stops.specs.Stops.{stops_in}
-use Rattle.lyric_stops.proofs.Walks.{first_in, first_start, first_on, first_end}
+use Rattle.lyric_stops.proofs.Walks.{is_first_by, no_first_by, first_in, first_start, first_on, first_end}
 use Rattle.lyric_stops.proofs.seek_first.Goals as goal
 
-pub loop-x-init : goal.loop-x-init
-loop-x-init c =
+pub loop-stops-init : goal.loop-stops-init
+loop-stops-init c =
     let a = c.args in
     first_start (stops_in a.scratch.now a.stops) a.from _ c.get_stop-x.ensures
 
@@ -13,23 +13,23 @@ loop-x-init c =
 pub overflow_add-j : goal.overflow_add-j
 overflow_add-j c =
     let a = c.args in
-    let l = c.loop-x in
-    omega (arith, first_in a.scratch.now a.stops a.from l.j l.x l.invariant c.loop-x-test.true, l.invariant.at.near, c.requires)
+    let l = c.loop-stops in
+    omega (arith, first_in a.scratch.now a.stops a.from l.j l.x l.invariant (no_first_by _ _ c.ne.ensures c.loop-stops-test.true), l.invariant.at.near, c.requires)
 
-pub loop-x-smaller : goal.loop-x-smaller
-loop-x-smaller c =
+pub loop-stops-smaller : goal.loop-stops-smaller
+loop-stops-smaller c =
     let a = c.args in
-    let l = c.loop-x in
-    omega (arith, first_in a.scratch.now a.stops a.from l.j l.x l.invariant c.loop-x-test.true, l.invariant.at.one)
+    let l = c.loop-stops in
+    omega (arith, first_in a.scratch.now a.stops a.from l.j l.x l.invariant (no_first_by _ _ c.ne.ensures c.loop-stops-test.true), l.invariant.at.one)
 
-pub loop-x-preserved : goal.loop-x-preserved
-loop-x-preserved c =
+pub loop-stops-preserved : goal.loop-stops-preserved
+loop-stops-preserved c =
     let a = c.args in
-    let l = c.loop-x in
-    first_on (stops_in a.scratch.now a.stops) a.from l.j l.x l.invariant c.loop-x-test.true _ c.get_stop-x-in-loop-x.ensures
+    let l = c.loop-stops in
+    first_on (stops_in a.scratch.now a.stops) a.from l.j l.x l.invariant (no_first_by _ _ c.ne.ensures c.loop-stops-test.true) _ c.get_stop-x-in-loop-stops.ensures
 
 pub returns : goal.returns
 returns c =
     let a = c.args in
-    let l = c.loop-x in
-    first_end (stops_in a.scratch.now a.stops) a.from l.j l.x l.invariant c.loop-x-test.false
+    let l = c.loop-stops in
+    first_end (stops_in a.scratch.now a.stops) a.from l.j l.x l.invariant (is_first_by _ _ c.ne.ensures c.loop-stops-test.false)

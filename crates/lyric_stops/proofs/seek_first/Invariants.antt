@@ -4,8 +4,8 @@ use Rattle.lyric_stops.specs.Stops.{stops_in}
 use Rattle.lyric_stops.proofs.Walks.{ToFirst}
 use Rattle.lyric_stops.proofs.seek_first.Given as goal
 
-abbrev pub invariant-loop-x : goal.invariant-loop-x
-invariant-loop-x l = ToFirst (stops_in l.scratch l.stops) l.from l.j l.x
+abbrev pub invariant-loop-stops : goal.invariant-loop-stops
+invariant-loop-stops l = ToFirst (stops_in l.scratch l.stops) l.from l.j l.x
 
-abbrev pub decreases-loop-x : goal.decreases-loop-x
-decreases-loop-x l = l.stops.count - l.j
+abbrev pub decreases-loop-stops : goal.decreases-loop-stops
+decreases-loop-stops l = l.stops.count - l.j

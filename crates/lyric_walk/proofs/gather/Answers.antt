@@ -1,6 +1,9 @@
 -- `lyric_walk::gather` meets its contract: row after row.
+use Prim.Native.Nat.{max}
+use mathlib.Core.Path.{◌≡◌}
 use native.Mathlib.Omega.{arith}
-use Rattle.lyric_walk.proofs.Steps.{greater_is, gathering_start, gathering_next, gathering_end}
+use Rattle.std.proofs.lemmas.Grind.{common_steps}
+use Rattle.lyric_walk.proofs.Steps.{gathering_start, gathering_next, gathering_end}
 use Rattle.lyric_walk.proofs.gather.Goals as goal
 
 pub loop-place-init : goal.loop-place-init
@@ -21,7 +24,8 @@ pub loop-place-preserved : goal.loop-place-preserved
 loop-place-preserved c =
     let a = c.args in
     let l = c.loop-place in
-    rw (greater_is l.most c.get_link-row.result.verse _ c.max-most.ensures, c.min-least.ensures)
+    let greatest : c.max-most.result ≡ max l.most c.get_link-row.result.verse = grind (arith, common_steps) in
+    rw (greatest, c.min-least.ensures)
     (gathering_next a.scratch.now a.log a.k a.from l.places l.held l.least l.most l.place l.invariant (omega (arith, c.loop-place-test.true)) _ c.get_link-row.ensures (omega arith) _ _ c.take_row.ensures)
 
 pub returns : goal.returns
