@@ -22,6 +22,7 @@ pub fn get_u8(bytes: &[u8], at: usize) -> u8
 }
 
 // The number that two bytes from `at` on spell, the lowest first.
+#[tactic(auto, using(laws::proofs::Numbers::u16_sum))]
 pub fn get_u16(bytes: &[u8], at: usize) -> u16
     requires { at + 2 ≤ length bytes.now }
     ensures { result ≡ u16_at bytes.now at }
@@ -30,6 +31,7 @@ pub fn get_u16(bytes: &[u8], at: usize) -> u16
 }
 
 // The number that four bytes from `at` on spell, the lowest first.
+#[tactic(auto, using(laws::proofs::Numbers::u32_sum))]
 pub fn get_u32(bytes: &[u8], at: usize) -> u32
     requires { at + 4 ≤ length bytes.now }
     ensures { result ≡ u32_at bytes.now at }
@@ -38,6 +40,7 @@ pub fn get_u32(bytes: &[u8], at: usize) -> u32
 }
 
 // Writes one byte at `at`.
+#[tactic(auto, using(laws::proofs::Splices::set_splice))]
 pub fn put_u8(store: &mut [u8], at: usize, b: u8)
     requires { at + 1 ≤ length store.old }
     ensures { store.new ≡ splice store.old at (b ∷ []) }
@@ -46,6 +49,7 @@ pub fn put_u8(store: &mut [u8], at: usize, b: u8)
 }
 
 // Writes four bytes from `at` on.
+#[tactic(auto, using(laws::proofs::Splices::set_splice, laws::proofs::Splices::splice_snoc))]
 pub fn put_4(store: &mut [u8], at: usize, a: u8, b: u8, c: u8, d: u8)
     requires { at + 4 ≤ length store.old }
     ensures { store.new ≡ splice store.old at (a ∷ b ∷ c ∷ d ∷ []) }
@@ -67,6 +71,7 @@ pub fn put_u16(store: &mut [u8], at: usize, v: u16)
 }
 
 // Writes v as four bytes from `at` on, the lowest first.
+#[tactic(auto, using(laws::proofs::Numbers::le32_bytes))]
 pub fn put_u32(store: &mut [u8], at: usize, v: u32)
     requires { at + 4 ≤ length store.old }
     ensures { store.new ≡ splice store.old at (le32 v) }
@@ -78,6 +83,7 @@ pub fn put_u32(store: &mut [u8], at: usize, v: u32)
 // CLEARING
 
 // Zeros from `from` up to `to`.
+#[tactic(auto, using(laws::proofs::Splices::lent_whole), unfolding(laws::specs::Bytes::zeros))]
 pub fn clear_between(store: &mut [u8], from: usize, to: usize)
     requires { (from ≤ to) × (to ≤ length store.old) }
     ensures { store.new ≡ splice store.old from (zeros (to - from)) }
@@ -97,6 +103,7 @@ pub fn clear(store: &mut [u8], from: usize)
 // COPYING
 
 // Copies n bytes of src from `from` on into dst from `at` on.
+#[tactic(auto, using(laws::proofs::Splices::lent_whole), unfolding(laws::specs::Bytes::part))]
 pub fn copy(src: &[u8], from: usize, dst: &mut [u8], at: usize, n: usize)
     requires source { from + n ≤ length src.now }
     requires target { at + n ≤ length dst.old }
