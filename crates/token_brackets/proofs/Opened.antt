@@ -1,6 +1,6 @@
 -- The tests of a `[` in turn, by position.
 use Prim.Native.Nat.{ℕ, ◌+◌, ◌-◌, ◌<◌}
-use mathlib.Core.Path.{◌≡◌, ap, ◌∙◌}
+use mathlib.Core.Path.{◌≡◌, sym, ap, ◌∙◌}
 use mathlib.Core.Bool.{true, false, not}
 use mathlib.Core.List.{List}
 use native.Mathlib.Omega.{arith}
@@ -21,12 +21,21 @@ use Rattle.reader.specs.Inline.{field_token, is_inline, inline_at}
 use Rattle.reader.specs.Sounds.{chord_at}
 use Rattle.reader.specs.Tokens.{bracket_of, bracket, token_as}
 use Rattle.field_values.specs.Values as fields
-use Rattle.field_values.specs.declared.Field.{Field}
+use Rattle.std.specs.Prelude.{Err}
+use Rattle.refusals.specs.declared.Refusal.{Refusal}
+use Rattle.token_suffixes.specs.declared.Fraction.{Fraction}
+use Rattle.token_lexemes.specs.declared.Token as code
+use Rattle.token_lexemes.specs.declared.Token.TheVariants as code-token
+use Rattle.token_lexemes.proofs.Refusals.{refusal_back}
 use Rattle.token_lexemes.specs.Lexemes.{lexeme_for, cut_for}
 
--- a field by its token
-pub field_cut : (at close : ℕ) → at < close → (f : Field) (t : Token) → fields.token_as f ≡ t → record { lexeme = lexeme_for at (fields.token_as f); next = close + 1 } ≡ cut_for at (taken t (close + 1 - at))
-field_cut at close h f t e = let n : close + 1 ≡ at + (close + 1 - at) = omega arith in λ j. record { lexeme = lexeme_for at (e j); next = n j }
+-- a field by its token, or its refusal
+pub field_cut : (at close : ℕ) → at < close → (x : code.Token Fraction) (t : Token) → x ≡ lexeme_for at t → record { value = x; next = close + 1 } ≡ cut_for at (taken t (close + 1 - at))
+field_cut at close h x t e = let n : close + 1 ≡ at + (close + 1 - at) = omega arith in λ j. record { value = e j; next = n j }
+
+pub refused_cut : (at : ℕ) (r : Refusal) → code-token.Refused r ≡ lexeme_for at (fields.token_as (Err r))
+unfolding lexeme_for
+refused_cut at r = ap code-token.Refused (sym (refusal_back r))
 
 module _ (ed : Edition) (line : List ℕ) (at : ℕ) where
   behind : drop 1 (drop at line) ≡ drop (at + 1) line

@@ -14,19 +14,19 @@ parse_abc_chord-requires c =
 
 pub returns-in_default : goal.returns-in_default
 returns-in_default c =
-    chord_refused c.args.edition c.args.line.now c.args.at c.args.close c.requires.0 c.requires.1 (sym c.parse_abc_chord.ensures ∙ c.in_default.is)
+    chord_refused c.args.edition c.args.line.now c.args.at c.args.close c.requires.0 c.requires.1 (λ x e. c.in_default.not-Ok x (c.parse_abc_chord.ensures ∙ e))
 
 pub returns-in_default-parse_duration_suffix : goal.returns-in_default-parse_duration_suffix
 returns-in_default-parse_duration_suffix c =
-    chord_many c.args.edition c.args.line.now c.args.at c.args.close c.requires.0 c.requires.1 c.in-Read.count c.in-Read.next (sym c.parse_abc_chord.ensures ∙ c.in-Read.is)
-    (sym c.parse_duration_suffix.ensures ∙ c.in_default-parse_duration_suffix.is)
+    chord_many c.args.edition c.args.line.now c.args.at c.args.close c.requires.0 c.requires.1 c.in-Ok.pitches.value c.in-Ok.pitches.next (sym c.parse_abc_chord.ensures ∙ c.in-Ok.is)
+    (λ x e. c.in_default-parse_duration_suffix.not-Ok x (c.parse_duration_suffix.ensures ∙ e))
 
 pub returns-then-count-eq0 : goal.returns-then-count-eq0
 returns-then-count-eq0 c =
-    chord_empty c.args.edition c.args.line.now c.args.at c.args.close c.requires.0 c.requires.1 c.in-Read.count c.in-Read.next c.in-Read-parse_duration_suffix.num c.in-Read-parse_duration_suffix.den c.in-Read-parse_duration_suffix.after_length
-    (sym c.parse_duration_suffix.ensures ∙ c.in-Read-parse_duration_suffix.is) (sym c.parse_abc_chord.ensures ∙ c.in-Read.is) c.if-count-eq0.true
+    chord_empty c.args.edition c.args.line.now c.args.at c.args.close c.requires.0 c.requires.1 c.in-Ok.pitches.value c.in-Ok.pitches.next _ _ _
+    (sym c.parse_duration_suffix.ensures ∙ c.in-Ok-parse_duration_suffix.is) (sym c.parse_abc_chord.ensures ∙ c.in-Ok.is) c.if-count-eq0.true
 
 pub returns : goal.returns
 returns c =
-    chord_full c.args.edition c.args.line.now c.args.at c.args.close c.requires.0 c.requires.1 c.in-Read.count c.in-Read.next c.in-Read-parse_duration_suffix.num c.in-Read-parse_duration_suffix.den c.in-Read-parse_duration_suffix.after_length
-    (sym c.parse_duration_suffix.ensures ∙ c.in-Read-parse_duration_suffix.is) c.if-count-eq0.false c.apply_abc_note_annotations-behind.result c.apply_abc_note_annotations-behind.ensures (sym c.parse_abc_chord.ensures ∙ c.in-Read.is)
+    chord_full c.args.edition c.args.line.now c.args.at c.args.close c.requires.0 c.requires.1 c.in-Ok.pitches.value c.in-Ok.pitches.next _ _ _
+    (sym c.parse_duration_suffix.ensures ∙ c.in-Ok-parse_duration_suffix.is) c.if-count-eq0.false c.apply_abc_note_annotations-behind.result c.apply_abc_note_annotations-behind.ensures (sym c.parse_abc_chord.ensures ∙ c.in-Ok.is)
