@@ -1,5 +1,6 @@
 -- `scan_fields::key_line` meets its contract.
 use mathlib.Core.Path.{sym, ◌∙◌}
+use Rattle.refusals.specs.declared.Refusal.{Refusal}
 use Rattle.scan_states.proofs.Items.{by_kind, refused_kind}
 use Rattle.scan_fields.proofs.FieldKinds.{high_key, refused_key, is_key}
 use Rattle.scan_fields.proofs.key_line.Goals as goal
@@ -7,16 +8,16 @@ use Rattle.scan_fields.proofs.key_line.Goals as goal
 pub returns-then-is_high : goal.returns-then-is_high
 returns-then-is_high c =
     let a = c.args in
-    rw c.refuse.ensures (refused_kind _ 6 _ (high_key _ a.text.now a.from a.end (sym c.is_high.ensures ∙ c.if-is_high.true)))
+    rw c.refuse.ensures (refused_kind _ Refusal.NotAscii _ (high_key _ a.text.now a.from a.end (sym c.is_high.ensures ∙ c.if-is_high.true)))
 
-pub returns-in-Reads : goal.returns-in-Reads
-returns-in-Reads c =
+pub returns-in-Ok : goal.returns-in-Ok
+returns-in-Ok c =
     let a = c.args in
-    let k = rw c.in-Reads.is at c.read_key.ensures in
+    let k = rw c.in-Ok.is at c.read_key.ensures in
     by_kind _ _ _ (is_key _ a.text.now a.from a.end (sym c.is_high.ensures ∙ c.if-is_high.false) _ k.0 k.1) (c.set_key.ensures a.text.now)
 
-pub returns-in-Refused : goal.returns-in-Refused
-returns-in-Refused c =
+pub returns-in-Err : goal.returns-in-Err
+returns-in-Err c =
     let a = c.args in
-    let k = rw c.in-Refused.is at c.read_key.ensures in
-    rw c.refuse-in-Refused.ensures (refused_kind _ _ _ (refused_key _ a.text.now a.from a.end (sym c.is_high.ensures ∙ c.if-is_high.false) _ k))
+    let k = rw c.in-Err.is at c.read_key.ensures in
+    rw c.refuse-in-Err.ensures (refused_kind _ _ _ (refused_key _ a.text.now a.from a.end (sym c.is_high.ensures ∙ c.if-is_high.false) _ k))

@@ -15,6 +15,6 @@ pub returns : goal.returns
 unfolding act item_in item_as
 returns c =
     λ text. record {
-      is = c.add_item.ensures.by_index text ∙ rw c.if-st.false refl;
-      follows = rw c.add_item.ensures.value (refl, (omega arith, (omega arith, omega arith)));
+      is = rw c.of.ensures at (c.add_item.ensures.items text) ∙ rw c.if-st.false refl;
+      follows = rw c.add_item.ensures.state (refl, (omega arith, (omega arith, omega arith)));
     }

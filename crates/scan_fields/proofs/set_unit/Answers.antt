@@ -5,12 +5,12 @@ use Rattle.reader.specs.Scan.{act, unit_on}
 use Rattle.scan_states.proofs.Items.{stays}
 use Rattle.scan_fields.proofs.set_unit.Goals as goal
 
-pub returns-in-Nothing : goal.returns-in-Nothing
+pub returns-in-None : goal.returns-in-None
 unfolding act unit_on
-returns-in-Nothing c =
-    λ text s. rw (c.next_line.ensures, c.in-Nothing.is) (record { is = stays _ _; follows = (refl, (omega arith, (omega arith, omega arith))) })
+returns-in-None c =
+    λ text s. rw (c.next_line-in-None.ensures, c.in-None.is) (record { is = stays _ _; follows = (refl, (omega arith, (omega arith, omega arith))) })
 
-pub returns-in-Unit : goal.returns-in-Unit
+pub returns-in-Some : goal.returns-in-Some
 unfolding act unit_on
-returns-in-Unit c =
-    λ text s. rw (c.next_line-in-Unit.ensures, c.in-Unit.is) (record { is = stays _ _; follows = (refl, (omega arith, (omega arith, omega arith))) })
+returns-in-Some c =
+    λ text s. rw (c.next_line.ensures, c.in-Some.is) (record { is = stays _ _; follows = (refl, (omega arith, (omega arith, omega arith))) })

@@ -1,4 +1,5 @@
 -- `scan_fields::unit_line` meets its contract.
+use Rattle.refusals.specs.declared.Refusal.{Refusal}
 use Rattle.scan_states.proofs.Items.{by_kind, refused_kind}
 use mathlib.Core.Path.{sym, ◌∙◌}
 use Rattle.scan_fields.proofs.FieldKinds.{high_unit, is_unit}
@@ -7,7 +8,7 @@ use Rattle.scan_fields.proofs.unit_line.Goals as goal
 pub returns-then-is_high : goal.returns-then-is_high
 returns-then-is_high c =
     let a = c.args in
-    λ ed s. rw c.refuse.ensures (refused_kind _ 6 _ (high_unit ed a.text.now a.from a.end (sym c.is_high.ensures ∙ c.if-is_high.true)))
+    λ ed s. rw c.refuse.ensures (refused_kind _ Refusal.NotAscii _ (high_unit ed a.text.now a.from a.end (sym c.is_high.ensures ∙ c.if-is_high.true)))
 
 pub returns : goal.returns
 returns c =

@@ -1,25 +1,26 @@
 -- `scan_fields::voice_line` meets its contract.
+use Rattle.refusals.specs.declared.Refusal.{Refusal}
 use Rattle.scan_states.proofs.Items.{by_kind, refused_kind}
 use mathlib.Core.Path.{sym, ◌∙◌}
 use Rattle.scan_fields.proofs.FieldKinds.{high_voice, no_voice, is_voice_lem}
-use borrow.Author.Rules.{rules}
+use native.Mathlib.Omega.{arith}
 use Rattle.scan_fields.proofs.voice_line.Goals as goal
 
 pub returns-then-is_high : goal.returns-then-is_high
 returns-then-is_high c =
     let a = c.args in
-    λ ed. rw c.refuse.ensures (refused_kind _ 6 _ (high_voice ed a.text.now a.from a.end (sym c.is_high.ensures ∙ c.if-is_high.true)))
+    λ ed. rw c.refuse.ensures (refused_kind _ Refusal.NotAscii _ (high_voice ed a.text.now a.from a.end (sym c.is_high.ensures ∙ c.if-is_high.true)))
 
-pub returns-then-b-a : goal.returns-then-b-a
-returns-then-b-a c =
+pub returns-then-id : goal.returns-then-id
+returns-then-id c =
     let a = c.args in
-    λ ed. rw c.refuse-then-b-a.ensures
-    (refused_kind _ 8 _
-    (no_voice ed a.text.now a.from a.end (sym c.is_high.ensures ∙ c.if-is_high.false) _ c.voice_identifier-id.ensures c.if-b-a.true))
+    λ ed. rw c.refuse-then-id.ensures
+    (refused_kind _ Refusal.NoVoiceId _
+    (no_voice ed a.text.now a.from a.end (sym c.is_high.ensures ∙ c.if-is_high.false) _ c.voice_identifier-id.ensures c.if-id.true))
 
 pub returns : goal.returns
 returns c =
     let a = c.args in
     λ ed. by_kind _ _ _
-    (is_voice_lem ed a.text.now a.from a.end (sym c.is_high.ensures ∙ c.if-is_high.false) _ c.voice_identifier-id.ensures _ (search rules) (search rules) c.has_middle-mid.ensures)
+    (is_voice_lem ed a.text.now a.from a.end (sym c.is_high.ensures ∙ c.if-is_high.false) _ c.voice_identifier-id.ensures c.requires.place.0 c.requires.place.1 _ (omega arith) c.has_middle.ensures)
     c.named_voice.ensures
