@@ -14,7 +14,8 @@ use Rattle.standard.specs.Lyrics.{SungBar}
 use Rattle.reader.specs.Lyrics.{bar_of, bars_from}
 use Rattle.reader.specs.Records.{is_sung, measure_width}
 use Rattle.lyric_stops.specs.declared.Stops.{Stops}
-use Rattle.lyric_stops.specs.Stops.{passed_kind, later_kind, first_kind, Inside, stops_in, kinds_of, with_note, left_by, Hints, StopsAre}
+use Rattle.lyric_stops.specs.declared.Kind.{Kind}
+use Rattle.lyric_stops.specs.Stops.{Inside, stops_in, kinds_of, with_note, left_by, Hints, StopsAre}
 use Rattle.lyric_stops.proofs.Left.{whole}
 use Rattle.part_layout.specs.Log.{Head, notes_in}
 use Rattle.part_layout.specs.Ends.{takers, sung_notes, takers_in}
@@ -65,12 +66,12 @@ module _ (s : List ℕ) (p : ℕ) (x : ℕ × Note) (xs : List (ℕ × Note)) (t
   grace_row = grace_is s p x row
 
 -- the rows of a measure, the first of which is x
-rows_as : (s : List ℕ) (b c : Bool) (p k : ℕ) (m : List ℕ) → (mark_at s b p ≡ m) × (begun_after s b p ≡ c) → (rest : List ℕ) → marks_in s b p (suc k) ++ rest ≡ m ++ (marks_in s c (p + note_row_width) k ++ rest)
+rows_as : (s : List ℕ) (b c : Bool) (p k : ℕ) (m : List Kind) → (mark_at s b p ≡ m) × (begun_after s b p ≡ c) → (rest : List Kind) → marks_in s b p (suc k) ++ rest ≡ m ++ (marks_in s c (p + note_row_width) k ++ rest)
 unfolding marks_in
 rows_as s b c p k m e rest = (λ i. e.0 i ++ marks_in s (e.1 i) (p + note_row_width) k ++ rest) ∙ append_assoc m (marks_in s c (p + note_row_width) k) rest
 
 -- ONE MEASURE: begun, the notes are of it; else it begins with the first that takes a syllable
-rows_left : (s : List ℕ) (p : ℕ) (xs : List (ℕ × Note)) → Table note_row note_row_width s p xs → (j : ℕ) (rest : List ℕ) (bs : List SungBar) → left_by (j + sung_notes xs) rest ≡ ([], bs)
+rows_left : (s : List ℕ) (p : ℕ) (xs : List (ℕ × Note)) → Table note_row note_row_width s p xs → (j : ℕ) (rest : List Kind) (bs : List SungBar) → left_by (j + sung_notes xs) rest ≡ ([], bs)
     → (left_by j (marks_in s true p (length xs) ++ rest) ≡ (takers j xs, bs)) × (left_by j (marks_in s false p (length xs) ++ rest) ≡ ([], bar_of (takers j xs) ++ bs))
 unfolding marks_in left_by with_note bar_of takers sung_notes
 rows_left s p [] t j rest bs e = let f : left_by j rest ≡ ([], bs) = ap (λ (k : ℕ). left_by k rest) (sym (add-zero j)) ∙ e in (f, f)
@@ -93,16 +94,16 @@ rows_left s p (x ∷ xs) t j rest bs e =
     (λ y g.
     let f = takers_grace x xs j y g in
     let r = ih (suc j) (next f.1) in
-    let m : (b : Bool) → (mark_at s b p ≡ passed_kind ∷ []) × (begun_after s b p ≡ b) = λ b. mark_grace s b p (sung ∙ y) (grace ∙ g) in (
-      ap (left_by j) (rows_as s true true p k (passed_kind ∷ []) (m true) rest) ∙ r.0 ∙ ap (λ (l : List ℕ). (l, bs)) (sym f.0),
-      ap (left_by j) (rows_as s false false p k (passed_kind ∷ []) (m false) rest) ∙ r.1 ∙ ap (λ (l : List ℕ). ([], bar_of l ++ bs)) (sym f.0),
+    let m : (b : Bool) → (mark_at s b p ≡ Kind.Passed ∷ []) × (begun_after s b p ≡ b) = λ b. mark_grace s b p (sung ∙ y) (grace ∙ g) in (
+      ap (left_by j) (rows_as s true true p k (Kind.Passed ∷ []) (m true) rest) ∙ r.0 ∙ ap (λ (l : List ℕ). (l, bs)) (sym f.0),
+      ap (left_by j) (rows_as s false false p k (Kind.Passed ∷ []) (m false) rest) ∙ r.1 ∙ ap (λ (l : List ℕ). ([], bar_of l ++ bs)) (sym f.0),
     ))
     (λ y g.
     let f = takers_other x xs j y g in
     let r = ih (suc j) (next f.1) in
-    let m : (b : Bool) → (mark_at s b p ≡ cond b later_kind first_kind ∷ []) × (begun_after s b p ≡ true) = λ b. mark_other s b p (sung ∙ y) (grace ∙ g) in (
-      ap (left_by j) (rows_as s true true p k (later_kind ∷ []) (m true) rest) ∙ ap (with_note later_kind j) r.0 ∙ ap (λ (l : List ℕ). (l, bs)) (sym f.0),
-      ap (left_by j) (rows_as s false true p k (first_kind ∷ []) (m false) rest) ∙ ap (with_note first_kind j) r.0 ∙ ap (λ (l : List ℕ). ([], bar_of l ++ bs)) (sym f.0),
+    let m : (b : Bool) → (mark_at s b p ≡ cond b Kind.Later Kind.First ∷ []) × (begun_after s b p ≡ true) = λ b. mark_other s b p (sung ∙ y) (grace ∙ g) in (
+      ap (left_by j) (rows_as s true true p k (Kind.Later ∷ []) (m true) rest) ∙ ap (with_note Kind.Later j) r.0 ∙ ap (λ (l : List ℕ). (l, bs)) (sym f.0),
+      ap (left_by j) (rows_as s false true p k (Kind.First ∷ []) (m false) rest) ∙ ap (with_note Kind.First j) r.0 ∙ ap (λ (l : List ℕ). ([], bar_of l ++ bs)) (sym f.0),
     ))
 
 -- a stop for each note that is sung

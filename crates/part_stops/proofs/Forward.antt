@@ -6,19 +6,18 @@ use mathlib.Core.List.{List, [], ◌∷◌, ◌++◌, append_assoc, append-nil}
 use native.Mathlib.Decide.{dec_lt}
 use native.Mathlib.Numerals.{add-one}
 use native.Mathlib.Omega.{arith}
-use lib.Dec.{eqb}
 use lib.ListN.{length, get_or, length-map, length-append, get_or-append, get_or-eq_default}
 use lib.Seq.{get_or_at}
-use borrow.Author.Tests.{eq-eqb, ne_eqb}
 use Rattle.laws.specs.Bytes.{splice}
 use Rattle.laws.proofs.Lists.{map_append}
 use Rattle.laws.proofs.Rows.{rows_none}
 use Rattle.reader.specs.Records.{measure_width}
 use Rattle.lyric_stops.specs.declared.Stop.{Stop}
 use Rattle.lyric_stops.specs.declared.Stops.{Stops}
-use Rattle.lyric_stops.specs.Stops.{lyric_stop_width, passed_kind, later_kind, first_kind, farthest, stop_bytes, stop_of, Inside, stops_in, no_stop, kind_at, kinds_of, passed_place, back_of}
+use Rattle.lyric_stops.specs.declared.Kind.{Kind}
+use Rattle.lyric_stops.specs.Stops.{lyric_stop_width, farthest, is_passed, stop_bytes, stop_of, Inside, stops_in, no_stop, kind_at, kinds_of, passed_place, back_of}
 use Rattle.lyric_stops.proofs.Table.{how_many, length_stop, written, stops_push}
-use Rattle.lyric_stops.proofs.Walks.{back_on, back_here, back_le, back_gap, back_agree}
+use Rattle.lyric_stops.proofs.Walks.{apart, not_passed, back_on, back_here, back_le, back_gap, back_agree}
 use Rattle.part_rows.specs.Encoded.{note_row_width}
 use Rattle.part_measures.specs.Heads.{note_count, total}
 use Rattle.part_measures.proofs.Counts.{total_step}
@@ -49,10 +48,10 @@ module _ (xs : List Stop) (x : Stop) where
   back_before = back_agree xs more (length xs) (λ k h. ap (λ (y : Stop). y.kind) (old k h))
 
   -- a distance back from it passes over no note that takes a syllable
-  over : OverBack xs → (x.kind ≡ first_kind → (k : ℕ) → length xs < k + x.distance → k < length xs → kind_at xs k ≡ passed_kind) → OverBack more
+  over : OverBack xs → (x.kind ≡ Kind.First → (k : ℕ) → length xs < k + x.distance → k < length xs → kind_at xs k ≡ Kind.Passed) → OverBack more
   over o n j k e h l = go (dec_lt j (length xs)) (dec_lt (length xs) j)
     where
-      go : Dec (j < length xs) → Dec (length xs < j) → kind_at more k ≡ passed_kind
+      go : Dec (j < length xs) → Dec (length xs < j) → kind_at more k ≡ Kind.Passed
       go (yes a) b =
           let same = old j a in
           ap (λ (y : Stop). y.kind) (old k (omega arith)) ∙ o j k (ap (λ (y : Stop). y.kind) (sym same) ∙ e) (omega (arith, ap (λ (y : Stop). y.distance) same)) l
@@ -63,29 +62,29 @@ module _ (xs : List Stop) (x : Stop) where
           ap (λ (y : Stop). y.kind) (old k (omega arith))
           ∙ n (ap (λ (y : Stop). y.kind) (sym here) ∙ e) k (omega (arith, ap (λ (y : Stop). y.distance) here)) (omega arith)
 
-  place_new : passed_place more (suc (length xs)) ≡ eqb x.kind passed_kind
+  place_new : passed_place more (suc (length xs)) ≡ is_passed x.kind
   unfolding passed_place
-  place_new = ap (λ (y : Stop). eqb y.kind passed_kind) new
+  place_new = ap (λ (y : Stop). is_passed y.kind) new
 
-  backed_passed : (last : ℕ) → x.kind ≡ passed_kind → Backed xs last → Backed more last
+  backed_passed : (last : ℕ) → x.kind ≡ Kind.Passed → Backed xs last → Backed more last
   backed_passed last e b =
       let f : suc (length xs) - 1 ≡ length xs = omega arith in
       record {
-        last_is = b.last_is ∙ sym back_before ∙ ap (back_of more) (sym f) ∙ sym (back_on more (suc (length xs)) (place_new ∙ eq-eqb x.kind passed_kind e)) ∙ ap (back_of more) (sym length_more);
-        over_back = over b.over_back (λ f. absurd (omega (arith, e, f)));
+        last_is = b.last_is ∙ sym back_before ∙ ap (back_of more) (sym f) ∙ sym (back_on more (suc (length xs)) (place_new ∙ ap is_passed e)) ∙ ap (back_of more) (sym length_more);
+        over_back = over b.over_back (λ f. absurd (apart x.kind e f));
       }
 
-  backed_taker : (last : ℕ) → (x.kind ≡ passed_kind → ⊥) → (x.kind ≡ first_kind → x.distance ≤ length xs + 1 - last) → Backed xs last → Backed more (length xs + 1)
+  backed_taker : (last : ℕ) → (x.kind ≡ Kind.Passed → ⊥) → (x.kind ≡ Kind.First → x.distance ≤ length xs + 1 - last) → Backed xs last → Backed more (length xs + 1)
   backed_taker last n d b =
       record {
-        last_is = add-one (length xs) ∙ sym (back_here more (suc (length xs)) (place_new ∙ ne_eqb x.kind passed_kind n)) ∙ ap (back_of more) (sym length_more);
+        last_is = add-one (length xs) ∙ sym (back_here more (suc (length xs)) (place_new ∙ not_passed x.kind n)) ∙ ap (back_of more) (sym length_more);
         over_back = over b.over_back (λ e k h l. back_gap xs (length xs) k (omega (arith, d e, b.last_is, back_le xs (length xs))) l);
       }
 
 -- MARKS
-module _ (s s' : List ℕ) (t : Stops) (c k d : ℕ) (e : s' ≡ splice s (t.at + lyric_stop_width * c) (stop_bytes k (min d farthest))) (inside : Inside s t) (h : c < t.count) (small : k < 4) where
+module _ (s s' : List ℕ) (t : Stops) (c : ℕ) (k : Kind) (d : ℕ) (e : s' ≡ splice s (t.at + lyric_stop_width * c) (stop_bytes k (min d farthest))) (inside : Inside s t) (h : c < t.count) where
   pushed : first_stops s' t (c + 1) ≡ first_stops s t c ++ (written k d ∷ [])
-  pushed = stops_push s s' t.at c k d e small (omega (arith, inside))
+  pushed = stops_push s s' t.at c k d e (omega (arith, inside))
 
   in_table_lem : InTable t s s'
   in_table_lem = only_splice t.at (t.at + lyric_stop_width * t.count) s s' (t.at + lyric_stop_width * c) (stop_bytes k (min d farthest)) e (omega arith) (omega (arith, length_stop k (min d farthest)))
@@ -106,37 +105,43 @@ module _ (s s' : List ℕ) (t : Stops) (c k d : ℕ) (e : s' ≡ splice s (t.at 
       }
 
 -- a grace note
-pub mark_passed : (s s' : List ℕ) (t : Stops) (m r : Marked) → s' ≡ splice s (t.at + lyric_stop_width * m.count) (stop_bytes passed_kind (min 1 farthest)) → Room s t m (passed_kind ∷ [])
-    → r.count ≡ m.count + 1 → r.last ≡ m.last → Marks s s' t m r (passed_kind ∷ [])
+pub mark_passed : (s s' : List ℕ) (t : Stops) (m r : Marked) → s' ≡ splice s (t.at + lyric_stop_width * m.count) (stop_bytes Kind.Passed (min 1 farthest)) → Room s t m (Kind.Passed ∷ [])
+    → r.count ≡ m.count + 1 → r.last ≡ m.last → Marks s s' t m r (Kind.Passed ∷ [])
 mark_passed s s' t m r e room a b =
-    mark s s' t m.count passed_kind 1 e room.inside (omega (arith, room.room)) (omega arith) m r refl a (omega (arith, room.low))
-    (λ x. subst (Backed (first_stops s t m.count ++ (written passed_kind 1 ∷ []))) (sym b) (backed_passed (first_stops s t m.count) (written passed_kind 1) m.last refl x))
+    mark s s' t m.count Kind.Passed 1 e room.inside (omega (arith, room.room)) m r refl a (omega (arith, room.low))
+    (λ x. subst (Backed (first_stops s t m.count ++ (written Kind.Passed 1 ∷ []))) (sym b) (backed_passed (first_stops s t m.count) (written Kind.Passed 1) m.last refl x))
 
 -- a note that takes a syllable
-module _ (s s' : List ℕ) (t : Stops) (m r : Marked) (k d : ℕ) (e : s' ≡ splice s (t.at + lyric_stop_width * m.count) (stop_bytes k (min d farthest))) (room : Room s t m (k ∷ []))
-    (a : r.count ≡ m.count + 1) (b : r.last ≡ m.count + 1) (small : k < 4) (n : k ≡ passed_kind → ⊥) (near : k ≡ first_kind → d ≤ m.count + 1 - m.last) where
+module _ (s s' : List ℕ) (t : Stops) (m r : Marked) (k : Kind) (d : ℕ) (e : s' ≡ splice s (t.at + lyric_stop_width * m.count) (stop_bytes k (min d farthest))) (room : Room s t m (k ∷ []))
+    (a : r.count ≡ m.count + 1) (b : r.last ≡ m.count + 1) (n : k ≡ Kind.Passed → ⊥) (near : k ≡ Kind.First → d ≤ m.count + 1 - m.last) where
   taker_marked : Marks s s' t m r (k ∷ [])
   taker_marked =
       let xs = first_stops s t m.count in
       let many : length xs ≡ m.count = how_many s (record { at = t.at; count = m.count }) in
       let last : length xs + 1 ≡ r.last = omega (arith, many, b) in
-      mark s s' t m.count k d e room.inside (omega (arith, room.room)) small m r refl a (omega arith)
+      mark s s' t m.count k d e room.inside (omega (arith, room.room)) m r refl a (omega arith)
       (λ x. subst (Backed (xs ++ (written k d ∷ []))) last (backed_taker xs (written k d) m.last n (λ f. omega (arith, near f, many, room.low)) x))
 
 -- not the first of its measure, and the first
-abbrev own : Bool → List ℕ
-own b = cond b later_kind first_kind ∷ []
+pub later_apart : Kind.Later ≡ Kind.Passed → ⊥
+later_apart e = cc
+
+pub later_first : Kind.Later ≡ Kind.First → ⊥
+later_first e = cc
+
+abbrev own : Bool → List Kind
+own b = cond b Kind.Later Kind.First ∷ []
 
 module _ (s s' : List ℕ) (t : Stops) (m r : Marked) (room : Room s t m (own m.begun)) (a : r.count ≡ m.count + 1) (b : r.last ≡ m.count + 1) where
-  pub mark_later : m.begun ≡ true → s' ≡ splice s (t.at + lyric_stop_width * m.count) (stop_bytes later_kind (min 1 farthest)) → Marks s s' t m r (own m.begun)
+  pub mark_later : m.begun ≡ true → s' ≡ splice s (t.at + lyric_stop_width * m.count) (stop_bytes Kind.Later (min 1 farthest)) → Marks s s' t m r (own m.begun)
   mark_later e f =
       subst (λ (x : Bool). Marks s s' t m r (own x)) (sym e)
-      (taker_marked s s' t m r later_kind 1 f (subst (λ (x : Bool). Room s t m (own x)) e room) a b (omega arith) (λ g. absurd (omega (arith, g))) (λ g. absurd (omega (arith, g))))
+      (taker_marked s s' t m r Kind.Later 1 f (subst (λ (x : Bool). Room s t m (own x)) e room) a b (λ g. absurd (later_apart g)) (λ g. absurd (later_first g)))
 
-  pub mark_first : m.begun ≡ false → s' ≡ splice s (t.at + lyric_stop_width * m.count) (stop_bytes first_kind (min (m.count + 1 - m.last) farthest)) → Marks s s' t m r (own m.begun)
+  pub mark_first : m.begun ≡ false → s' ≡ splice s (t.at + lyric_stop_width * m.count) (stop_bytes Kind.First (min (m.count + 1 - m.last) farthest)) → Marks s s' t m r (own m.begun)
   mark_first e f =
       subst (λ (x : Bool). Marks s s' t m r (own x)) (sym e)
-      (taker_marked s s' t m r first_kind (m.count + 1 - m.last) f (subst (λ (x : Bool). Room s t m (own x)) e room) a b (omega arith) (λ g. absurd (omega (arith, g))) (λ g. omega arith))
+      (taker_marked s s' t m r Kind.First (m.count + 1 - m.last) f (subst (λ (x : Bool). Room s t m (own x)) e room) a b (λ g. absurd (apart Kind.First g refl)) (λ g. omega arith))
 
 -- nothing
 pub mark_none : (s : List ℕ) (t : Stops) (m : Marked) → m.last ≤ m.count → Marks s s t m m []
@@ -144,25 +149,25 @@ mark_none s t m low =
     record { only = only_none t.at (t.at + lyric_stop_width * t.count) s; kinds = sym (append-nil (kinds_of (first_stops s t m.count))); backed = λ x. x; low = low }
 
 -- one after the other
-pub mark_then : (s s' s'' : List ℕ) (t : Stops) (m q r : Marked) (a b : List ℕ) → Marks s s' t m q a → Marks s' s'' t q r b → Marks s s'' t m r (a ++ b)
+pub mark_then : (s s' s'' : List ℕ) (t : Stops) (m q r : Marked) (a b : List Kind) → Marks s s' t m q a → Marks s' s'' t q r b → Marks s s'' t m r (a ++ b)
 mark_then s s' s'' t m q r a b x y =
     record {
       only = only_then x.only y.only;
-      kinds = y.kinds ∙ ap (λ (ks : List ℕ). ks ++ b) x.kinds ∙ append_assoc (kinds_of (first_stops s t m.count)) a b;
+      kinds = y.kinds ∙ ap (λ (ks : List Kind). ks ++ b) x.kinds ∙ append_assoc (kinds_of (first_stops s t m.count)) a b;
       backed = λ z. y.backed (x.backed z);
       low = y.low;
     }
 
 -- how many are marked then
-pub mark_count : (s s' : List ℕ) (t : Stops) (m r : Marked) (ks : List ℕ) → Marks s s' t m r ks → r.count ≡ m.count + length ks
+pub mark_count : (s s' : List ℕ) (t : Stops) (m r : Marked) (ks : List Kind) → Marks s s' t m r ks → r.count ≡ m.count + length ks
 mark_count s s' t m r ks x =
-    let kind : Stop → ℕ = λ y. y.kind in
+    let kind : Stop → Kind = λ y. y.kind in
     sym (length-map (first_stops s' t r.count) kind ∙ how_many s' (record { at = t.at; count = r.count })) ∙ ap length x.kinds
     ∙ length-append (kinds_of (first_stops s t m.count)) ks ∙ ap (λ (n : ℕ). n + length ks) (length-map (first_stops s t m.count) kind ∙ how_many s (record { at = t.at; count = m.count }))
 
 -- A MEASURE: the invariant of the loop over its rows
 pub record Marking (s₀ : List ℕ) (t : Stops) (p₀ k₀ : ℕ) (m₀ : Marked) (s : List ℕ) (q : Marked) (p left : ℕ) : Type 0 where
-  pub done : List ℕ
+  pub done : List Kind
   pub marks : Marks s₀ s t m₀ q done
   pub on : done ++ marks_in s₀ q.begun p left ≡ marks_in s₀ m₀.begun p₀ k₀
   pub before : p + note_row_width * left ≤ t.at
@@ -180,7 +185,7 @@ module _ (s₀ : List ℕ) (t : Stops) (p₀ k₀ : ℕ) (m₀ : Marked) (s : Li
     same_mark = mark_front s₀ s t.at v.marks.only.front q.begun p (omega (arith, v.before))
 
     step : v.done ++ mark_at s₀ q.begun p ++ marks_in s₀ (begun_after s₀ q.begun p) (p + note_row_width) (left - 1) ≡ marks_in s₀ m₀.begun p₀ k₀
-    step = append_assoc v.done (mark_at s₀ q.begun p) _ ∙ ap (λ (l : List ℕ). v.done ++ l) (sym (marks_step s₀ q.begun p left more)) ∙ v.on
+    step = append_assoc v.done (mark_at s₀ q.begun p) _ ∙ ap (λ (l : List Kind). v.done ++ l) (sym (marks_step s₀ q.begun p left more)) ∙ v.on
 
     pub marking_room : Room s₀ t m₀ (marks_in s₀ m₀.begun p₀ k₀) → Room s t q (mark_at s q.begun p)
     marking_room r =
@@ -217,11 +222,11 @@ module _ (s₀ : List ℕ) (t : Stops) (p₀ k₀ : ℕ) (m₀ : Marked) (s : Li
 
   pub marking_end : left ≡ 0 → Marks s₀ s t m₀ q (marks_in s₀ m₀.begun p₀ k₀)
   marking_end e =
-      subst (Marks s₀ s t m₀ q) (sym (append-nil v.done) ∙ ap (λ (l : List ℕ). v.done ++ l) (sym (marks_none s₀ q.begun p left e)) ∙ v.on) v.marks
+      subst (Marks s₀ s t m₀ q) (sym (append-nil v.done) ∙ ap (λ (l : List Kind). v.done ++ l) (sym (marks_none s₀ q.begun p left e)) ∙ v.on) v.marks
 
 -- ALL MEASURES: the invariant of the loop over them
 pub record AllMarking (s₀ : List ℕ) (t : Stops) (h₀ n p₀ : ℕ) (s : List ℕ) (count last h p left : ℕ) : Type 0 where
-  pub done : List ℕ
+  pub done : List Kind
   pub kinds : kinds_of (first_stops s t count) ≡ done
   pub backed : Backed (first_stops s t count) last
   pub only : InTable t s₀ s
@@ -270,7 +275,7 @@ module _ (s₀ : List ℕ) (h₀ n p₀ : ℕ) (t : Stops) (ready : Ready s₀ h
     same_marks = marks_front s₀ s t.at v.only.front false p k rows_before
 
     all_on : v.done ++ marks_in s₀ false p k ++ marks_of s₀ (h + measure_width) (p + note_row_width * k) (left - 1) ≡ marks_of s₀ h₀ p₀ n
-    all_on = append_assoc v.done (marks_in s₀ false p k) _ ∙ ap (λ (l : List ℕ). v.done ++ l) (sym (all_step s₀ h p left k more same_count)) ∙ v.on
+    all_on = append_assoc v.done (marks_in s₀ false p k) _ ∙ ap (λ (l : List Kind). v.done ++ l) (sym (all_step s₀ h p left k more same_count)) ∙ v.on
 
     abbrev begins : Marked
     begins = record { count = count; last = last; begun = false }
@@ -305,7 +310,7 @@ module _ (s₀ : List ℕ) (h₀ n p₀ : ℕ) (t : Stops) (ready : Ready s₀ h
 
   pub all_end : left ≡ 0 → AllMarked s₀ s t (marks_of s₀ h₀ p₀ n)
   all_end e =
-      let whole : v.done ≡ marks_of s₀ h₀ p₀ n = sym (append-nil v.done) ∙ ap (λ (l : List ℕ). v.done ++ l) (sym (all_none s₀ h p left e)) ∙ v.on in
+      let whole : v.done ≡ marks_of s₀ h₀ p₀ n = sym (append-nil v.done) ∙ ap (λ (l : List Kind). v.done ++ l) (sym (all_none s₀ h p left e)) ∙ v.on in
       let full : count ≡ t.count = counted ∙ ap length whole ∙ ready.all_notes_lem in
       record {
         only = v.only;

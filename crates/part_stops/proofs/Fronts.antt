@@ -12,7 +12,7 @@ use Rattle.laws.proofs.Splices.{byte_own}
 use Rattle.laws.proofs.Numbers.{little_at_own}
 use Rattle.laws.proofs.Parts.{part_front}
 use Rattle.reader.specs.Records.{measure_width}
-use Rattle.lyric_stops.specs.Stops.{passed_kind, later_kind, first_kind}
+use Rattle.lyric_stops.specs.declared.Kind.{Kind}
 use Rattle.part_rows.specs.Encoded.{note_row_width, flags_at, voice_at}
 use Rattle.part_rows.specs.Read.{grace_at, lead_row, sung_row}
 use Rattle.part_measures.specs.Heads.{note_count}
@@ -24,11 +24,11 @@ module _ (s : List ℕ) (b : Bool) (p : ℕ) where
   unfolding mark_at begun_after
   mark_quiet e = (rw (e, mark_at), rw e (or_false b))
 
-  pub mark_grace : sung_row s p ≡ true → grace_at s p ≡ true → (mark_at s b p ≡ passed_kind ∷ []) × (begun_after s b p ≡ b)
+  pub mark_grace : sung_row s p ≡ true → grace_at s p ≡ true → (mark_at s b p ≡ Kind.Passed ∷ []) × (begun_after s b p ≡ b)
   unfolding mark_at begun_after
   mark_grace e f = (rw (e, mark_at) (rw f), rw (e, f) (or_false b))
 
-  pub mark_other : sung_row s p ≡ true → grace_at s p ≡ false → (mark_at s b p ≡ cond b later_kind first_kind ∷ []) × (begun_after s b p ≡ true)
+  pub mark_other : sung_row s p ≡ true → grace_at s p ≡ false → (mark_at s b p ≡ cond b Kind.Later Kind.First ∷ []) × (begun_after s b p ≡ true)
   unfolding mark_at begun_after
   mark_other e f = (rw (e, mark_at) (rw f), rw (e, f) (or_true b))
 
@@ -50,7 +50,7 @@ module _ (s t : List ℕ) (lo : ℕ) (e : take lo t ≡ take lo s) where
 
   pub mark_front : (b : Bool) (p : ℕ) → p + note_row_width ≤ lo → mark_at t b p ≡ mark_at s b p
   unfolding mark_at
-  mark_front b p h = λ i. elim (sung_front p h i) [ true ↦ cond (grace_front p h i) passed_kind (cond b later_kind first_kind) ∷ [] | false ↦ [] ]
+  mark_front b p h = λ i. elim (sung_front p h i) [ true ↦ cond (grace_front p h i) Kind.Passed (cond b Kind.Later Kind.First) ∷ [] | false ↦ [] ]
 
   pub begun_front : (b : Bool) (p : ℕ) → p + note_row_width ≤ lo → begun_after t b p ≡ begun_after s b p
   unfolding begun_after
@@ -61,8 +61,8 @@ module _ (s t : List ℕ) (lo : ℕ) (e : take lo t ≡ take lo s) where
   unfolding marks_in
   marks_front b p zero h = refl
   marks_front b p (suc k) h =
-      ap₂ (λ (m : List ℕ) (c : Bool). m ++ marks_in t c (p + note_row_width) k) (mark_front b p (omega arith)) (begun_front b p (omega arith))
-      ∙ ap (λ (l : List ℕ). mark_at s b p ++ l) (marks_front (begun_after s b p) (p + note_row_width) k (omega arith))
+      ap₂ (λ (m : List Kind) (c : Bool). m ++ marks_in t c (p + note_row_width) k) (mark_front b p (omega arith)) (begun_front b p (omega arith))
+      ∙ ap (λ (l : List Kind). mark_at s b p ++ l) (marks_front (begun_after s b p) (p + note_row_width) k (omega arith))
 
   -- a measure's row
   pub count_front : (h : ℕ) → h + measure_width ≤ lo → note_count t h ≡ note_count s h

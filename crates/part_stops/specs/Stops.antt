@@ -4,7 +4,8 @@ use Rattle.reader.specs.State.{Note}
 use Rattle.reader.specs.Records.{measure_width}
 use Rattle.lyric_stops.specs.declared.Stop.{Stop}
 use Rattle.lyric_stops.specs.declared.Stops.{Stops}
-use Rattle.lyric_stops.specs.Stops.{lyric_stop_width, passed_kind, first_kind, Inside, stops_in, kind_at, distance_at, kinds_of, back_of, Hints, StopsAre}
+use Rattle.lyric_stops.specs.declared.Kind.{Kind}
+use Rattle.lyric_stops.specs.Stops.{lyric_stop_width, Inside, stops_in, kind_at, distance_at, kinds_of, back_of, Hints, StopsAre}
 use Rattle.part_layout.specs.Log.{Head}
 use Rattle.part_layout.specs.Lines.{Fits}
 use Rattle.part_layout.specs.Ends.{takers_in}
@@ -26,7 +27,7 @@ InTable t s s' = Only t.at (t.at + lyric_stop_width * t.count) s s'
 
 -- no distance back passes over a note that takes a syllable
 abbrev pub OverBack : List Stop → Type 0
-OverBack xs = (j k : ℕ) → kind_at xs j ≡ first_kind → j < k + distance_at xs j → k < j → kind_at xs k ≡ passed_kind
+OverBack xs = (j k : ℕ) → kind_at xs j ≡ Kind.First → j < k + distance_at xs j → k < j → kind_at xs k ≡ Kind.Passed
 
 -- and `last` is the last of the notes that does
 pub record Backed (xs : List Stop) (last : ℕ) : Type 0 where
@@ -34,20 +35,20 @@ pub record Backed (xs : List Stop) (last : ℕ) : Type 0 where
   pub over_back : OverBack xs
 
 -- stops of these kinds were written behind those that are marked
-pub record Marks (s s' : List ℕ) (t : Stops) (m r : Marked) (ks : List ℕ) : Type 0 where
+pub record Marks (s s' : List ℕ) (t : Stops) (m r : Marked) (ks : List Kind) : Type 0 where
   pub only : InTable t s s'
   pub kinds : kinds_of (first_stops s' t r.count) ≡ kinds_of (first_stops s t m.count) ++ ks
   pub backed : Backed (first_stops s t m.count) m.last → Backed (first_stops s' t r.count) r.last
   pub low : r.last ≤ r.count
 
 -- there is room for them
-pub record Room (s : List ℕ) (t : Stops) (m : Marked) (ks : List ℕ) : Type 0 where
+pub record Room (s : List ℕ) (t : Stops) (m : Marked) (ks : List Kind) : Type 0 where
   pub inside : Inside s t
   pub room : m.count + length ks ≤ t.count
   pub low : m.last ≤ m.count
 
 -- the stops of all measures were
-pub record AllMarked (s s' : List ℕ) (t : Stops) (ks : List ℕ) : Type 0 where
+pub record AllMarked (s s' : List ℕ) (t : Stops) (ks : List Kind) : Type 0 where
   pub only : InTable t s s'
   pub kinds : kinds_of (stops_in s' t) ≡ ks
   pub last : ℕ
@@ -57,16 +58,16 @@ pub record AllMarked (s s' : List ℕ) (t : Stops) (ks : List ℕ) : Type 0 wher
 -- from note j on the first that takes a syllable, and the first that is the first of its measure; or behind the last note
 pub record AheadOf (xs : List Stop) (j : ℕ) (a : Ahead) : Type 0 where
   pub taker_low : j ≤ a.taker
-  pub taker_here : kind_at xs a.taker ≡ passed_kind → ⊥
-  pub taker_passed : (k : ℕ) → j ≤ k → k < a.taker → kind_at xs k ≡ passed_kind
+  pub taker_here : kind_at xs a.taker ≡ Kind.Passed → ⊥
+  pub taker_passed : (k : ℕ) → j ≤ k → k < a.taker → kind_at xs k ≡ Kind.Passed
   pub first_low : j ≤ a.first
-  pub first_here : kind_at xs a.first ≡ first_kind
-  pub first_passed : (k : ℕ) → j ≤ k → k < a.first → kind_at xs k ≡ first_kind → ⊥
+  pub first_here : kind_at xs a.first ≡ Kind.First
+  pub first_passed : (k : ℕ) → j ≤ k → k < a.first → kind_at xs k ≡ Kind.First → ⊥
 
 -- no distance forward of a note from j on passes over what is looked for
 pub record HintsFrom (xs : List Stop) (j : ℕ) : Type 0 where
-  pub over_passed : (i k : ℕ) → j ≤ i → kind_at xs i ≡ passed_kind → i ≤ k → k < i + distance_at xs i → kind_at xs k ≡ passed_kind
-  pub over_later : (i k : ℕ) → j ≤ i → (kind_at xs i ≡ first_kind → ⊥) → i ≤ k → k < i + distance_at xs i → kind_at xs k ≡ first_kind → ⊥
+  pub over_passed : (i k : ℕ) → j ≤ i → kind_at xs i ≡ Kind.Passed → i ≤ k → k < i + distance_at xs i → kind_at xs k ≡ Kind.Passed
+  pub over_later : (i k : ℕ) → j ≤ i → (kind_at xs i ≡ Kind.First → ⊥) → i ≤ k → k < i + distance_at xs i → kind_at xs k ≡ Kind.First → ⊥
 
 -- stop j was given its distance; a is ahead then
 pub record Aimed (s s' : List ℕ) (t : Stops) (j : ℕ) (a : Ahead) : Type 0 where

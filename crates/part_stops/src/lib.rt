@@ -4,12 +4,12 @@
 #![tactic(auto)]
 
 ghost use Rattle.std.specs.Prelude.{◌≡◌, true, cond, [], ◌∷◌, ◌+◌, ◌*◌, ◌≤◌, ◌<◌};
-ghost use Rattle.lyric_stops.specs.Stops.{later_kind, first_kind, Inside, stops_in};
+ghost use Rattle.lyric_stops.specs.Stops.{Inside, stops_in};
 ghost use Rattle.part_rows.specs.Encoded.{note_row_width};
 ghost use Rattle.part_stops.specs.Marks.{mark_at, begun_after, marks_in, marks_of};
 ghost use Rattle.part_stops.specs.Stops.{Marks, Room, AllMarked, HintsFrom, AheadOf, Aimed, AllAimed, Ready, Stopped};
 
-use lyric_stops::Stops;
+use lyric_stops::{Kind, Stops};
 use part_measures::MEASURE;
 use part_rows::NOTE_ROW;
 
@@ -26,19 +26,19 @@ pub struct Marked {
 
 // A note that takes a syllable.
 fn mark_taker(scratch: &mut [u8], stops: Stops, m: Marked) -> Marked
-    requires { Room scratch.old stops m (cond m.begun later_kind first_kind ∷ []) }
-    ensures { Marks scratch.old scratch.new stops m result (cond m.begun later_kind first_kind ∷ []) × (result.begun ≡ true) }
+    requires { Room scratch.old stops m (cond m.begun Kind.Later Kind.First ∷ []) }
+    ensures { Marks scratch.old scratch.new stops m result (cond m.begun Kind.Later Kind.First ∷ []) × (result.begun ≡ true) }
 {
     let place = m.count + 1;
     if m.begun {
-        lyric_stops::put_stop(scratch, stops, m.count, lyric_stops::LATER, 1);
+        lyric_stops::put_stop(scratch, stops, m.count, Kind::Later, 1);
         return Marked {
             count: place,
             last: place,
             begun: true,
         };
     }
-    lyric_stops::put_stop(scratch, stops, m.count, lyric_stops::FIRST, place - m.last);
+    lyric_stops::put_stop(scratch, stops, m.count, Kind::First, place - m.last);
     Marked {
         count: place,
         last: place,
@@ -55,7 +55,7 @@ fn mark_row(scratch: &mut [u8], stops: Stops, place: usize, m: Marked) -> Marked
         return m;
     }
     if part_rows::is_grace(scratch, place) {
-        lyric_stops::put_stop(scratch, stops, m.count, lyric_stops::PASSED, 1);
+        lyric_stops::put_stop(scratch, stops, m.count, Kind::Passed, 1);
         return Marked {
             count: m.count + 1,
             last: m.last,
@@ -114,17 +114,19 @@ fn aim_stop(scratch: &mut [u8], stops: Stops, j: usize, a: Ahead) -> Ahead
     ensures { Aimed scratch.old scratch.new stops j result }
 {
     let x = lyric_stops::get_stop(scratch, stops, j);
-    if x.kind == lyric_stops::FIRST {
-        return Ahead { taker: j, first: j };
-    }
-    if x.kind == lyric_stops::PASSED {
-        lyric_stops::put_stop(scratch, stops, j, x.kind, a.taker - j);
-        return a;
-    }
-    lyric_stops::put_stop(scratch, stops, j, x.kind, a.first - j);
-    Ahead {
-        taker: j,
-        first: a.first,
+    match x.kind {
+        Kind::First => Ahead { taker: j, first: j },
+        Kind::Passed => {
+            lyric_stops::put_stop(scratch, stops, j, x.kind, a.taker - j);
+            a
+        }
+        Kind::Later => {
+            lyric_stops::put_stop(scratch, stops, j, x.kind, a.first - j);
+            Ahead {
+                taker: j,
+                first: a.first,
+            }
+        }
     }
 }
 

@@ -16,7 +16,7 @@ put_stop-requires c =
     let a = c.args in
     let q = mark_grace a.scratch.now a.m.begun a.place (sym c.is_sung.ensures ∙ c.if-not-is_sung.false) (sym c.is_grace.ensures ∙ c.if-is_grace.true) in
     let p = rw q.0 at c.requires.0 in
-    (p.inside, omega (arith, p.room), omega arith)
+    (p.inside, omega (arith, p.room))
 
 pub returns-then-is_grace : goal.returns-then-is_grace
 returns-then-is_grace c =
