@@ -1,107 +1,117 @@
 -- The readers by class, and the two views of a token.
 use Prim.Native.Nat.{ℕ, suc, ◌+◌, ◌<◌}
 use mathlib.Core.Path.{◌≡◌, refl, sym, ap, ◌∙◌}
-use mathlib.Core.Bool.{Bool, true, false, not}
+use mathlib.Core.Bool.{Bool, true, false, false≢true}
 use mathlib.Core.Option.{Option}
 use mathlib.Core.List.{List}
-use lib.Dec.{eqb}
 use lib.ListN.{length, get_or, drop}
 use lib.Seq.{drop-drop}
-use borrow.Author.Tests.{eqb-false}
-use Rattle.laws.proofs.Bools.{by_test, not_true}
+use Rattle.laws.proofs.Bools.{by_test}
 use Rattle.laws.proofs.Finite.{below}
 use Rattle.laws.proofs.Lists.{first_at}
 use Rattle.standard.specs.Notes as Notes
-use Rattle.standard.specs.Bytes.{first}
 use Rattle.standard.specs.Pitches.{Accidental}
 use Rattle.editions.specs.declared.Edition.{Edition}
 use Rattle.reader.specs.Lengths.{many_slashes, value_of}
-use Rattle.reader.specs.Codes.{kind_code}
 use Rattle.reader.specs.Pitches.{octave_of}
 use Rattle.reader.specs.Sounds.{rest_as, note_as}
 use Rattle.reader.specs.Token.{Token, space, overlay, quoted, broken, tuplet, slur, grace_open, grace_close, decoration, barline, volta, unit, meter, key, field, chord, rest, note, nothing, skipped, refused, Taken, taken}
 use Rattle.reader.specs.Tokens.{Class, white, ampersand, quote, more, less, paren, brace_open, brace_close, bang, plus, bars, bracket, pitched, none-of-these, resting, classes, class_in, class_of, token_as, token_of, effect_of}
 use Rattle.reader.proofs.LengthLaws.{with_many, with_few}
-use Rattle.token_symbols.specs.Classes.{class_code}
-use Rattle.token_lexemes.specs.Lexemes.{lexeme_for, cut_for, rest_for}
+use Rattle.token_symbols.specs.declared.Class as code
+use Rattle.token_symbols.specs.declared.Class.TheVariants as class
+use Rattle.token_symbols.specs.Classes.{class_for}
+use Rattle.token_lexemes.specs.Lexemes.{kind_for, lexeme_for, cut_for, rest_for}
+use Rattle.refusals.specs.declared.Refusal.{Refusal}
+use Rattle.token_suffixes.specs.declared.Fraction.{Fraction}
+use Rattle.token_pitches.specs.declared.Pitch.{Pitch}
+use Rattle.token_lexemes.specs.declared.NoteKind.{NoteKind}
+use Rattle.token_lexemes.specs.declared.Token as lexemes
+use Rattle.token_lexemes.specs.declared.Token.TheVariants as lexeme
+use Rattle.tokens.specs.declared.Effect.TheVariants as effect
 use Rattle.tokens.specs.Tokens.{rest_length, token_for, tokenised_for, valued_for, tokenised_in, effect_for, effected_for, effect_in, effected_in}
 
 -- BY CLASS
-unfoldable pub by_code : Edition → ℕ → List ℕ → Taken
-by_code ed n s =
-    elim (eqb n 1) [ true ↦ token_as ed white s | false ↦ elim (eqb n 2) [ true ↦ token_as ed ampersand s | false ↦ elim (eqb n 3) [ true ↦ token_as ed quote s | false ↦ elim (eqb n 4) [ true ↦ token_as ed more s | false ↦ elim (eqb n 5) [ true ↦ token_as ed less s | false ↦ elim (eqb n 6) [ true ↦ token_as ed paren s | false ↦ elim (eqb n 7) [ true ↦ token_as ed brace_open s | false ↦ elim (eqb n 8) [ true ↦ token_as ed brace_close s | false ↦ elim (eqb n 9) [ true ↦ token_as ed bang s | false ↦ elim (eqb n 10) [ true ↦ token_as ed plus s | false ↦ elim (eqb n 11) [ true ↦ token_as ed bars s | false ↦ elim (eqb n 12) [ true ↦ token_as ed bracket s | false ↦ elim (eqb n 13) [ true ↦ token_as ed (resting Notes.rest) s | false ↦ elim (eqb n 14) [ true ↦ token_as ed (resting Notes.invisible_rest) s | false ↦ elim (eqb n 15) [ true ↦ token_as ed (resting Notes.bar_rest) s | false ↦ elim (eqb n 16) [ true ↦ token_as ed (resting Notes.invisible_bar_rest) s | false ↦ elim (eqb n 17) [ true ↦ token_as ed pitched s | false ↦ elim (eqb n 18) [ true ↦ token_as ed (resting Notes.sounded) s | false ↦ token_as ed none-of-these s ] ] ] ] ] ] ] ] ] ] ] ] ] ] ] ] ] ]
+-- the token of the class in the code's type
+unfoldable pub by_class : Edition → code.Class → List ℕ → Taken
+by_class ed class.Skip s = taken skipped 1
+by_class ed class.White s = token_as ed white s
+by_class ed class.Ampersand s = token_as ed ampersand s
+by_class ed class.Quote s = token_as ed quote s
+by_class ed class.More s = token_as ed more s
+by_class ed class.Less s = token_as ed less s
+by_class ed class.Paren s = token_as ed paren s
+by_class ed class.BraceOpen s = token_as ed brace_open s
+by_class ed class.BraceClose s = token_as ed brace_close s
+by_class ed class.Bang s = token_as ed bang s
+by_class ed class.Plus s = token_as ed plus s
+by_class ed class.Bars s = token_as ed bars s
+by_class ed class.Bracket s = token_as ed bracket s
+by_class ed class.Rest s = token_as ed (resting Notes.rest) s
+by_class ed class.InvisibleRest s = token_as ed (resting Notes.invisible_rest) s
+by_class ed class.BarRest s = token_as ed (resting Notes.bar_rest) s
+by_class ed class.InvisibleBarRest s = token_as ed (resting Notes.invisible_bar_rest) s
+by_class ed class.Pitched s = token_as ed pitched s
 
-coded : (ed : Edition) (x : Class) (s : List ℕ) → token_as ed x s ≡ by_code ed (class_code x) s
-unfolding by_code class_code
-coded ed white s = refl
-coded ed ampersand s = refl
-coded ed quote s = refl
-coded ed more s = refl
-coded ed less s = refl
-coded ed paren s = refl
-coded ed brace_open s = refl
-coded ed brace_close s = refl
-coded ed bang s = refl
-coded ed plus s = refl
-coded ed bars s = refl
-coded ed bracket s = refl
-coded ed pitched s = refl
-coded ed none-of-these s = refl
-coded ed (resting Notes.sounded) s = refl
-coded ed (resting Notes.rest) s = refl
-coded ed (resting Notes.invisible_rest) s = refl
-coded ed (resting Notes.bar_rest) s = refl
-coded ed (resting Notes.invisible_bar_rest) s = refl
+-- no letter rests by a sounded note
+is_read : Class → Bool
+is_read white = true
+is_read ampersand = true
+is_read quote = true
+is_read more = true
+is_read less = true
+is_read paren = true
+is_read brace_open = true
+is_read brace_close = true
+is_read bang = true
+is_read plus = true
+is_read bars = true
+is_read bracket = true
+is_read (resting Notes.rest) = true
+is_read (resting Notes.invisible_rest) = true
+is_read (resting Notes.bar_rest) = true
+is_read (resting Notes.invisible_bar_rest) = true
+is_read pitched = true
+is_read none-of-these = true
+is_read (resting Notes.sounded) = false
 
--- the token at a position, by the number of its class
-pub classed : (ed : Edition) (line : List ℕ) (at k n : ℕ) → k ≡ class_code (class_of (get_or line at 0)) → k ≡ n → token_of ed (drop at line) ≡ by_code ed n (drop at line)
-unfolding token_of
-classed ed line at k n e f = coded ed (class_of (first (drop at line))) (drop at line) ∙ ap (λ c. by_code ed (class_code (class_of c)) (drop at line)) (first_at line at) ∙ ap (λ m. by_code ed m (drop at line)) (sym e ∙ f)
+read_by_class : (ed : Edition) (x : Class) (s : List ℕ) → is_read x ≡ true → token_as ed x s ≡ by_class ed (class_for x) s
+unfolding by_class class_for is_read token_as
+read_by_class ed white s e = refl
+read_by_class ed ampersand s e = refl
+read_by_class ed quote s e = refl
+read_by_class ed more s e = refl
+read_by_class ed less s e = refl
+read_by_class ed paren s e = refl
+read_by_class ed brace_open s e = refl
+read_by_class ed brace_close s e = refl
+read_by_class ed bang s e = refl
+read_by_class ed plus s e = refl
+read_by_class ed bars s e = refl
+read_by_class ed bracket s e = refl
+read_by_class ed (resting Notes.rest) s e = refl
+read_by_class ed (resting Notes.invisible_rest) s e = refl
+read_by_class ed (resting Notes.bar_rest) s e = refl
+read_by_class ed (resting Notes.invisible_bar_rest) s e = refl
+read_by_class ed pitched s e = refl
+read_by_class ed none-of-these s e = refl
+read_by_class ed (resting Notes.sounded) s e = absurd (false≢true e)
 
--- no byte is of the class that has no reader
 unread : ℕ → Bool
-unread b = not (eqb (class_code (class_of b)) 18)
+unread b = is_read (class_of b)
 
-seen : (b : ℕ) → b < 256 → unread b ≡ true
-unfolding unread class_code class_of class_in classes
+seen : (b : ℕ) → b < 256 → is_read (class_of b) ≡ true
+unfolding unread is_read class_of class_in classes
 seen b h = below 256 unread refl b h
 
-pub never_18 : (b : ℕ) → b < 256 → class_code (class_of b) ≡ 18 → ⊥
-unfolding unread
-never_18 b h = eqb-false (class_code (class_of b)) 18 (not_true (eqb (class_code (class_of b)) 18) (seen b h))
-
--- a class of no number but 0
-no_class : (ed : Edition) (x : Class) (s : List ℕ) → (class_code x ≡ 1 → ⊥) → (class_code x ≡ 2 → ⊥) → (class_code x ≡ 3 → ⊥) → (class_code x ≡ 4 → ⊥) → (class_code x ≡ 5 → ⊥) → (class_code x ≡ 6 → ⊥) → (class_code x ≡ 7 → ⊥) → (class_code x ≡ 8 → ⊥) → (class_code x ≡ 9 → ⊥) → (class_code x ≡ 10 → ⊥) → (class_code x ≡ 11 → ⊥) → (class_code x ≡ 12 → ⊥) → (class_code x ≡ 13 → ⊥) → (class_code x ≡ 14 → ⊥) → (class_code x ≡ 15 → ⊥) → (class_code x ≡ 16 → ⊥) → (class_code x ≡ 17 → ⊥) → (class_code x ≡ 18 → ⊥) → taken skipped 1 ≡ token_as ed x s
-unfolding class_code token_as
-no_class ed white s n1 n2 n3 n4 n5 n6 n7 n8 n9 n10 n11 n12 n13 n14 n15 n16 n17 n18 = absurd (n1 refl)
-no_class ed ampersand s n1 n2 n3 n4 n5 n6 n7 n8 n9 n10 n11 n12 n13 n14 n15 n16 n17 n18 = absurd (n2 refl)
-no_class ed quote s n1 n2 n3 n4 n5 n6 n7 n8 n9 n10 n11 n12 n13 n14 n15 n16 n17 n18 = absurd (n3 refl)
-no_class ed more s n1 n2 n3 n4 n5 n6 n7 n8 n9 n10 n11 n12 n13 n14 n15 n16 n17 n18 = absurd (n4 refl)
-no_class ed less s n1 n2 n3 n4 n5 n6 n7 n8 n9 n10 n11 n12 n13 n14 n15 n16 n17 n18 = absurd (n5 refl)
-no_class ed paren s n1 n2 n3 n4 n5 n6 n7 n8 n9 n10 n11 n12 n13 n14 n15 n16 n17 n18 = absurd (n6 refl)
-no_class ed brace_open s n1 n2 n3 n4 n5 n6 n7 n8 n9 n10 n11 n12 n13 n14 n15 n16 n17 n18 = absurd (n7 refl)
-no_class ed brace_close s n1 n2 n3 n4 n5 n6 n7 n8 n9 n10 n11 n12 n13 n14 n15 n16 n17 n18 = absurd (n8 refl)
-no_class ed bang s n1 n2 n3 n4 n5 n6 n7 n8 n9 n10 n11 n12 n13 n14 n15 n16 n17 n18 = absurd (n9 refl)
-no_class ed plus s n1 n2 n3 n4 n5 n6 n7 n8 n9 n10 n11 n12 n13 n14 n15 n16 n17 n18 = absurd (n10 refl)
-no_class ed bars s n1 n2 n3 n4 n5 n6 n7 n8 n9 n10 n11 n12 n13 n14 n15 n16 n17 n18 = absurd (n11 refl)
-no_class ed bracket s n1 n2 n3 n4 n5 n6 n7 n8 n9 n10 n11 n12 n13 n14 n15 n16 n17 n18 = absurd (n12 refl)
-no_class ed (resting Notes.rest) s n1 n2 n3 n4 n5 n6 n7 n8 n9 n10 n11 n12 n13 n14 n15 n16 n17 n18 = absurd (n13 refl)
-no_class ed (resting Notes.invisible_rest) s n1 n2 n3 n4 n5 n6 n7 n8 n9 n10 n11 n12 n13 n14 n15 n16 n17 n18 = absurd (n14 refl)
-no_class ed (resting Notes.bar_rest) s n1 n2 n3 n4 n5 n6 n7 n8 n9 n10 n11 n12 n13 n14 n15 n16 n17 n18 = absurd (n15 refl)
-no_class ed (resting Notes.invisible_bar_rest) s n1 n2 n3 n4 n5 n6 n7 n8 n9 n10 n11 n12 n13 n14 n15 n16 n17 n18 = absurd (n16 refl)
-no_class ed pitched s n1 n2 n3 n4 n5 n6 n7 n8 n9 n10 n11 n12 n13 n14 n15 n16 n17 n18 = absurd (n17 refl)
-no_class ed (resting Notes.sounded) s n1 n2 n3 n4 n5 n6 n7 n8 n9 n10 n11 n12 n13 n14 n15 n16 n17 n18 = absurd (n18 refl)
-no_class ed none-of-these s n1 n2 n3 n4 n5 n6 n7 n8 n9 n10 n11 n12 n13 n14 n15 n16 n17 n18 = refl
-
--- a byte of no class is skipped
-pub unclassed : (ed : Edition) (line : List ℕ) (at k : ℕ) → get_or line at 0 < 256 → k ≡ class_code (class_of (get_or line at 0)) → (k ≡ 1 → ⊥) → (k ≡ 2 → ⊥) → (k ≡ 3 → ⊥) → (k ≡ 4 → ⊥) → (k ≡ 5 → ⊥) → (k ≡ 6 → ⊥) → (k ≡ 7 → ⊥) → (k ≡ 8 → ⊥) → (k ≡ 9 → ⊥) → (k ≡ 10 → ⊥) → (k ≡ 11 → ⊥) → (k ≡ 12 → ⊥) → (k ≡ 13 → ⊥) → (k ≡ 14 → ⊥) → (k ≡ 15 → ⊥) → (k ≡ 16 → ⊥) → (k ≡ 17 → ⊥) → taken skipped 1 ≡ token_of ed (drop at line)
+-- the token at a position, by the class of its first byte
+pub classed : (ed : Edition) (line : List ℕ) (at : ℕ) (k n : code.Class) → get_or line at 0 < 256 → k ≡ class_for (class_of (get_or line at 0)) → k ≡ n → token_of ed (drop at line) ≡ by_class ed n (drop at line)
 unfolding token_of
-unclassed ed line at k h e n1 n2 n3 n4 n5 n6 n7 n8 n9 n10 n11 n12 n13 n14 n15 n16 n17 =
-    no_class ed (class_of (get_or line at 0)) (drop at line) (λ q. n1 (e ∙ q)) (λ q. n2 (e ∙ q)) (λ q. n3 (e ∙ q)) (λ q. n4 (e ∙ q)) (λ q. n5 (e ∙ q)) (λ q. n6 (e ∙ q)) (λ q. n7 (e ∙ q)) (λ q. n8 (e ∙ q)) (λ q. n9 (e ∙ q)) (λ q. n10 (e ∙ q)) (λ q. n11 (e ∙ q)) (λ q. n12 (e ∙ q)) (λ q. n13 (e ∙ q)) (λ q. n14 (e ∙ q)) (λ q. n15 (e ∙ q)) (λ q. n16 (e ∙ q)) (λ q. n17 (e ∙ q)) (never_18 (get_or line at 0) h)
-    ∙ ap (λ c. token_as ed (class_of c) (drop at line)) (sym (first_at line at))
+classed ed line at k n h e f =
+    ap (λ c. token_as ed (class_of c) (drop at line)) (first_at line at) ∙ read_by_class ed (class_of (get_or line at 0)) (drop at line) (seen (get_or line at 0) h) ∙ ap (λ m. by_class ed m (drop at line)) (sym e ∙ f)
 
 -- a rest
-pub rest_cut : (ed : Edition) (line : List ℕ) (at : ℕ) (k : Notes.NoteKind) → rest_for ed at (kind_code k) (drop (at + 1) line) ≡ cut_for at (rest_as ed k (drop 1 (drop at line)))
+pub rest_cut : (ed : Edition) (line : List ℕ) (at : ℕ) (k : Notes.NoteKind) → rest_for ed at (kind_for k) (drop (at + 1) line) ≡ cut_for at (rest_as ed k (drop 1 (drop at line)))
 unfolding rest_for rest_as lexeme_for
 rest_cut ed line at k =
     let s = drop (at + 1) line in
@@ -111,7 +121,7 @@ rest_cut ed line at k =
 
 -- THE TWO VIEWS
 pub valued_token : (at u : ℕ) (t : Token) → valued_for u (lexeme_for at t) ≡ token_for at u t
-unfolding valued_for lexeme_for token_for rest_length kind_code value_of
+unfolding valued_for lexeme_for token_for rest_length value_of
 valued_token at u space = refl
 valued_token at u overlay = refl
 valued_token at u quoted = refl
@@ -164,10 +174,10 @@ effect_token at (refused n) = refl
 
 -- with the position after the token
 pub valued_cut : (at u : ℕ) (t : Taken) → tokenised_in u (cut_for at t) ≡ tokenised_for at u t
-valued_cut at u t = ap (λ x. record { token = x; next = at + t.used }) (valued_token at u t.token)
+valued_cut at u t = ap (λ x. record { value = x; next = at + t.used }) (valued_token at u t.token)
 
 pub effected : (at : ℕ) (t : Taken) → effected_in (cut_for at t) ≡ effected_for at t
-effected at t = ap (λ x. record { effect = x; next = at + t.used }) (effect_token at t.token)
+effected at t = ap (λ x. record { value = x; next = at + t.used }) (effect_token at t.token)
 
 -- the scan does not see a note's accidental
 pub marked : (ed : Edition) (at : ℕ) (a b : Option Accidental) (c : ℕ) (s : List ℕ) → effected_for at (note_as ed (record { sign = a; used = 0 }) c s) ≡ effected_for at (note_as ed (record { sign = b; used = 0 }) c s)
@@ -179,3 +189,29 @@ marked ed at a b c s =
     (by_test (many_slashes ed r) (λ m. ap (effected_for at) (with_many ed (0 + 1 + length s) r _ m ∙ sym (with_many ed (0 + 1 + length s) r _ m)))
     (λ m. ap (effected_for at) (with_few ed (0 + 1 + length s) r _ m) ∙ ap (effected_for at) (sym (with_few ed (0 + 1 + length s) r _ m)))))
     (λ f. rw (f, note_as))
+
+-- a token that is none of those that have an effect
+pub no_effect : (t : lexemes.Token Fraction) → ((d : ℕ) → t ≡ lexeme.Unit d → ⊥) → ((x y : ℕ) → t ≡ lexeme.Meter x y → ⊥) → ((p n : ℕ) (l : Fraction) (a b : Bool) → t ≡ lexeme.Chord p n l a b → ⊥)
+    → ((k : NoteKind) (l : Fraction) → t ≡ lexeme.Rest k l → ⊥) → ((p : Pitch) (l : Fraction) (a b : Bool) → t ≡ lexeme.Note p l a b → ⊥) → ((r : Refusal) → t ≡ lexeme.Refused r → ⊥) → effect.NoEffect ≡ effect_in t
+unfolding effect_in
+no_effect lexeme.Space u m c r n f = refl
+no_effect lexeme.Overlay u m c r n f = refl
+no_effect lexeme.Quoted u m c r n f = refl
+no_effect (lexeme.Broken x0 x1) u m c r n f = refl
+no_effect (lexeme.Tuplet x0 x1 x2) u m c r n f = refl
+no_effect lexeme.Slur u m c r n f = refl
+no_effect lexeme.GraceOpen u m c r n f = refl
+no_effect lexeme.GraceClose u m c r n f = refl
+no_effect lexeme.Decoration u m c r n f = refl
+no_effect (lexeme.Barline x0 x1 x2) u m c r n f = refl
+no_effect (lexeme.Volta x0 x1) u m c r n f = refl
+no_effect (lexeme.Key x0 x1) u m c r n f = refl
+no_effect lexeme.Field u m c r n f = refl
+no_effect lexeme.Nothing u m c r n f = refl
+no_effect lexeme.Skipped u m c r n f = refl
+no_effect (lexeme.Unit d) u m c r n f = absurd (u d refl)
+no_effect (lexeme.Meter x y) u m c r n f = absurd (m x y refl)
+no_effect (lexeme.Chord p q l a b) u m c r n f = absurd (c p q l a b refl)
+no_effect (lexeme.Rest k l) u m c r n f = absurd (r k l refl)
+no_effect (lexeme.Note p l a b) u m c r n f = absurd (n p l a b refl)
+no_effect (lexeme.Refused x) u m c r n f = absurd (f x refl)

@@ -1,3 +1,4 @@
 mod Dispatch
 pub mod Chords
 pub mod Past
+mod Numbers

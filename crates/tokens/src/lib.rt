@@ -4,152 +4,104 @@
 ghost use Rattle.std.specs.Prelude.{◌≡◌, ◌+◌, ◌<◌, length, drop, get_or};
 ghost use Rattle.std.proofs.Math.Option.{none};
 ghost use Rattle.reader.specs.Sounds.{note_as, note_of};
-ghost use Rattle.reader.specs.Tokens.{class_of, token_of};
-ghost use Rattle.token_symbols.specs.Classes.{class_code, class_table};
+ghost use Rattle.reader.specs.Tokens.{class_of, token_of, effect_of};
+ghost use Rattle.token_symbols.specs.Classes.{class_for};
 ghost use Rattle.token_lexemes.specs.Lexemes.{cut_for};
-ghost use Rattle.tokens.specs.Tokens.{tokenised_for, valued_for, tokenised_in, effect_in, effected_for};
+ghost use Rattle.tokens.specs.Tokens.{tokenised_for, IsNumbered, value_for, kind_length, valued_for, tokenised_in, effect_in, effect_as, effected_for};
 
 use editions::Edition;
+use refusals::Refusal;
+use text_bytes::Read;
 use token_lengths::Length;
-use token_lexemes::{Cut, Lexeme};
-use token_pitches::Pitch;
-use token_symbols::Barline;
+use token_lexemes::{NoteKind, Token};
+use token_suffixes::Fraction;
+use token_symbols::{Class, Classes};
 
-// A token with its length: a written value with dots, or the whole bar.
-#[derive(Clone, Copy)]
-pub enum Token {
-    Space,
-    Overlay,
-    Quoted,
-    Broken {
-        up: bool,
-        count: u8,
-    },
-    Tuplet {
-        actual: u8,
-        normal: u8,
-        count: u64,
-    },
-    Slur,
-    GraceOpen,
-    GraceClose,
-    Decoration,
-    Barline {
-        right: Barline,
-        left: Barline,
-        opens: bool,
-    },
-    Volta {
-        first: u8,
-        passes: u32,
-    },
-    Unit(u32),
-    Meter {
-        top: u8,
-        bottom: u8,
-    },
-    Key {
-        fifths: u8,
-        minor: bool,
-    },
-    Field,
-    Chord {
-        place: usize,
-        count: usize,
-        length: Length,
-        tie: bool,
-        slur: bool,
-    },
-    Rest {
-        kind: u8,
-        length: Length,
-    },
-    Note {
-        pitch: Pitch,
-        length: Length,
-        tie: bool,
-        slur: bool,
-    },
-    Nothing,
-    Skipped,
-    Refused(u8),
-}
-
-// A token and the position after it.
-#[derive(Clone, Copy)]
-pub struct Tokenised {
-    pub token: Token,
-    pub next: usize,
-}
-
-// What the scan wants of a token: a note counted, a refusal by its number, L set, M set; or nothing.
+// What the scan wants of a token: a note counted, a refusal, L set, M set; or nothing.
 #[derive(Clone, Copy)]
 pub enum Effect {
     Counts,
-    Refuses(u8),
+    Refuses(Refusal),
     SetsUnit(u32),
     SetsMeter { top: u8, bottom: u8 },
     NoEffect,
 }
 
-#[derive(Clone, Copy)]
-pub struct Effected {
-    pub effect: Effect,
-    pub next: usize,
-}
-
 // The token at `at` as it stands there, by the class of its first byte.
-fn lexeme_at(edition: Edition, line: &[u8], at: usize, class: u8) -> Cut
-    requires { (at < length line.now) × (class ≡ class_code (class_of (get_or line.now at 0))) }
+fn lexeme_at(edition: Edition, line: &[u8], at: usize, class: Class) -> Read<Token<Fraction>>
+    requires { (at < length line.now) × (class ≡ class_for (class_of (get_or line.now at 0))) }
     ensures { result ≡ cut_for at (token_of edition (drop at line.now)) }
 {
     match class {
-        token_symbols::WHITE => Cut {
-            lexeme: Lexeme::Space,
+        Class::Skip => Read {
+            value: Token::Skipped,
             next: at + 1,
         },
-        token_symbols::AMPERSAND => Cut {
-            lexeme: Lexeme::Overlay,
+        Class::White => Read {
+            value: Token::Space,
             next: at + 1,
         },
-        token_symbols::QUOTE => token_lexemes::quoted_text(line, at),
-        token_symbols::MORE => token_lexemes::broken(line, at, b'>', true),
-        token_symbols::LESS => token_lexemes::broken(line, at, b'<', false),
-        token_symbols::PAREN => token_lexemes::tuplet_or_slur(edition, line, at),
-        token_symbols::BRACE_OPEN => Cut {
-            lexeme: Lexeme::GraceOpen,
+        Class::Ampersand => Read {
+            value: Token::Overlay,
             next: at + 1,
         },
-        token_symbols::BRACE_CLOSE => Cut {
-            lexeme: Lexeme::GraceClose,
+        Class::Quote => token_lexemes::quoted_text(line, at),
+        Class::More => token_lexemes::broken(line, at, b'>', true),
+        Class::Less => token_lexemes::broken(line, at, b'<', false),
+        Class::Paren => token_lexemes::tuplet_or_slur(edition, line, at),
+        Class::BraceOpen => Read {
+            value: Token::GraceOpen,
             next: at + 1,
         },
-        token_symbols::BANG => token_lexemes::decoration(line, at, b'!'),
-        token_symbols::PLUS => token_lexemes::decoration(line, at, b'+'),
-        token_symbols::BARS => token_lexemes::bar_line(line, at),
-        token_symbols::BRACKET => token_brackets::bracket(edition, line, at),
-        token_symbols::REST => token_lexemes::rest(edition, line, at, 1),
-        token_symbols::INVISIBLE_REST => token_lexemes::rest(edition, line, at, 2),
-        token_symbols::BAR_REST => token_lexemes::rest(edition, line, at, 3),
-        token_symbols::INVISIBLE_BAR_REST => token_lexemes::rest(edition, line, at, 4),
-        token_symbols::PITCHED => token_lexemes::note(edition, line, at),
-        _ => Cut {
-            lexeme: Lexeme::Skipped,
+        Class::BraceClose => Read {
+            value: Token::GraceClose,
             next: at + 1,
         },
+        Class::Bang => token_lexemes::decoration(line, at, b'!'),
+        Class::Plus => token_lexemes::decoration(line, at, b'+'),
+        Class::Bars => token_lexemes::bar_line(line, at),
+        Class::Bracket => token_brackets::bracket(edition, line, at),
+        Class::Rest => token_lexemes::rest(edition, line, at, NoteKind::Rest),
+        Class::InvisibleRest => token_lexemes::rest(edition, line, at, NoteKind::InvisibleRest),
+        Class::BarRest => token_lexemes::rest(edition, line, at, NoteKind::BarRest),
+        Class::InvisibleBarRest => token_lexemes::rest(
+            edition,
+            line,
+            at,
+            NoteKind::InvisibleBarRest,
+        ),
+        Class::Pitched => token_lexemes::note(edition, line, at),
     }
 }
 
-// A token with the written value of its length; Z and X are a whole bar.
-fn valued(lexeme: Lexeme, unit: u32) -> Token
-    ensures { result ≡ valued_for unit lexeme }
+// The written value of a length of the unit 1 / `unit`.
+fn written(length: Fraction, unit: u32) -> Length
+    ensures { result ≡ value_for unit length }
 {
-    match lexeme {
-        Lexeme::Space => Token::Space,
-        Lexeme::Overlay => Token::Overlay,
-        Lexeme::Quoted => Token::Quoted,
-        Lexeme::Broken { up, count } => Token::Broken { up, count },
-        Lexeme::Tuplet {
+    token_values::abc_note_value(unit, length.num, length.den)
+}
+
+// The length of a rest: Z and X are a whole bar.
+fn rest_length(kind: NoteKind, length: Fraction, unit: u32) -> Length
+    ensures { result ≡ kind_length unit kind length }
+{
+    match kind {
+        NoteKind::BarRest => Length::WholeBar(0),
+        NoteKind::InvisibleBarRest => Length::WholeBar(0),
+        _ => written(length, unit),
+    }
+}
+
+// A token with the written value of its length.
+fn valued(token: Token<Fraction>, unit: u32) -> Token<Length>
+    ensures { result ≡ valued_for unit token }
+{
+    match token {
+        Token::Space => Token::Space,
+        Token::Overlay => Token::Overlay,
+        Token::Quoted => Token::Quoted,
+        Token::Broken { up, count } => Token::Broken { up, count },
+        Token::Tuplet {
             actual,
             normal,
             count,
@@ -158,87 +110,74 @@ fn valued(lexeme: Lexeme, unit: u32) -> Token
             normal,
             count,
         },
-        Lexeme::Slur => Token::Slur,
-        Lexeme::GraceOpen => Token::GraceOpen,
-        Lexeme::GraceClose => Token::GraceClose,
-        Lexeme::Decoration => Token::Decoration,
-        Lexeme::Barline { right, left, opens } => Token::Barline { right, left, opens },
-        Lexeme::Volta { first, passes } => Token::Volta { first, passes },
-        Lexeme::Unit(den) => Token::Unit(den),
-        Lexeme::Meter { top, bottom } => Token::Meter { top, bottom },
-        Lexeme::Key { fifths, minor } => Token::Key { fifths, minor },
-        Lexeme::Field => Token::Field,
-        Lexeme::Chord {
+        Token::Slur => Token::Slur,
+        Token::GraceOpen => Token::GraceOpen,
+        Token::GraceClose => Token::GraceClose,
+        Token::Decoration => Token::Decoration,
+        Token::Barline { right, left, opens } => Token::Barline { right, left, opens },
+        Token::Volta { first, passes } => Token::Volta { first, passes },
+        Token::Unit(den) => Token::Unit(den),
+        Token::Meter { top, bottom } => Token::Meter { top, bottom },
+        Token::Key { fifths, minor } => Token::Key { fifths, minor },
+        Token::Field => Token::Field,
+        Token::Chord {
             place,
             count,
-            num,
-            den,
+            length,
             tie,
             slur,
         } => Token::Chord {
             place,
             count,
-            length: token_values::abc_note_value(unit, num, den),
+            length: written(length, unit),
             tie,
             slur,
         },
-        Lexeme::Rest { kind, num, den } => {
-            if kind < 3 {
-                return Token::Rest {
-                    kind,
-                    length: token_values::abc_note_value(unit, num, den),
-                };
-            }
-            Token::Rest {
-                kind,
-                length: Length::WholeBar(0),
-            }
-        }
-        Lexeme::Note {
+        Token::Rest { kind, length } => Token::Rest {
+            kind,
+            length: rest_length(kind, length, unit),
+        },
+        Token::Note {
             pitch,
-            num,
-            den,
+            length,
             tie,
             slur,
         } => Token::Note {
             pitch,
-            length: token_values::abc_note_value(unit, num, den),
+            length: written(length, unit),
             tie,
             slur,
         },
-        Lexeme::Nothing => Token::Nothing,
-        Lexeme::Skipped => Token::Skipped,
-        Lexeme::Refused(number) => Token::Refused(number),
+        Token::Nothing => Token::Nothing,
+        Token::Skipped => Token::Skipped,
+        Token::Refused(refusal) => Token::Refused(refusal),
     }
 }
 
 // A token with the written value of its length, and the position after it. Most are notes: these are looked for first.
-fn tokenise(cut: Cut, unit: u32) -> Tokenised
-    ensures { result ≡ tokenised_in unit cut }
+fn tokenise(read: Read<Token<Fraction>>, unit: u32) -> Read<Token<Length>>
+    ensures { result ≡ tokenised_in unit read }
 {
-    let lexeme = cut.lexeme;
-    let next = cut.next;
-    let Lexeme::Note {
+    let Token::Note {
         pitch,
-        num,
-        den,
+        length,
         tie,
         slur,
-    } = lexeme
+    } = read.value
     else {
-        return Tokenised {
-            token: valued(lexeme, unit),
-            next,
+        return Read {
+            value: valued(read.value, unit),
+            next: read.next,
         };
     };
-    Tokenised {
-        token: Token::Note {
+    Read {
+        value: Token::Note {
             pitch,
-            length: token_values::abc_note_value(unit, num, den),
+            length: written(length, unit),
             tie,
             slur,
         },
-        next,
+        next: read.next,
     }
 }
 
@@ -249,178 +188,118 @@ pub fn token_at(
     line: &[u8],
     at: usize,
     unit: u32,
-    classes: &[u8; 128],
-) -> Tokenised
-    requires { (at < length line.now) × (classes.now ≡ class_table) }
-    ensures { result ≡ tokenised_for at unit (token_of edition (drop at line.now)) }
+    classes: &Classes,
+) -> Read<Token<Length>>
+    requires { at < length line.now }
+    ensures token { result ≡ tokenised_for at unit (token_of edition (drop at line.now)) }
+    ensures number { IsNumbered (token_of edition (drop at line.now)).token }
 {
-    let class = token_symbols::class_of(classes, line[at]);
-    if class == token_symbols::PITCHED {
-        return tokenise(token_lexemes::note(edition, line, at), unit);
-    }
-    if class == token_symbols::WHITE {
-        return Tokenised {
-            token: Token::Space,
+    match token_symbols::class_of(classes, line[at]) {
+        Class::Pitched => tokenise(token_lexemes::note(edition, line, at), unit),
+        Class::White => Read {
+            value: Token::Space,
             next: at + 1,
-        };
+        },
+        class => tokenise(lexeme_at(edition, line, at, class), unit),
     }
-    tokenise(lexeme_at(edition, line, at, class), unit)
 }
 
-fn effect_of(lexeme: Lexeme) -> Effect
-    ensures { result ≡ effect_in lexeme }
+fn effect_of(token: Token<Fraction>) -> Effect
+    ensures { result ≡ effect_in token }
 {
-    match lexeme {
-        Lexeme::Space => Effect::NoEffect,
-        Lexeme::Overlay => Effect::NoEffect,
-        Lexeme::Quoted => Effect::NoEffect,
-        Lexeme::Broken { up: _, count: _ } => Effect::NoEffect,
-        Lexeme::Tuplet {
-            actual: _,
-            normal: _,
-            count: _,
-        } => Effect::NoEffect,
-        Lexeme::Slur => Effect::NoEffect,
-        Lexeme::GraceOpen => Effect::NoEffect,
-        Lexeme::GraceClose => Effect::NoEffect,
-        Lexeme::Decoration => Effect::NoEffect,
-        Lexeme::Barline {
-            right: _,
-            left: _,
-            opens: _,
-        } => Effect::NoEffect,
-        Lexeme::Volta {
-            first: _,
-            passes: _,
-        } => Effect::NoEffect,
-        Lexeme::Unit(den) => Effect::SetsUnit(den),
-        Lexeme::Meter { top, bottom } => Effect::SetsMeter { top, bottom },
-        Lexeme::Key {
-            fifths: _,
-            minor: _,
-        } => Effect::NoEffect,
-        Lexeme::Field => Effect::NoEffect,
-        Lexeme::Chord {
-            place: _,
-            count: _,
-            num: _,
-            den: _,
-            tie: _,
-            slur: _,
-        } => Effect::Counts,
-        Lexeme::Rest {
-            kind: _,
-            num: _,
-            den: _,
-        } => Effect::Counts,
-        Lexeme::Note {
-            pitch: _,
-            num: _,
-            den: _,
-            tie: _,
-            slur: _,
-        } => Effect::Counts,
-        Lexeme::Nothing => Effect::NoEffect,
-        Lexeme::Skipped => Effect::NoEffect,
-        Lexeme::Refused(number) => Effect::Refuses(number),
+    match token {
+        Token::Unit(den) => Effect::SetsUnit(den),
+        Token::Meter { top, bottom } => Effect::SetsMeter { top, bottom },
+        Token::Chord { .. } => Effect::Counts,
+        Token::Rest { .. } => Effect::Counts,
+        Token::Note { .. } => Effect::Counts,
+        Token::Refused(refusal) => Effect::Refuses(refusal),
+        _ => Effect::NoEffect,
     }
 }
 
 // What the scan wants of a note from its letter on, which stands at `at`: its end alone is sought, and most lengths have one byte.
-fn letter_effect(edition: Edition, line: &[u8], at: usize) -> Effected
+fn letter_effect(edition: Edition, line: &[u8], at: usize) -> Read<Effect>
     requires { at < length line.now }
     ensures { result ≡ effected_for at (note_as edition (record { sign = none; used = 0 }) (get_or line.now at 0) (drop (at + 1) line.now)) }
 {
     let behind = text_bytes::byte_at(line, at + 1);
     if token_lexemes::is_plain(behind) {
-        return Effected {
-            effect: Effect::Counts,
+        return Read {
+            value: Effect::Counts,
             next: at + 1,
         };
     }
     if token_lexemes::is_short(behind, text_bytes::byte_at(line, at + 2)) {
-        return Effected {
-            effect: Effect::Counts,
+        return Read {
+            value: Effect::Counts,
             next: at + 2,
         };
     }
     let letter = token_pitches::abc_note_char(line[at]);
-    let token_pitches::Octave::At {
-        octave: _,
-        next: after_octave,
-    } = token_pitches::octave_marks(line, at + 1, letter.octave)
-    else {
-        return Effected {
-            effect: Effect::Refuses(12),
+    let Ok(octave) = token_pitches::octave_marks(line, at + 1, letter.octave) else {
+        return Read {
+            value: Effect::Refuses(Refusal::Octave),
             next: line.len(),
         };
     };
-    let token_suffixes::Suffix::Read {
-        num: _,
-        den: _,
-        next: after_length,
-    } = token_suffixes::parse_duration_suffix(edition, line, after_octave)
-    else {
-        return Effected {
-            effect: Effect::Refuses(22),
+    let Ok(suffix) = token_suffixes::parse_duration_suffix(edition, line, octave.next) else {
+        return Read {
+            value: Effect::Refuses(Refusal::ManySlashes),
             next: line.len(),
         };
     };
-    let annotations = text_runs::apply_abc_note_annotations(line, after_length);
-    Effected {
-        effect: Effect::Counts,
+    let annotations = text_runs::apply_abc_note_annotations(line, suffix.next);
+    Read {
+        value: Effect::Counts,
         next: annotations.next,
     }
 }
 
 // What the scan wants of a note with its accidentals.
-fn note_effect(edition: Edition, line: &[u8], at: usize) -> Effected
+fn note_effect(edition: Edition, line: &[u8], at: usize) -> Read<Effect>
     requires { at < length line.now }
     ensures { result ≡ effected_for at (note_of edition (drop at line.now)) }
 {
     let before = token_pitches::accidental_before(line, at);
     let place = before.next;
     if line.len() <= place {
-        return Effected {
-            effect: Effect::NoEffect,
+        return Read {
+            value: Effect::NoEffect,
             next: place,
         };
     }
     if token_pitches::is_letter(line[place]) {
         return letter_effect(edition, line, place);
     }
-    Effected {
-        effect: Effect::NoEffect,
+    Read {
+        value: Effect::NoEffect,
         next: place + 1,
     }
 }
 
-// What the scan wants of the token at `at`: no written value is sought, and of a note, white space or a byte that means nothing no lexeme is made.
-pub fn effect_at(edition: Edition, line: &[u8], at: usize, classes: &[u8; 128]) -> Effected
-    requires { (at < length line.now) × (classes.now ≡ class_table) }
-    ensures { result ≡ effected_for at (token_of edition (drop at line.now)) }
+// What the scan wants of the token at `at`: no written value is sought, and of a note, white space or a byte that means nothing no token is made.
+pub fn effect_at(edition: Edition, line: &[u8], at: usize, classes: &Classes) -> Read<Effect>
+    requires { at < length line.now }
+    ensures effect { effect_as result.value ≡ effect_of (token_of edition (drop at line.now)).token }
+    ensures next { result.next ≡ at + (token_of edition (drop at line.now)).used }
 {
-    let class = token_symbols::class_of(classes, line[at]);
-    if class == token_symbols::PITCHED {
-        return note_effect(edition, line, at);
-    }
-    if class == token_symbols::WHITE {
-        return Effected {
-            effect: Effect::NoEffect,
+    match token_symbols::class_of(classes, line[at]) {
+        Class::Pitched => note_effect(edition, line, at),
+        Class::White => Read {
+            value: Effect::NoEffect,
             next: at + 1,
-        };
-    }
-    if class == token_symbols::SKIP {
-        return Effected {
-            effect: Effect::NoEffect,
+        },
+        Class::Skip => Read {
+            value: Effect::NoEffect,
             next: at + 1,
-        };
-    }
-    let cut = lexeme_at(edition, line, at, class);
-    let lexeme = cut.lexeme;
-    let next = cut.next;
-    Effected {
-        effect: effect_of(lexeme),
-        next,
+        },
+        class => {
+            let read = lexeme_at(edition, line, at, class);
+            Read {
+                value: effect_of(read.value),
+                next: read.next,
+            }
+        }
     }
 }

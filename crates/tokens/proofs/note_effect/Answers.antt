@@ -23,8 +23,8 @@ returns-then-is_letter c =
     let place = before.next in
     let line = a.line.now in
     c.letter_effect.ensures
-    ∙ marked a.edition place none (sign_of before.sign) (get_or line place 0) (drop (place + 1) line)
-    ∙ sym (effected place (note_as a.edition (record { sign = sign_of before.sign; used = 0 }) (get_or line place 0) (drop (place + 1) line)))
+    ∙ marked a.edition place none (sign_of before.value) (get_or line place 0) (drop (place + 1) line)
+    ∙ sym (effected place (note_as a.edition (record { sign = sign_of before.value; used = 0 }) (get_or line place 0) (drop (place + 1) line)))
     ∙ ap effected_in (note_letter a.edition line a.at before c.accidental_before-before.ensures c.if-line-place.false (sym c.is_letter.ensures ∙ c.if-is_letter.true))
     ∙ effected a.at (note_of a.edition (drop a.at line))
 

@@ -7,4 +7,4 @@ returns-in_default c = rw c.valued.ensures
 
 pub returns : goal.returns
 unfolding valued_for
-returns c = rw (c.in-Note.is, c.abc_note_value.ensures)
+returns c = rw (c.in-Note.is, c.written.ensures)

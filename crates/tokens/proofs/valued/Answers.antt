@@ -1,11 +1,6 @@
 -- `tokens::valued` meets its contract.
-use borrow.Author.Tests.{lt-ltb, le-ltb}
 use Rattle.tokens.specs.Tokens.{valued_for}
 use Rattle.tokens.proofs.valued.Goals as goal
-
-pub returns-then-kind-lt3 : goal.returns-then-kind-lt3
-unfolding valued_for
-returns-then-kind-lt3 c = rw (c.in-Rest.is, c.abc_note_value-then-kind-lt3.ensures, lt-ltb _ 3 c.if-kind-lt3.true)
 
 pub returns-in-Space : goal.returns-in-Space
 unfolding valued_for
@@ -69,15 +64,15 @@ returns-in-Field c = rw c.in-Field.is
 
 pub returns-in-Chord : goal.returns-in-Chord
 unfolding valued_for
-returns-in-Chord c = rw (c.in-Chord.is, c.abc_note_value.ensures)
+returns-in-Chord c = rw (c.in-Chord.is, c.written.ensures)
 
-pub returns-else-kind-lt3 : goal.returns-else-kind-lt3
+pub returns-in-Rest : goal.returns-in-Rest
 unfolding valued_for
-returns-else-kind-lt3 c = rw (c.in-Rest.is, le-ltb _ 3 c.if-kind-lt3.false)
+returns-in-Rest c = rw (c.in-Rest.is, c.rest_length.ensures)
 
 pub returns-in-Note : goal.returns-in-Note
 unfolding valued_for
-returns-in-Note c = rw (c.in-Note.is, c.abc_note_value-in-Note.ensures)
+returns-in-Note c = rw (c.in-Note.is, c.written-in-Note.ensures)
 
 pub returns-in-Nothing : goal.returns-in-Nothing
 unfolding valued_for
