@@ -124,9 +124,9 @@ unfolding trimmed
 joined_trimmed ws a = ap trim_end (start_stays (joined ws) (joined_first ws a)) ∙ joined_end ws a
 
 -- THE KEY of a value: its words passed, those that stay in the key text
-pub key_of_lem : (value : List ℕ) → key_by (foldl pass_kept unpassed (field_words value)) ≡ key_of First value
+pub key_of_words : (value : List ℕ) → key_by (foldl pass_kept unpassed (field_words value)) ≡ key_of First value
 unfolding key_of key_text pass_kept
-key_of_lem value =
+key_of_words value =
     let ws = filter is_key_word (field_words value) in
     let a : All IsWord ws = All-filter is_key_word IsWord (field_words value) (words_are value) in
     ap key_by

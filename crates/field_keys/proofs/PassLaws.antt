@@ -99,14 +99,14 @@ pass_ended p (c ∷ s) = pass_ended (pass_byte p c (starts_with (ascii "min") (m
 
 -- THE KEY
 -- on the tonic of a name
-key_named_lem : (m : Bool) (s : List ℕ) → key_named m (name_of s) ≡ named m (trimmed s)
+key_of_name : (m : Bool) (s : List ℕ) → key_named m (name_of s) ≡ named m (trimmed s)
 unfolding key_named named
-key_named_lem m s = rw (name_tonic s)
+key_of_name m s = rw (name_tonic s)
 
 major_same : (k : List ℕ) (o : maths.Option (List ℕ)) → trimmed k ≡ k → major_else (found_in None Empty o) (name_of k) ≡ major_of k o
 unfolding major_else major_of found_in
-major_same k (some r) t = key_named_lem false r
-major_same k none t = key_named_lem false k ∙ ap (named false) t
+major_same k (some r) t = key_of_name false r
+major_same k none t = key_of_name false k ∙ ap (named false) t
 
 -- a capital first and m last
 capital : (c : ℕ) (s : List ℕ) → is_space c ≡ false → is "m" (last (c ∷ s)) ≡ true
@@ -126,7 +126,7 @@ with_m : (c : ℕ) (s : List ℕ) → is_space c ≡ false → trimmed (c ∷ s)
 unfolding ended_else minor_or
 with_m c s q t e =
     let one : length (c ∷ s) - 1 ≡ length s = omega arith in
-    by_test (ends_in_m (c ∷ s)) (λ z. rw (capital c s q e ∙ z, z, minor_or) (rw one (key_named_lem true (take (length s) (c ∷ s)))))
+    by_test (ends_in_m (c ∷ s)) (λ z. rw (capital c s q e ∙ z, z, minor_or) (rw one (key_of_name true (take (length s) (c ∷ s)))))
     (λ z. rw (capital c s q e ∙ z, z, minor_or) (major_same (c ∷ s) (before_word (ascii "maj") (c ∷ s)) t))
 
 ended_same : (c : ℕ) (s : List ℕ) → is_space c ≡ false → trimmed (c ∷ s) ≡ c ∷ s
@@ -139,7 +139,7 @@ ended_same c s q t =
 minor_same : (k : List ℕ) (o : maths.Option (List ℕ)) → is_space (first k) ≡ false → trimmed k ≡ k
     → key_else (found_in None Empty o) (ended_in None Empty k) (found_in None Empty (before_word (ascii "maj") k)) (name_of k) ≡ minor_or k o
 unfolding key_else ended_else minor_or found_in ended_in ends_in_m
-minor_same k (some r) q t = key_named_lem true r
+minor_same k (some r) q t = key_of_name true r
 minor_same [] none q t = major_same [] (before_word (ascii "maj") []) t
 minor_same (c ∷ s) none q t = ended_same c s q t
 

@@ -1,5 +1,8 @@
 -- The loops of `pass_word` and `parse_key`: what is left, after what was passed, gives what the whole gives.
-use Prim.Native.Nat.{ℕ, ◌+◌, ◌≤◌, ◌<◌}
+use Prim.Native.Nat.{ℕ, zero, suc, ◌+◌, ◌≤◌, ◌<◌}
+use denote.Ref.{Bor}
+use native.Mathlib.Nat.{suc-add}
+use native.Mathlib.Omega.{arith}
 use mathlib.Core.Path.{◌≡◌, refl, ap}
 use mathlib.Core.Bool.{Bool, true, false, ◌||◌}
 use Rattle.std.specs.Prelude.{Option, Some, None, unwrap_or}
@@ -13,11 +16,11 @@ use mathlib.Core.List.{List, [], ◌∷◌, map}
 use lib.Dec.{eqb}
 use Rattle.std.specs.List.{list_any}
 use lib.ListN.{length, get_or, drop, drop_of_length-le}
-use Rattle.laws.specs.Lists.{starts_with, any, foldl}
+use Rattle.laws.specs.Lists.{starts_with, any, foldl, elem, eq_text}
 use Rattle.laws.proofs.Lists.{drop_next}
 use Rattle.standard.specs.Bytes.{ascii, lower}
 use Rattle.field_keys.specs.declared.Passed.{Passed}
-use Rattle.field_keys.specs.Passed.{pass_byte, pass_text, pass_word, pass_kept, first_found, key_named, major_else}
+use Rattle.field_keys.specs.Passed.{pass_byte, pass_text, pass_word, pass_kept, texts, first_found, key_named, major_else}
 
 -- A BYTE at k
 pub pass_on : (p : Passed) (s : List ℕ) (k : ℕ) → k < length s
@@ -65,3 +68,21 @@ left_out p w e = rw e
 pub walk_on : (t word behind : List ℕ) (p q r : Passed) → FirstWord t word behind → q ≡ pass_kept p word → foldl pass_kept p (field_words t) ≡ r
     → foldl pass_kept q (field_words behind) ≡ r
 walk_on t word behind p q r f e h = rw e (rw f.words at h)
+
+-- A TEXT in a list of slices: found there, further on, or nowhere
+pub texts_here : (v : List ℕ) (bs : List (Bor (List ℕ))) (i : ℕ) (d : Bor (List ℕ)) → i < length bs → eq_text (get_or bs i d).now v ≡ true → elem v (drop i (texts bs)) ≡ true
+texts_here v [] i d h e = absurd (omega arith)
+texts_here v (b ∷ bs) zero d h e = rw e
+texts_here v (b ∷ bs) (suc i) d h e = texts_here v bs i d (omega arith) e
+
+pub texts_on : (v : List ℕ) (bs : List (Bor (List ℕ))) (i : ℕ) (d : Bor (List ℕ)) → i < length bs → eq_text (get_or bs i d).now v ≡ false
+    → elem v (drop i (texts bs)) ≡ elem v (drop (i + 1) (texts bs))
+texts_on v [] i d h e = absurd (omega arith)
+texts_on v (b ∷ bs) zero d h e = rw e
+texts_on v (b ∷ bs) (suc i) d h e = rw (suc-add i 1) (texts_on v bs i d (omega arith) e)
+
+pub texts_end : (v : List ℕ) (bs : List (Bor (List ℕ))) (i : ℕ) → length bs ≤ i → elem v (drop i (texts bs)) ≡ false
+texts_end v [] zero h = refl
+texts_end v [] (suc i) h = refl
+texts_end v (b ∷ bs) zero h = absurd (omega arith)
+texts_end v (b ∷ bs) (suc i) h = texts_end v bs i (omega arith)

@@ -1,5 +1,6 @@
 -- A key text passed byte by byte: what was met in it, and the key that this makes.
 use Rattle.std.specs.Prelude.{ℕ, Bool, true, false, cond, List, [], ◌∷◌, map, eqb, Option, Some, None}
+use denote.Ref.{Bor}
 use Rattle.laws.specs.Lists.{starts_with}
 use Rattle.standard.specs.Bytes.{ascii, lower, is_capital}
 use Rattle.standard.specs.Keys.{Key as StandardKey}
@@ -13,6 +14,11 @@ use Rattle.field_keys.specs.declared.Passed.{Passed}
 -- a key as the definitions have it
 abbrev pub key_as : Key → StandardKey
 key_as k = record { fifths = k.fifths; minor = k.minor }
+
+-- the texts that slices hold
+abbrev pub texts : List (Bor (List ℕ)) → List (List ℕ)
+texts [] = []
+texts (b ∷ bs) = b.now ∷ texts bs
 
 -- the first of what was met before and what stands here
 unfoldable pub first_found : Option Name → Bool → Name → Option Name

@@ -7,8 +7,8 @@ ghost use Rattle.std.specs.Prelude.{◌≡◌, map};
 ghost use Rattle.laws.specs.Lists.{elem};
 ghost use Rattle.standard.specs.Bytes.{lower};
 ghost use Rattle.editions.specs.declared.Edition.TheVariants.{First};
-ghost use Rattle.reader.specs.Keys.{clefs, is_key_word, key_of};
-ghost use Rattle.field_keys.specs.Passed.{key_as, pass_byte, pass_word, key_named, key_by};
+ghost use Rattle.reader.specs.Keys.{is_key_word, key_of};
+ghost use Rattle.field_keys.specs.Passed.{key_as, pass_byte, pass_word, texts, key_named, key_by};
 
 use field_tonics::Name;
 
@@ -55,39 +55,38 @@ fn pass_word(p: Passed, word: &[u8]) -> Passed
     passed
 }
 
-// The word is one of the seven clefs, in any case.
-fn is_clef(word: &[u8]) -> bool
-    ensures { result ≡ elem (map lower word.now) clefs }
+// The seven clefs.
+const CLEFS: [&[u8]; 7] = [
+    b"treble",
+    b"bass",
+    b"alto",
+    b"tenor",
+    b"soprano",
+    b"mezzosoprano",
+    b"baritone",
+];
+
+// The word is one of the names, small letters, in any case.
+fn is_one_of(word: &[u8], names: [&[u8]; 7]) -> bool
+    ensures { result ≡ elem (map lower word.now) (texts names.entry) }
 {
-    if text_names::is_named(word, b"treble") {
-        return true;
+    for name in names {
+        if text_names::is_named(word, name) {
+            return true;
+        }
     }
-    if text_names::is_named(word, b"bass") {
-        return true;
-    }
-    if text_names::is_named(word, b"alto") {
-        return true;
-    }
-    if text_names::is_named(word, b"tenor") {
-        return true;
-    }
-    if text_names::is_named(word, b"soprano") {
-        return true;
-    }
-    if text_names::is_named(word, b"mezzosoprano") {
-        return true;
-    }
-    text_names::is_named(word, b"baritone")
+    false
 }
 
 // The word stays in the key text: it has no equals sign and is no clef.
 pub fn is_key_word(word: &[u8]) -> bool
     ensures { result ≡ is_key_word word.now }
 {
-    !word.contains(&b'=') && !is_clef(word)
+    !word.contains(&b'=') && !is_one_of(word, CLEFS)
 }
 
 // The key on a tonic.
+#[tactic(auto, unfolding(crate::specs::Passed::key_named))]
 fn key_named(minor: bool, name: Name) -> Key
     ensures { key_as result ≡ key_named minor name }
 {

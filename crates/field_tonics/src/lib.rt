@@ -152,36 +152,17 @@ const MINOR: [KeyName; 15] = [
 ];
 
 // One byte more.
-pub fn with_byte(n: Name, c: u8) -> Name
-    ensures { result ≡ with_byte n c }
+#[tactic(auto, unfolding(crate::specs::Names::with_byte))]
+pub fn with_byte(name: Name, c: u8) -> Name
+    ensures { result ≡ with_byte name c }
 {
     let space = text_bytes::is_space(c);
-    match n {
-        Name::Empty => {
-            if space {
-                return Name::Empty;
-            }
-            Name::One(c)
-        }
-        Name::One(f) => {
-            if space {
-                return Name::Gap(f);
-            }
-            Name::Two(f, c)
-        }
-        Name::Gap(f) => {
-            if space {
-                return Name::Gap(f);
-            }
-            Name::Long(f)
-        }
-        Name::Two(f, s) => {
-            if space {
-                return Name::Two(f, s);
-            }
-            Name::Long(f)
-        }
-        Name::Long(f) => Name::Long(f),
+    match name {
+        Name::Empty => if space { name } else { Name::One(c) },
+        Name::One(f) => if space { Name::Gap(f) } else { Name::Two(f, c) },
+        Name::Gap(f) => if space { name } else { Name::Long(f) },
+        Name::Two(f, _) => if space { name } else { Name::Long(f) },
+        Name::Long(_) => name,
     }
 }
 
