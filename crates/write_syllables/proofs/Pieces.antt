@@ -1,11 +1,10 @@
 -- What is written for syllables, as the writers go through them.
-use Prim.Native.Nat.{ℕ, zero, suc, ◌+◌, ◌-◌, ◌*◌, ◌/◌, ◌%◌, ◌≤◌, ◌<◌, min, max}
+use Prim.Native.Nat.{ℕ, ◌+◌, ◌-◌, ◌*◌, ◌/◌, ◌%◌, ◌≤◌, ◌<◌, min, max}
 use mathlib.Core.Path.{◌≡◌, refl, sym, ap, subst, ◌∙◌}
 use mathlib.Core.Bool.{Bool, false}
 use mathlib.Core.List.{List, [], ◌∷◌, ◌++◌, append_assoc, append-nil}
 use native.Mathlib.Decide.{dec_lt}
 use native.Mathlib.Omega.{arith}
-use lib.Dec.{eqb}
 use borrow.Author.Tests.{eq-eqb, ne_eqb}
 use lib.ListN.{length, get_or, set, length-append, length-map, get_or-eq_default}
 use Rattle.laws.specs.Bytes.{part, between, splice, le32}
@@ -47,19 +46,6 @@ low_bytes v =
   where
     low : (a x y : ℕ) → y ≡ a * 256 + x → x % 256 ≡ y % 256
     low a x y e = omega arith
-
-pub code_low : (c : ℕ) → c < 3 → c ≡ syllabic_code (as_syllabic c)
-unfolding syllabic_code as_syllabic
-code_low zero h = refl
-code_low (suc zero) h = refl
-code_low (suc (suc zero)) h = refl
-code_low (suc (suc (suc c))) h = absurd (omega arith)
-
-pub code_high : (c : ℕ) → 3 ≤ c → 3 ≡ syllabic_code (as_syllabic c)
-unfolding syllabic_code as_syllabic
-code_high c h =
-    let no : (k : ℕ) → k < 3 → eqb c k ≡ false = λ k l. ne_eqb c k (λ e. absurd (omega (arith, e))) in
-    rw (no 0 (omega arith), no 1 (omega arith), no 2 (omega arith))
 
 -- A RECORD
 pub length_record : (i : ℕ) (y : Syllable) → length (lyric_bytes i y) ≡ 11

@@ -4,10 +4,8 @@
 ghost use Rattle.std.specs.Prelude.{◌≡◌, true, false, List, [], ◌∷◌, ℕ, ◌+◌, ◌*◌, ◌≤◌, ◌<◌, length, get_or};
 ghost use Rattle.laws.specs.Bytes.{between, splice, le32};
 ghost use Rattle.standard.specs.Lyrics.{syllable_text};
-ghost use Rattle.reader.specs.Codes.{syllabic_code};
 ghost use Rattle.reader.specs.Records.{lyric_bytes};
 ghost use Rattle.store_sections.specs.Writes.{WroteIs};
-ghost use Rattle.lyric_words.specs.Words.{as_syllabic};
 ghost use Rattle.lyrics.specs.Sheet.{syllables_in, lyric_row_width};
 ghost use Rattle.lyric_walk.specs.Walks.{Tables, chain, syllable_is, within, sung_at, window, Gathered};
 ghost use Rattle.write_syllables.specs.Pieces.{piece, pieces};
@@ -21,13 +19,6 @@ pub fn low32(v: usize) -> u32
     ensures { le32 result ≡ le32 v }
 {
     (v % 4294967296) as u32
-}
-
-// A syllabic's number; what is none counts as the last.
-fn syllabic_of(code: u8) -> u8
-    ensures { result ≡ syllabic_code (as_syllabic code) }
-{
-    if code < 3 { code } else { 3 }
 }
 
 // Writes three bytes from `at` on.
@@ -50,7 +41,7 @@ fn write_record(note: usize, f: lyric_walk::Found, to: &mut [u8]) -> Option<usiz
     }
     let index = low32(note);
     let len = low32(f.end - f.at);
-    let code = syllabic_of(f.syllabic);
+    let code = u8::from(f.syllabic);
     let extend = store::one_if(f.extend);
     store::put_u32(to, 0, index);
     put_3(to, 4, f.verse, code, extend);
@@ -132,9 +123,9 @@ fn write_window(
     requires { (log + lyric_row_width * k ≤ length store.now) × (from + window < 18446744073709551616) × Gathered store.now log k from places.now held.now span }
     ensures { WroteIs to.old (pieces texts note (within from (from + window) (chain text.now store.now log k))) to.new result }
 {
-    let end = lyric_walk::lesser(span.most + 1, from + lyric_walk::WINDOW);
+    let end = (span.most + 1).min(from + lyric_walk::WINDOW);
     let mut at = 0;
-    for verse in lyric_walk::greater(span.least, from)..end {
+    for verse in span.least.max(from)..end {
         let place = places[verse - from];
         let extend = held[verse - from];
         at += write_place(text, store, log, place, extend, note, texts, &mut to[at..])?;

@@ -14,7 +14,7 @@ overflow_add-span c = omega (arith, c.requires.2.small)
 pub loop-verse-init : goal.loop-verse-init
 loop-verse-init c =
     let a = c.args in
-    (omega (arith, c.greater-verse.ensures), refl, rw c.greater-verse.ensures (written_as_lem (begin _ _) (window_start a.texts a.note a.text.now a.store.now a.log a.k a.from a.places.now a.held.now a.span c.requires.2)))
+    (omega (arith, c.max-verse.ensures), refl, rw c.max-verse.ensures (written_as_lem (begin _ _) (window_start a.texts a.note a.text.now a.store.now a.log a.k a.from a.places.now a.held.now a.span c.requires.2)))
 
 pub slice_bounds-write_place-count : goal.slice_bounds-write_place-count
 slice_bounds-write_place-count c = omega (arith, (written_in c.loop-verse.invariant.2).0)
@@ -25,7 +25,7 @@ slice_bounds-write_place-start c = omega (arith, (written_in c.loop-verse.invari
 pub write_place-requires : goal.write_place-requires
 write_place-requires c =
     let l = c.loop-verse in
-    omega (arith, c.requires.2.low (l.verse - c.args.from) (omega (arith, c.loop-verse-test.true, c.lesser-end.ensures, l.invariant.0)), c.requires.0)
+    omega (arith, c.requires.2.low (l.verse - c.args.from) (omega (arith, c.loop-verse-test.true, c.min-end.ensures, l.invariant.0)), c.requires.0)
 
 -- no room for a syllable
 pub returns-in_err-at : goal.returns-in_err-at
@@ -34,13 +34,13 @@ returns-in_err-at c =
     let l = c.loop-verse in
     rw c.from_residual.ensures
     (written_none l.invariant.2 c.in_err-at.ensures (pieces a.texts a.note (within (l.verse + 1) (a.from + window) (chain a.text.now a.store.now a.log a.k)))
-    (window_next a.texts a.note a.text.now a.store.now a.log a.k a.from a.places.now a.held.now a.span c.requires.2 l.verse l.invariant.0 (omega (arith, c.loop-verse-test.true, c.lesser-end.ensures))))
+    (window_next a.texts a.note a.text.now a.store.now a.log a.k a.from a.places.now a.held.now a.span c.requires.2 l.verse l.invariant.0 (omega (arith, c.loop-verse-test.true, c.min-end.ensures))))
 
 pub overflow_add-at : goal.overflow_add-at
 overflow_add-at c =
     let a = c.args in
     let l = c.loop-verse in
-    let w = written_on_lem l.invariant.2 c.in_ok-at.ensures (window_next a.texts a.note a.text.now a.store.now a.log a.k a.from a.places.now a.held.now a.span c.requires.2 l.verse l.invariant.0 (omega (arith, c.loop-verse-test.true, c.lesser-end.ensures))) in
+    let w = written_on_lem l.invariant.2 c.in_ok-at.ensures (window_next a.texts a.note a.text.now a.store.now a.log a.k a.from a.places.now a.held.now a.span c.requires.2 l.verse l.invariant.0 (omega (arith, c.loop-verse-test.true, c.min-end.ensures))) in
     omega (arith, w.wrote.says.1, c.well_formed)
 
 -- a verse written
@@ -48,11 +48,11 @@ pub loop-verse-preserved : goal.loop-verse-preserved
 loop-verse-preserved c =
     let a = c.args in
     let l = c.loop-verse in
-    let w = written_on_lem l.invariant.2 c.in_ok-at.ensures (window_next a.texts a.note a.text.now a.store.now a.log a.k a.from a.places.now a.held.now a.span c.requires.2 l.verse l.invariant.0 (omega (arith, c.loop-verse-test.true, c.lesser-end.ensures))) in
+    let w = written_on_lem l.invariant.2 c.in_ok-at.ensures (window_next a.texts a.note a.text.now a.store.now a.log a.k a.from a.places.now a.held.now a.span c.requires.2 l.verse l.invariant.0 (omega (arith, c.loop-verse-test.true, c.min-end.ensures))) in
     (omega arith, (written_in w).1, w)
 
 pub returns : goal.returns
 returns c =
     let a = c.args in
     let l = c.loop-verse in
-    written_all l.invariant.2 (window_end a.texts a.note a.text.now a.store.now a.log a.k a.from a.places.now a.held.now a.span c.requires.2 l.verse (omega (arith, c.loop-verse-test.false, c.lesser-end.ensures)))
+    written_all l.invariant.2 (window_end a.texts a.note a.text.now a.store.now a.log a.k a.from a.places.now a.held.now a.span c.requires.2 l.verse (omega (arith, c.loop-verse-test.false, c.min-end.ensures)))
