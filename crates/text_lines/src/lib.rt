@@ -31,6 +31,7 @@ pub enum Class {
 }
 
 // None of the 16 bytes from `at` on is b. Without an exit the loop takes them all at once.
+#[tactic(auto, using(crate::proofs::Finding::block_next, crate::proofs::Finding::block_end))]
 fn lacks(text: &[u8], at: usize, b: u8) -> bool
     requires { at + 16 ≤ length text.now }
     ensures { result ≡ all (not_byte b) (between text.now at (at + 16)) }
@@ -43,6 +44,7 @@ fn lacks(text: &[u8], at: usize, b: u8) -> bool
 }
 
 // A position at or behind `at`, before which no byte is b: 16 bytes at a time, so a while loop.
+#[tactic(auto, using(crate::proofs::Finding::end_behind))]
 fn pass_without(text: &[u8], at: usize, end: usize, b: u8) -> usize
     requires { (at ≤ end) × (end ≤ length text.now) }
     ensures { (result ≤ end) × (end_in (not_byte b) text.now result end ≡ end_in (not_byte b) text.now at end) }
@@ -78,6 +80,7 @@ pub fn line_end(text: &[u8], at: usize) -> usize
 }
 
 // One byte more, at the position `at`. Where the white space breaks off the byte may begin other white space.
+#[tactic(auto, using(crate::proofs::Cleaning::trim_past, crate::proofs::Cleaning::trim_new, crate::proofs::Cleaning::trim_kept))]
 fn trim_step(t: Trim, b: u8, at: usize) -> Trim
     requires { at < 18446744073709551615 }
     ensures { TrimOn t.q t.end b at result.q result.end }
@@ -123,6 +126,7 @@ fn trim_done(t: Trim, at: usize) -> usize
 }
 
 // The end of the text from `from` to `to` once it is trimmed, in one pass over its bytes.
+#[tactic(auto, using(crate::proofs::Cleaning::trimming_start, crate::proofs::Cleaning::trimming_on))]
 fn trim_bytes(text: &[u8], from: usize, to: usize) -> usize
     requires { (from ≤ to) × (to ≤ length text.now) }
     ensures { TrimEnd text.now from to result }
@@ -164,6 +168,7 @@ pub fn clean_end(text: &[u8], from: usize, to: usize) -> usize
 }
 
 // The line has a byte above 127: its greatest one is. Without an exit the loop takes many bytes at a time.
+#[tactic(auto, using(crate::proofs::LineEnds::high_next, crate::proofs::LineEnds::high_over))]
 pub fn has_high(line: &[u8]) -> bool
     ensures { result ≡ has_high line.now }
 {

@@ -34,6 +34,7 @@ fn with_digit(number: Result<u64, NumberError>, b: u8) -> Result<u64, NumberErro
 }
 
 // The digits at `at` as a number of up to 64 bits, and the position after them.
+#[tactic(auto, using(crate::proofs::Numbers::reading_start, crate::proofs::Numbers::reading_end, crate::proofs::Numbers::reading_over, crate::proofs::Numbers::reading_past), unfolding(crate::specs::Digits::number_at))]
 fn read_digits(line: &[u8], at: usize) -> Read<Result<u64, NumberError>>
     ensures { result ≡ number_at most line.now at }
 {

@@ -44,6 +44,7 @@ pub fn find(line: &[u8], from: usize, to: usize, b: u8) -> usize
 }
 
 // Every `-` and `)` right behind a note (000, apply_abc_note_annotations).
+#[tactic(auto, using(crate::proofs::Behinds::marking_start, crate::proofs::Behinds::marking_other, crate::proofs::Behinds::marking_end))]
 pub fn apply_abc_note_annotations(line: &[u8], at: usize) -> Behind
     ensures { result ≡ behind_for at (behind (drop at line.now)) }
 {

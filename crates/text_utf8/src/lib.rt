@@ -71,6 +71,7 @@ fn is_between(q: Utf8) -> bool
 }
 
 // The text is UTF-8, read byte by byte.
+#[tactic(auto, using(laws::proofs::Lists::foldl_at, laws::proofs::Lists::foldl_end), unfolding(reader::specs::Text::is_utf8))]
 fn reads_utf8(text: &[u8]) -> bool
     ensures { result ≡ is_utf8 text.now }
 {
@@ -82,6 +83,7 @@ fn reads_utf8(text: &[u8]) -> bool
 }
 
 // The text is UTF-8, as ASCII is.
+#[tactic(auto, using(crate::proofs::Ascii::ascii_is_utf8))]
 pub fn is_utf8(text: &[u8]) -> bool
     ensures { result ≡ is_utf8 text.now }
 {

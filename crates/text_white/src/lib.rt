@@ -95,6 +95,7 @@ pub fn is_other(q: White) -> bool
 }
 
 // The text is nothing but white space.
+#[tactic(auto, using(crate::proofs::Whites::other_is_not_blank, laws::proofs::Lists::foldl_at, laws::proofs::Lists::foldl_end), unfolding(reader::specs::Text::is_blank))]
 pub fn is_blank(text: &[u8]) -> bool
     ensures { result ≡ is_blank text.now }
 {
@@ -131,6 +132,7 @@ fn white_len(text: &[u8], at: usize, end: usize) -> usize
 }
 
 // The same. ASCII is answered by one byte. By positions, as the loops of callers have them: a slice for each turn would be no plainer.
+#[tactic(auto, using(crate::proofs::Whites::width_ascii, laws::proofs::Parts::between_first))]
 pub fn white_at(text: &[u8], at: usize, end: usize) -> usize
     requires { (at < end) × (end ≤ length text.now) }
     ensures { result ≡ white_at (between text.now at end) }

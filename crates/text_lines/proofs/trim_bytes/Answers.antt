@@ -5,14 +5,8 @@ use Prim.Native.Nat.{ℕ}
 use native.Mathlib.Omega.{arith}
 use Rattle.text_white.specs.States.{as_white}
 use Rattle.text_lines.specs.Lines.{trim_from}
-use Rattle.text_lines.proofs.Cleaning.{trimming_start, trimming_on, trimming_end}
+use Rattle.text_lines.proofs.Cleaning.{trimming_end}
 use Rattle.text_lines.proofs.trim_bytes.Goals as goal
-
-pub loop-i-init : goal.loop-i-init
-loop-i-init c = trimming_start _ _ _ c.requires.0 c.requires.1
-
-pub loop-i-preserved : goal.loop-i-preserved
-loop-i-preserved c = trimming_on _ _ _ _ _ _ c.loop-i.invariant c.loop-i-test.true _ _ c.trim_byte-t.ensures
 
 pub returns : goal.returns
 returns c =

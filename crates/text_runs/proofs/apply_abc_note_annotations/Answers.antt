@@ -1,6 +1,5 @@
 -- `text_runs::apply_abc_note_annotations` meets its contract. The loop's invariant is `Marking`.
-use Rattle.text_runs.proofs.Behinds.{marking_tie, marking_slur, marking_other, marking_end}
-use borrow.Author.Rules.{rules}
+use Rattle.text_runs.proofs.Behinds.{marking_tie, marking_slur}
 use Rattle.text_runs.proofs.apply_abc_note_annotations.Goals as goal
 use Rattle.text_runs.proofs.apply_abc_note_annotations.Goals.{in-45, in-41}
 
@@ -12,9 +11,3 @@ loop-cursor-preserved c =
       | in-45 w ↦ rw (w.tie-is, w.slur-is) (marking_tie _ _ _ _ _ m h w.in-45.is)
       | in-41 w ↦ rw (w.tie-is, w.slur-is) (marking_slur _ _ _ _ _ m h w.in-41.is)
     ]
-
-pub returns-in_default : goal.returns-in_default
-returns-in_default c = marking_other _ _ _ _ _ c.loop-cursor.invariant c.loop-cursor-test.true (search rules) (search rules)
-
-pub returns : goal.returns
-returns c = rw c.max.ensures (marking_end _ _ _ _ _ c.loop-cursor.invariant c.loop-cursor-test.false c.loop-cursor.auto.cursor-end)
