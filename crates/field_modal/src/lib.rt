@@ -82,6 +82,7 @@ fn modal_key(value: &[u8]) -> Key
 }
 
 // The key has more than seven sharps or flats.
+#[tactic(auto, unfolding(reader::specs::Keys::is_beyond))]
 fn is_beyond(key: Key) -> bool
     ensures { result ≡ is_beyond (key_as key) }
 {

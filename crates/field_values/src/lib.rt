@@ -87,6 +87,7 @@ fn unit_text(value: &[u8]) -> Option<&[u8]>
 }
 
 // A unit of 32 bits.
+#[tactic(auto, unfolding(reader::specs::Fields::unit_number))]
 fn unit_number(text: &[u8]) -> Option<u32>
     ensures { option result ≡ unit_number text.now }
 {
@@ -145,6 +146,7 @@ pub fn has_middle(value: &[u8]) -> bool
 }
 
 // The first edition's K field: refusal 10, else a key.
+#[tactic(auto, unfolding(reader::specs::Fields::key_refusal))]
 fn plain_field(value: &[u8]) -> Result<Key, Refusal>
     ensures { KeyIs First value.now result }
 {
