@@ -24,7 +24,9 @@ use Rattle.part_registers.specs.declared.Counts.{Counts}
 use Rattle.part_registers.specs.declared.Registers.{Registers}
 use Rattle.part_invariant.specs.Invariant.{Room, Represents, RepresentedInLine, Simulates}
 use Rattle.part_invariant.specs.Lines.{RepresentedBetween, RoomForBytes, SimulatesItem}
-use Rattle.tokens.specs.declared.Tokenised.{Tokenised}
+use Rattle.text_bytes.specs.declared.Read.{Read}
+use Rattle.token_lengths.specs.declared.Length.{Length}
+use Rattle.token_lexemes.specs.declared.Token as code
 use Rattle.tokens.specs.Tokens.{tokenised_for}
 use Rattle.tokens.proofs.Chords.{chord_pitches}
 use Rattle.tokens.proofs.Past.{token_past}
@@ -123,7 +125,7 @@ going_start ed line t s r =
     }
 
 -- ONE TOKEN
-module _ (ed : Edition) {line : List ℕ} {t : Tables} {s₀ s : List ℕ} {r₀ r : Registers} {at : ℕ} (b : Begun line t s₀ r₀) (g : Going ed line t s₀ r₀ s r at) (h : at < length line) (e : Tokenised)
+module _ (ed : Edition) {line : List ℕ} {t : Tables} {s₀ s : List ℕ} {r₀ r : Registers} {at : ℕ} (b : Begun line t s₀ r₀) (g : Going ed line t s₀ r₀ s r at) (h : at < length line) (e : Read (code.Token Length))
     (k : e ≡ tokenised_for at r.line.unit (token_of ed (drop at line))) where
   abbrev tok : token.Token
   tok = (token_of ed (drop at line)).token
@@ -152,19 +154,19 @@ module _ (ed : Edition) {line : List ℕ} {t : Tables} {s₀ s : List ℕ} {r₀
       let e = g.holds b.state b.in_line b.represents in
       record { state = e.state; standing = standing e.state e.in_line; represents = e.represents }
 
-  pub going_ready : Ready line t s r e.token
+  pub going_ready : Ready line t s r e.value
   going_ready =
-      subst (λ (x : Tokenised). Ready line t s r x.token) (sym k)
+      subst (λ (x : Read (code.Token Length)). Ready line t s r x.value) (sym k)
       (token_ready line at tok (chord_pitches ed line at) (token_fits_lem ed (drop at line)) room holding)
 
   pub going_past : at < e.next
   going_past = rw k (token_past ed line at h)
 
-  pub going_turn : (s' : List ℕ) (r' : Registers) → SimulatesToken line t s r s' r' e.token → Going ed line t s₀ r₀ s' r' e.next
-  going_turn s' r' a = subst (λ (x : Tokenised). Going ed line t s₀ r₀ s' r' x.next) (sym k) turned
+  pub going_turn : (s' : List ℕ) (r' : Registers) → SimulatesToken line t s r s' r' e.value → Going ed line t s₀ r₀ s' r' e.next
+  going_turn s' r' a = subst (λ (x : Read (code.Token Length)). Going ed line t s₀ r₀ s' r' x.next) (sym k) turned
     where
       does : Simulates t s r s' r' (makes tok).heads (makes tok).notes (makes tok).pitches (makes tok).scopes (λ l. on_token l tok)
-      does = token_simulates line at tok (chord_pitches ed line at) (subst (λ (x : Tokenised). SimulatesToken line t s r s' r' x.token) k a)
+      does = token_simulates line at tok (chord_pitches ed line at) (subst (λ (x : Read (code.Token Length)). SimulatesToken line t s r s' r' x.value) k a)
 
       turned : Going ed line t s₀ r₀ s' r' (at + used)
       turned =

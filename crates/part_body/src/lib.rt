@@ -11,10 +11,18 @@ use editions::Edition;
 use field_keys::Key;
 use part_registers::{Registers, Tables};
 use part_sounds::Deferred;
-use tokens::Token;
+use token_lengths::Length;
+use token_lexemes::Token;
+use token_symbols::{Bar, Tuplet};
 
 // What a token does, but for the row that it leaves to be appended. Quoted texts, decorations, other fields and bytes that mean nothing do nothing.
-fn on_token(line: &[u8], store: &mut [u8], t: Tables, r: Registers, token: Token) -> Deferred
+fn on_token(
+    line: &[u8],
+    store: &mut [u8],
+    t: Tables,
+    r: Registers,
+    token: Token<Length>,
+) -> Deferred
     requires { Ready line.now t store.old r token }
     ensures { OnceAppended t store.new result (λ s x. SimulatesToken line.now t store.old r s x token) }
 {
@@ -29,13 +37,24 @@ fn on_token(line: &[u8], store: &mut [u8], t: Tables, r: Registers, token: Token
             actual,
             normal,
             count,
-        } => part_sounds::defer_nothing(part_steps::on_tuplet(r, actual, normal, count)),
+        } => part_sounds::defer_nothing(part_steps::on_tuplet(
+            r,
+            Tuplet {
+                actual,
+                normal,
+                count,
+            },
+        )),
         Token::Slur => part_sounds::defer_nothing(part_steps::on_slur(r)),
         Token::GraceOpen => part_sounds::defer_nothing(part_steps::on_grace_open(r)),
         Token::GraceClose => part_sounds::defer_nothing(part_steps::on_grace_close(r)),
         Token::Decoration => part_sounds::defer_nothing(r),
         Token::Barline { right, left, opens } => part_sounds::defer_nothing(part_bars::on_barline(
-            store, t, r, right, left, opens,
+            store,
+            t,
+            r,
+            Bar { right, left },
+            opens,
         )),
         Token::Volta { first, passes } => {
             part_bars::on_volta(store, t, r, first, passes);
@@ -59,7 +78,9 @@ fn on_token(line: &[u8], store: &mut [u8], t: Tables, r: Registers, token: Token
             tie,
             slur,
         } => part_chords::append_abc_chord_note(line, store, t, r, place, count, length, tie, slur),
-        Token::Rest { kind, length } => part_sounds::append_abc_rest_note(r, kind, length),
+        Token::Rest { kind, length } => {
+            part_sounds::append_abc_rest_note(r, u8::from(kind), length)
+        }
         Token::Note {
             pitch,
             length,
@@ -92,7 +113,7 @@ pub fn parse_body_line(
     while at < line.len() {
         let kept = x.line;
         let taken = tokens::token_at(edition, line, at, kept.unit, &classes);
-        let token = taken.token;
+        let token = taken.value;
         let deferred = on_token(line, store, t, x, token);
         x = part_sounds::append_deferred(store, t, deferred);
         at = taken.next;
