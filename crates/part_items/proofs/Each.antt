@@ -107,8 +107,8 @@ unpending r =
       last = r.last;
       pending = record { tie = false; slur = false; grace = false };
       line = r.line;
-      waiting = r.waiting;
-      group = r.group;
+      half = r.half;
+      tuplet = r.tuplet;
       verses = r.verses;
     }
 

@@ -28,10 +28,12 @@ use Rattle.part_layout.specs.Ends.{on_lyric, on_item}
 use Rattle.part_layout.proofs.Lines.{between_items}
 use Rattle.part_layout.proofs.Back.{reverse_back}
 use Rattle.scan_table.specs.declared.Row.{Row}
-use Rattle.scan_table.specs.Rows.{row_from, item_at, voice_declared_kind, reset_kind, key_in_header_kind, key_change_kind, meter_change_kind, lyric_line_kind, items_from, item_row_width, dec_item, item_as, item_in, items_in, b_at, unit_at, lyric_row, with_lyric, RowIs}
-use Rattle.scan_table.proofs.Rows.{music_kind, lyric_back, items_none, items_more, items_get, length_items}
-use Rattle.lyrics.specs.Items.{is_line, line_in, line_of, lines_in}
-use Rattle.lyrics.proofs.Items.{item_words, lines_more, lines_front}
+use Rattle.scan_table.specs.declared.Kind.{Kind}
+use Rattle.scan_table.specs.declared.Kind.TheVariants as K
+use Rattle.scan_table.specs.Rows.{row_from, item_at, byte_of, items_from, item_row_width, dec_item, item_as, item_in, items_in, b_at, unit_at, lyric_row, with_lyric, RowIs}
+use Rattle.scan_table.proofs.Rows.{lyric_back, items_none, items_more, items_get, length_items}
+use Rattle.lyrics.specs.Items.{is_lyric, is_line, line_in, line_of, lines_in}
+use Rattle.lyrics.proofs.Items.{no_lyric_kind, item_words, lines_more, lines_front}
 use Rattle.part_rows.specs.Table.{Only}
 use Rattle.part_rows.proofs.Tables.{only_none, only_then, only_wider}
 use Rattle.part_registers.specs.declared.Tables.{Tables}
@@ -69,9 +71,9 @@ unfolding line_of
 one_line text p q e = ap (map (line_in text)) (filter_yes (is_line p) q [] e)
 
 -- a lyric line with its verse and first note is the same item
-same_lyrics : (k : ℕ) (text : List ℕ) (q : Row) (verse start : ℕ) → k ≡ lyric_line_kind → item_as k text (lyric_row q verse start) ≡ item_as k text q
+same_lyrics : (k : Kind) (text : List ℕ) (q : Row) (verse start : ℕ) → k ≡ K.LyricLine → item_as k text (lyric_row q verse start) ≡ item_as k text q
 unfolding item_as
-same_lyrics k text q verse start e = ap (λ (j : ℕ). item_as j text (lyric_row q verse start)) e ∙ sym (ap (λ (j : ℕ). item_as j text q) e)
+same_lyrics k text q verse start e = ap (λ (j : Kind). item_as j text (lyric_row q verse start)) e ∙ sym (ap (λ (j : Kind). item_as j text q) e)
 
 -- WHAT A LYRIC LINE NEEDS of a part that is represented: the next verse
 versed_represented : (ed : Edition) {t : Tables} {s : List ℕ} {r : Registers} (header : Key) (placed : Bool) (words : List ℕ) (l : LogState) → Represents t s r [] l → Represents t s (versed r placed) [] (on_item ed header l (lyric_line placed words))
@@ -115,7 +117,7 @@ module _ (ed : Edition) (text : List ℕ) (t : Tables) (header : Key) (p i : ℕ
         holds = λ l b h. rw o h;
         lines =
             λ l h. ap (λ (xs : List Item). reverse (foldl (on_item ed header) l xs).verses.lines) o ∙ sym (append-nil (reverse l.verses.lines))
-            ∙ ap (λ (ls : List Sung). reverse l.verses.lines ++ ls) (sym (no_line text p (item_at s i) (and_no_right (eqb (item_at s i).kind 5) _ (ne_eqb (item_at s i).part p (other_owner n)))));
+            ∙ ap (λ (ls : List Sung). reverse l.verses.lines ++ ls) (sym (no_line text p (item_at s i) (and_no_right (is_lyric (item_at s i).kind) _ (ne_eqb (item_at s i).part p (other_owner n)))));
       }
 
 -- of the part
@@ -140,7 +142,7 @@ module _ (ed : Edition) (text : List ℕ) (t : Tables) (header : Key) (i : ℕ) 
       (represented_behind room m (row_from i + b_at) (r.verses.verse ∷ []) refl (omega (arith, ready.before)) l h)
 
   -- none but a lyric line
-  pub taken_plain : (x : Item) → item_as row.kind text row ≡ x → (row.kind ≡ lyric_line_kind → ⊥) → ((l : LogState) → added_by l x ≡ []) → {s' : List ℕ} {r' : Registers} {bs : List ℕ} → music_in x ≡ bs → SimulatesItem t s r s' r' bs (λ l. on_item ed header l x)
+  pub taken_plain : (x : Item) → item_as row.kind text row ≡ x → (row.kind ≡ K.LyricLine → ⊥) → ((l : LogState) → added_by l x ≡ []) → {s' : List ℕ} {r' : Registers} {bs : List ℕ} → music_in x ≡ bs → SimulatesItem t s r s' r' bs (λ l. on_item ed header l x)
       → Taken ed text t header row.part i s r s' r'
   unfolding is_line
   taken_plain x e n a {s'} {r'} {bs} m k =
@@ -155,48 +157,48 @@ module _ (ed : Edition) (text : List ℕ) (t : Tables) (header : Key) (i : ℕ) 
         lines =
             λ l h. ap (λ (xs : List Item). reverse (foldl (on_item ed header) l xs).verses.lines) o ∙ ap reverse (item_lines ed header l x ∙ ap (λ (ls : List Sung). ls ++ l.verses.lines) (a l))
             ∙ sym (append-nil (reverse l.verses.lines))
-            ∙ ap (λ (ls : List Sung). reverse l.verses.lines ++ ls) (sym (no_line text row.part (item_at s i) (and_no_left _ _ (ne_eqb (item_at s i).kind lyric_line_kind (λ f. n (is.kind ∙ f))))));
+            ∙ ap (λ (ls : List Sung). reverse l.verses.lines ++ ls) (sym (no_line text row.part (item_at s i) (and_no_left _ _ (no_lyric_kind (item_at s i).kind (λ f. n (is.kind ∙ f))))));
       }
 
   -- each kind of them
-  pub taken_voice_declared : {r' : Registers} → row.kind ≡ voice_declared_kind → SimulatesItem t s r s r' [] (λ l. on_item ed header l (voice_declared (eqb row.a 1))) → Taken ed text t header row.part i s r s r'
+  pub taken_voice_declared : {r' : Registers} → row.kind ≡ K.VoiceDeclared → SimulatesItem t s r s r' [] (λ l. on_item ed header l (voice_declared (eqb row.a 1))) → Taken ed text t header row.part i s r s r'
   unfolding item_as added_by music_in
-  taken_voice_declared e k = taken_plain (voice_declared (eqb row.a 1)) (ap (λ (j : ℕ). item_as j text row) e) (λ f. omega (arith, e, f)) (λ l. refl) refl k
+  taken_voice_declared e k = taken_plain (voice_declared (eqb row.a 1)) (ap (λ (j : Kind). item_as j text row) e) (λ f. let z : ◌≡◌ {A = ℕ} 0 5 = ap byte_of (sym e ∙ f) in omega arith) (λ l. refl) refl k
 
-  pub taken_reset : {r' : Registers} → row.kind ≡ reset_kind → SimulatesItem t s r s r' [] (λ l. on_item ed header l reset) → Taken ed text t header row.part i s r s r'
+  pub taken_reset : {r' : Registers} → row.kind ≡ K.Reset → SimulatesItem t s r s r' [] (λ l. on_item ed header l reset) → Taken ed text t header row.part i s r s r'
   unfolding item_as added_by music_in
-  taken_reset e k = taken_plain reset (ap (λ (j : ℕ). item_as j text row) e) (λ f. omega (arith, e, f)) (λ l. refl) refl k
+  taken_reset e k = taken_plain reset (ap (λ (j : Kind). item_as j text row) e) (λ f. let z : ◌≡◌ {A = ℕ} 1 5 = ap byte_of (sym e ∙ f) in omega arith) (λ l. refl) refl k
 
-  pub taken_key_in_header : {r' : Registers} → row.kind ≡ key_in_header_kind → SimulatesItem t s r s r' [] (λ l. on_item ed header l key_in_header) → Taken ed text t header row.part i s r s r'
+  pub taken_key_in_header : {r' : Registers} → row.kind ≡ K.KeyInHeader → SimulatesItem t s r s r' [] (λ l. on_item ed header l key_in_header) → Taken ed text t header row.part i s r s r'
   unfolding item_as added_by music_in
-  taken_key_in_header e k = taken_plain key_in_header (ap (λ (j : ℕ). item_as j text row) e) (λ f. omega (arith, e, f)) (λ l. refl) refl k
+  taken_key_in_header e k = taken_plain key_in_header (ap (λ (j : Kind). item_as j text row) e) (λ f. let z : ◌≡◌ {A = ℕ} 2 5 = ap byte_of (sym e ∙ f) in omega arith) (λ l. refl) refl k
 
-  pub taken_key_change : {s' : List ℕ} {r' : Registers} → row.kind ≡ key_change_kind → SimulatesItem t s r s' r' [] (λ l. on_item ed header l (key_change (record { fifths = row.a; minor = eqb row.b 1 }))) → Taken ed text t header row.part i s r s' r'
+  pub taken_key_change : {s' : List ℕ} {r' : Registers} → row.kind ≡ K.KeyChange → SimulatesItem t s r s' r' [] (λ l. on_item ed header l (key_change (record { fifths = row.a; minor = eqb row.b 1 }))) → Taken ed text t header row.part i s r s' r'
   unfolding item_as added_by music_in
-  taken_key_change e k = taken_plain (key_change (record { fifths = row.a; minor = eqb row.b 1 })) (ap (λ (j : ℕ). item_as j text row) e) (λ f. omega (arith, e, f)) (λ l. refl) refl k
+  taken_key_change e k = taken_plain (key_change (record { fifths = row.a; minor = eqb row.b 1 })) (ap (λ (j : Kind). item_as j text row) e) (λ f. let z : ◌≡◌ {A = ℕ} 3 5 = ap byte_of (sym e ∙ f) in omega arith) (λ l. refl) refl k
 
-  pub taken_meter_change : {s' : List ℕ} {r' : Registers} → row.kind ≡ meter_change_kind → SimulatesItem t s r s' r' [] (λ l. on_item ed header l (meter_change (row.a, row.b))) → Taken ed text t header row.part i s r s' r'
+  pub taken_meter_change : {s' : List ℕ} {r' : Registers} → row.kind ≡ K.MeterChange → SimulatesItem t s r s' r' [] (λ l. on_item ed header l (meter_change (row.a, row.b))) → Taken ed text t header row.part i s r s' r'
   unfolding item_as added_by music_in
-  taken_meter_change e k = taken_plain (meter_change (row.a, row.b)) (ap (λ (j : ℕ). item_as j text row) e) (λ f. omega (arith, e, f)) (λ l. refl) refl k
+  taken_meter_change e k = taken_plain (meter_change (row.a, row.b)) (ap (λ (j : Kind). item_as j text row) e) (λ f. let z : ◌≡◌ {A = ℕ} 4 5 = ap byte_of (sym e ∙ f) in omega arith) (λ l. refl) refl k
 
   -- a lyric line
-  pub taken_lyric_line : row.kind ≡ lyric_line_kind → Ready text t row.part i s r → (s' : List ℕ) (r' : Registers) → r' ≡ versed r (eqb row.a 1) → r.verses.start < 2 ^ 32 → s' ≡ with_lyric s i r.verses.verse r.verses.start
+  pub taken_lyric_line : row.kind ≡ K.LyricLine → Ready text t row.part i s r → (s' : List ℕ) (r' : Registers) → r' ≡ versed r (eqb row.a 1) → r.verses.start < 2 ^ 32 → s' ≡ with_lyric s i r.verses.verse r.verses.start
       → Taken ed text t header row.part i s r s' r'
   unfolding item_in is_line line_in added_by item_as music_in
   taken_lyric_line e ready s' r' er small es =
       let words = between text row.at row.end in
       let x : Item = lyric_line (eqb row.a 1) words in
-      let a : item_as row.kind text row ≡ x = ap (λ (j : ℕ). item_as j text row) e in
+      let a : item_as row.kind text row ≡ x = ap (λ (j : Kind). item_as j text row) e in
       let o = own_is x a in
       let q = item_at s i in
       let m = with_lyric s i r.verses.verse r.verses.start in
       let inside : row_from i + item_row_width ≤ length s = omega (arith, ready.before, ready.room.for_heads, ready.room.for_notes, ready.room.for_pitches, ready.room.for_scopes, ready.room.ends) in
       let now : item_at m i ≡ lyric_row q r.verses.verse r.verses.start = lyric_back s i r.verses.verse r.verses.start inside small in
-      let five : q.kind ≡ lyric_line_kind = sym is.kind ∙ e in
+      let five : q.kind ≡ K.LyricLine = sym is.kind ∙ e in
       let its : q.part ≡ row.part = sym (ap (λ (y : ℕ × Item). y.0) is.item) in
       let line : line_of text row.part (item_at m i) ≡ line_in text (lyric_row q r.verses.verse r.verses.start) ∷ [] =
       ap (line_of text row.part) now
-      ∙ one_line text row.part (lyric_row q r.verses.verse r.verses.start) (and_both _ _ (eq-eqb q.kind lyric_line_kind five) (eq-eqb q.part row.part its)) in
+      ∙ one_line text row.part (lyric_row q r.verses.verse r.verses.start) (and_both _ _ (ap is_lyric five) (eq-eqb q.part row.part its)) in
       record {
         middle = m;
         own_row = only_lyric s i r.verses.verse r.verses.start;
@@ -215,19 +217,23 @@ module _ (ed : Edition) (text : List ℕ) (t : Tables) (header : Key) (i : ℕ) 
       }
 
   -- a music line
-  module _ (n0 : row.kind ≡ voice_declared_kind → ⊥) (n1 : row.kind ≡ reset_kind → ⊥) (n2 : row.kind ≡ key_in_header_kind → ⊥) (n3 : row.kind ≡ key_change_kind → ⊥) (n4 : row.kind ≡ meter_change_kind → ⊥) (n5 : row.kind ≡ lyric_line_kind → ⊥) where
+  module _ (e : row.kind ≡ K.MusicLine) where
     is_music_line_lem : item_as row.kind text row ≡ music_line row.unit (row.a, row.b) (between text row.at row.end)
-    is_music_line_lem = music_kind row.kind text row n0 n1 n2 n3 n4 n5
+    unfolding item_as
+    is_music_line_lem = ap (λ (j : Kind). item_as j text row) e
+
+    no_lyrics : row.kind ≡ K.LyricLine → ⊥
+    no_lyrics f = let z : ◌≡◌ {A = ℕ} 6 5 = ap byte_of (sym e ∙ f) in omega arith
 
     pub music_line_room : Ready text t row.part i s r → (line : List ℕ) → line ≡ between text row.at row.end → RoomForBytes t r.counts (length s) line × RepresentedBetween t s r
     unfolding music_in
-    music_line_room ready line e = (rest_as_lem (own_music_lem (music_line row.unit (row.a, row.b) (between text row.at row.end)) is_music_line_lem ∙ sym e) ready.room, ready.waits)
+    music_line_room ready line h = (rest_as_lem (own_music_lem (music_line row.unit (row.a, row.b) (between text row.at row.end)) is_music_line_lem ∙ sym h) ready.room, ready.waits)
 
     pub taken_music_line : {s' : List ℕ} {r' : Registers} (line : List ℕ) → line ≡ between text row.at row.end → SimulatesItem t s r s' r' line (on_line ed row.unit (row.a, row.b) line) → Taken ed text t header row.part i s r s' r'
     unfolding added_by music_in on_item
-    taken_music_line {s'} {r'} line e k =
-        taken_plain (music_line row.unit (row.a, row.b) (between text row.at row.end)) is_music_line_lem n5 (λ l. refl) refl
-        (subst (λ (b : List ℕ). SimulatesItem t s r s' r' b (on_line ed row.unit (row.a, row.b) b)) e k)
+    taken_music_line {s'} {r'} line h k =
+        taken_plain (music_line row.unit (row.a, row.b) (between text row.at row.end)) is_music_line_lem no_lyrics (λ l. refl) refl
+        (subst (λ (b : List ℕ). SimulatesItem t s r s' r' b (on_line ed row.unit (row.a, row.b) b)) h k)
 
 -- what the other kinds need
 pub plain_room : {text : List ℕ} {t : Tables} {p i : ℕ} {s : List ℕ} {r : Registers} → Ready text t p i s r → RoomForBytes t r.counts (length s) [] × RepresentedBetween t s r

@@ -1,4 +1,5 @@
 -- ITEMS TAKEN: what each leaves of scratch and registers, and what all of a part's items make.
+use Rattle.std.specs.Prelude.{None}
 use Rattle.std.specs.Prelude.{ℕ, ◌+◌, ◌≤◌, ◌≡◌, Bool, false, cond, List, [], ◌∷◌, ◌++◌, reverse, length}
 use Rattle.laws.specs.Lists.{foldl}
 use Rattle.standard.specs.Keys.{Key}
@@ -15,8 +16,6 @@ use Rattle.lyrics.specs.Items.{line_of, lines_in}
 use Rattle.part_rows.specs.Table.{Only}
 use Rattle.part_registers.specs.declared.Tables.{Tables}
 use Rattle.part_registers.specs.declared.Registers.{Registers}
-use Rattle.part_registers.specs.declared.Half.TheVariants as half
-use Rattle.part_registers.specs.declared.Running.TheVariants as running
 use Rattle.part_bars.specs.Bars.{nowhere}
 use Rattle.part_invariant.specs.Invariant.{Represents}
 use Rattle.part_invariant.specs.Lines.{RoomForBytes, RepresentedBetween, GrowsBy}
@@ -27,11 +26,11 @@ begun =
     record {
       counts = record { heads = 0; notes = 0; pitches = 0; scopes = 0 };
       key = record { fifths = 128; minor = false; scopes = nowhere };
-      last = record { places = nowhere };
+      last = nowhere;
       pending = record { tie = false; slur = false; grace = false };
       line = record { unit = 8; top = 4; bottom = 4; overlay = 0; run = 0 };
-      waiting = record { half = half.Nothing };
-      group = record { running = running.Nothing };
+      half = None;
+      tuplet = None;
       verses = record { sounded = 0; start = 0; verse = 1 };
     }
 
@@ -44,8 +43,8 @@ keyed_as r k =
       last = r.last;
       pending = r.pending;
       line = r.line;
-      waiting = r.waiting;
-      group = r.group;
+      half = r.half;
+      tuplet = r.tuplet;
       verses = r.verses;
     }
 
@@ -58,8 +57,8 @@ with_verse r v =
       last = r.last;
       pending = r.pending;
       line = r.line;
-      waiting = r.waiting;
-      group = r.group;
+      half = r.half;
+      tuplet = r.tuplet;
       verses = record { sounded = r.verses.sounded; start = r.verses.start; verse = v };
     }
 

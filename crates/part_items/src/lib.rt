@@ -18,17 +18,13 @@ ghost use Rattle.part_items.specs.Items.{begun, keyed_as, versed, Ready, Taken, 
 use editions::Edition;
 use field_keys::Key;
 use part_accidentals::AbcPartParseState;
-use part_registers::{
-    Counts, Group, Half, Last, Line, Pending, Registers, Running, Tables, Verses, Waiting,
-};
-use scan_table::Row;
+use part_registers::{Counts, Line, Pending, Registers, Tables, Verses};
+use scan_table::{Kind, Row};
 
 // A part before its first item: C major, 4/4, unit 1/8.
 pub fn begin_part() -> Registers
     ensures { result ≡ begun }
 {
-    let none = [0u32; 4];
-    let nowhere = [0u32; 4];
     Registers {
         counts: Counts {
             heads: 0,
@@ -39,9 +35,9 @@ pub fn begin_part() -> Registers
         key: AbcPartParseState {
             fifths: 128,
             minor: false,
-            scopes: none,
+            scopes: [0; 4],
         },
-        last: Last { places: nowhere },
+        last: [0; 4],
         pending: Pending {
             tie: false,
             slur: false,
@@ -54,12 +50,8 @@ pub fn begin_part() -> Registers
             overlay: 0,
             run: 0,
         },
-        waiting: Waiting {
-            half: Half::Nothing,
-        },
-        group: Group {
-            running: Running::Nothing,
-        },
+        tuplet: None,
+        half: None,
         verses: Verses {
             sounded: 0,
             start: 0,
@@ -152,12 +144,10 @@ fn next_verse(verse: u8, placed: bool) -> u8
     ensures { result ≡ cond placed (next_verse verse) verse }
 {
     if placed {
-        if verse < 32 {
-            return verse + 1;
-        }
-        return 32;
+        verse.saturating_add(1).min(32)
+    } else {
+        verse
     }
-    verse
 }
 
 // A lyric line is kept for the end: its row gets its verse and its first note.
@@ -188,33 +178,28 @@ fn on_item(
     requires { Ready text.now t row.part i store.old r × RowIs text.now (item_at store.old i) row }
     ensures { Taken edition text.now t (key_as header) row.part i store.old r store.new result }
 {
-    let kind = row.kind;
-    if kind == scan_table::VOICE_DECLARED {
-        return on_voice_declared(edition, r, row.a == 1, header);
+    match row.kind {
+        Kind::VoiceDeclared => on_voice_declared(edition, r, row.a == 1, header),
+        Kind::Reset => on_reset(r),
+        Kind::KeyInHeader => on_header_key(r, header),
+        Kind::KeyChange => {
+            let key = Key {
+                fifths: row.a,
+                minor: row.b == 1,
+            };
+            on_key(store, t, r, header, key)
+        }
+        Kind::MeterChange => {
+            on_meter(store, t, r, row.a, row.b);
+            r
+        }
+        Kind::LyricLine => on_lyric(store, i, r, row.a == 1),
+        Kind::MusicLine => {
+            let at = row.at;
+            let end = row.end;
+            part_body::parse_body_line(edition, &text[at..end], store, t, r, row.unit, row.a, row.b)
+        }
     }
-    if kind == scan_table::RESET {
-        return on_reset(r);
-    }
-    if kind == scan_table::KEY_IN_HEADER {
-        return on_header_key(r, header);
-    }
-    if kind == scan_table::KEY_CHANGE {
-        let key = Key {
-            fifths: row.a,
-            minor: row.b == 1,
-        };
-        return on_key(store, t, r, header, key);
-    }
-    if kind == scan_table::METER_CHANGE {
-        on_meter(store, t, r, row.a, row.b);
-        return r;
-    }
-    if kind == scan_table::LYRIC_LINE {
-        return on_lyric(store, i, r, row.a == 1);
-    }
-    let at = row.at;
-    let end = row.end;
-    part_body::parse_body_line(edition, &text[at..end], store, t, r, row.unit, row.a, row.b)
 }
 
 // Item i, if it is one of the part's.
@@ -252,10 +237,8 @@ pub fn build_items(
     ensures { Built edition text.now t (key_as header) part n scratch.old scratch.new result }
 {
     let mut r = begin_part();
-    let mut i: usize = 0;
-    while i < n {
+    for i in 0..n {
         r = take_item(edition, text, scratch, i, part, t, r, header);
-        i += 1;
     }
     r
 }

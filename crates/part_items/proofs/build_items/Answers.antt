@@ -13,19 +13,13 @@ pub take_item-r-requires : goal.take_item-r-requires
 take_item-r-requires c =
     let a = c.args in
     let l = c.loop-i in
-    going_ready _ a.text.now a.t (key_as a.header) a.part a.n a.scratch.now c.requires.0 l.scratch l.r l.i l.invariant c.loop-i-test.true
-
-pub overflow_add-i : goal.overflow_add-i
-overflow_add-i c = omega (arith, c.loop-i-test.true, c.ranges.n)
-
-pub loop-i-smaller : goal.loop-i-smaller
-loop-i-smaller c = omega (arith, c.loop-i-test.true)
+    going_ready _ a.text.now a.t (key_as a.header) a.part a.n a.scratch.now c.requires.0 l.scratch l.r l.i l.invariant (omega arith)
 
 pub loop-i-preserved : goal.loop-i-preserved
 loop-i-preserved c =
     let a = c.args in
     let l = c.loop-i in
-    going_next _ a.text.now a.t (key_as a.header) a.part a.n a.scratch.now c.requires.0 l.scratch l.r l.i l.invariant c.loop-i-test.true _ _ c.take_item-r.ensures
+    going_next _ a.text.now a.t (key_as a.header) a.part a.n a.scratch.now c.requires.0 l.scratch l.r l.i l.invariant (omega arith) _ _ c.take_item-r.ensures
 
 pub shape_of-scratch : goal.shape_of-scratch
 shape_of-scratch c = c.loop-i.invariant.only.same_length
@@ -34,4 +28,4 @@ pub returns : goal.returns
 returns c =
     let a = c.args in
     let l = c.loop-i in
-    going_end _ a.text.now a.t (key_as a.header) a.part a.n a.scratch.now c.requires.0 l.scratch l.r l.i l.invariant c.loop-i-test.false
+    going_end _ a.text.now a.t (key_as a.header) a.part a.n a.scratch.now c.requires.0 l.scratch l.r l.i l.invariant (omega arith)
