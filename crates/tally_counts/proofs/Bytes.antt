@@ -1,15 +1,21 @@
 -- Laws of what is read off the bytes.
 use Prim.Native.Nat.{ℕ, ◌+◌, ◌-◌, ◌*◌, ◌≤◌}
 use mathlib.Core.Path.{◌≡◌, refl, ap, ◌∙◌}
-use mathlib.Core.Bool.{cond}
+use mathlib.Core.Bool.{Bool, true, false, cond}
 use mathlib.Core.List.{List}
 use native.Mathlib.Numerals.{add-one}
+use mir.Val.{bool_byte}
 use lib.Dec.{eqb}
 use lib.ListN.{length, get_or}
 use Rattle.laws.specs.Bytes.{u32_at}
 use Rattle.reader.specs.Records.{note_width}
 use Rattle.reading_sections.specs.Sections.{behind, part_end, notes_at, pitches_at, lyrics_at, text_at}
 use Rattle.tally_counts.specs.Counted.{sounded_in, counts_in}
+
+-- a test as a number
+pub byte_is : (b : Bool) → bool_byte b ≡ cond {A = ℕ} b 1 0
+byte_is true = refl
+byte_is false = refl
 
 -- the notes' records within their section
 pub notes_room : (s : List ℕ) (at : ℕ) → pitches_at s at ≤ length s → notes_at s at + 4 + note_width * u32_at s (notes_at s at) ≤ length s

@@ -1,7 +1,7 @@
 // The counts of a part, read off the bytes of its sections.
 #![tactic(auto)]
 
-ghost use Rattle.std.specs.Prelude.{◌≡◌, cond, ◌+◌, ◌-◌, ◌*◌, ◌≤◌, eqb, length};
+ghost use Rattle.std.specs.Prelude.{◌≡◌, ◌+◌, ◌*◌, ◌≤◌, length};
 ghost use Rattle.reader.specs.Records.{note_width};
 ghost use Rattle.reading_sections.specs.Sections.{part_end};
 ghost use Rattle.tally_counts.specs.Counted.{sounded_in, counts_in};
@@ -16,24 +16,15 @@ pub struct Counts {
     pub end: usize,
 }
 
-// 1 for a note's kind, 0 for a rest's.
-fn one_sounded(kind: u8) -> usize
-    ensures { result ≡ cond (eqb kind 0) 1 0 }
-{
-    if kind == 0 { 1 } else { 0 }
-}
-
 // How many of the n notes from `at` on are no rests.
 fn count_sounded(reading: &[u8], at: usize, n: usize) -> usize
     requires { at + note_width * n ≤ length reading.now }
     ensures value { result ≡ sounded_in reading.now at n }
     ensures upper_bound { result ≤ n }
 {
-    let mut sounded: usize = 0;
-    let mut i: usize = 0;
-    while i < n {
-        sounded += one_sounded(reading[at + reading_records::NOTE * i]);
-        i += 1;
+    let mut sounded = 0;
+    for i in 0..n {
+        sounded += usize::from(reading[at + reading_records::NOTE * i] == 0);
     }
     sounded
 }

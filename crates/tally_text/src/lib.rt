@@ -4,11 +4,13 @@
 ghost use Rattle.std.specs.Prelude.{◌≡◌, ◌+◌, ◌*◌, ◌≤◌, length};
 ghost use Rattle.laws.specs.Bytes.{u32_at};
 ghost use Rattle.reader.specs.Tally as tally;
+ghost use Rattle.refusals.specs.Numbers.{number_of};
 ghost use Rattle.reading_records.specs.Widths.{first_part};
 ghost use Rattle.reading_sections.specs.Sections.{PartsWithin};
 ghost use Rattle.tally_counts.specs.Counted.{counts_from};
 ghost use Rattle.tally_text.specs.Printed.{decimal, field, line, lines, parts_text, refused_text, out_bytes, Adds};
 
+use refusals::Refused;
 use tally_counts::Counts;
 
 // Puts the bytes of src at `at`; where they end.
@@ -58,17 +60,15 @@ fn append_line(out: &mut [u8], at: usize, i: u64, c: Counts) -> usize
 // Puts the lines of the n parts of the reading.
 fn append_lines(reading: &[u8], n: usize, out: &mut [u8], at: usize) -> usize
     requires parts_within { PartsWithin reading.now first_part n }
-    requires n_in_bounds { at + 143 * n ≤ length out.old }
+    requires room { at + 143 * n ≤ length out.old }
     ensures { Adds out.old at (lines 1 (counts_from reading.now first_part n)) out.new result }
 {
     let mut end = at;
     let mut place = reading_records::FIRST_PART;
-    let mut i: usize = 0;
-    while i < n {
+    for i in 0..n {
         let c = tally_counts::count_part(reading, place);
         end = append_line(out, end, (i + 1) as u64, c);
         place = c.end;
-        i += 1;
     }
     end
 }
@@ -86,11 +86,12 @@ pub fn append_reading(reading: &[u8], out: &mut [u8]) -> usize
 }
 
 // Puts a refusal.
-pub fn append_refusal(out: &mut [u8], n: u8, l: u32) -> usize
+pub fn append_refusal(out: &mut [u8], refused: Refused) -> usize
     requires { out_bytes ≤ length out.old }
-    ensures { Adds out.old 0 (refused_text n l) out.new result }
+    ensures { Adds out.old 0 (refused_text (number_of refused.refusal) refused.line) out.new result }
 {
-    let a = append_field(out, 0, b"refused ", n as u64);
-    let b = append_field(out, a, b" ", l as u64);
+    let number = u8::from(refused.refusal);
+    let a = append_field(out, 0, b"refused ", u64::from(number));
+    let b = append_field(out, a, b" ", u64::from(refused.line));
     append_bytes(out, b, b"\n")
 }

@@ -1,7 +1,7 @@
 // What the programs that replay a sample of answers share: rows in hex digits, stores full of noise, and the counts that are printed.
 #![tactic(auto)]
 
-ghost use Rattle.std.specs.Prelude.{◌+◌, ◌≤◌, ◌<◌, length};
+ghost use Rattle.std.specs.Prelude.{◌+◌, ◌≤◌, ◌<◌, IfSome, length};
 
 use std::io::Result;
 
@@ -12,61 +12,56 @@ pub struct Counts {
     pub differ: u32,
 }
 
-// Bytes decoded so far, and the first of two digits, 16 where none waits.
+// Bytes decoded so far, and the first of two digits, if one waits.
 #[derive(Clone, Copy)]
 struct Decoded {
-    high: u8,
+    high: Option<u8>,
     n: usize,
 }
 
 // THE SAMPLE
 
-fn long(b: u8) -> usize
-    ensures { result < 256 }
-{
-    b as usize
-}
-
-// The value of a hex digit, 16 for any other byte.
-fn digit(b: u8) -> u8
-    ensures { result ≤ 16 }
+// The value of a hex digit; none for any other byte.
+fn digit(b: u8) -> Option<u8>
+    ensures { IfSome result (λ d. d < 16) }
 {
     match b {
-        48..=57 => b - 48,
-        97..=102 => b - 87,
-        _ => 16,
+        b'0'..=b'9' => Some(b - b'0'),
+        b'a'..=b'f' => Some(b - b'a' + 10),
+        _ => None,
     }
 }
 
 // One digit more: the second of two writes a byte, as long as `out` has room.
 fn with_digit(out: &mut [u8], s: Decoded, d: u8) -> Decoded
-    requires { (s.high ≤ 16) × (s.n ≤ length out.old) × (d ≤ 16) }
-    ensures { (result.high ≤ 16) × (result.n ≤ length out.new) }
+    requires { IfSome s.high (λ high. high < 16) × (s.n ≤ length out.old) × (d < 16) }
+    ensures { IfSome result.high (λ high. high < 16) × (result.n ≤ length out.new) }
 {
-    let high = s.high;
-    let n = s.n;
-    if 16 <= d {
-        return s;
+    let Some(high) = s.high else {
+        return Decoded {
+            high: Some(d),
+            n: s.n,
+        };
+    };
+    if s.n < out.len() {
+        out[s.n] = high * 16 + d;
+        return Decoded {
+            high: None,
+            n: s.n + 1,
+        };
     }
-    if 16 <= high {
-        return Decoded { high: d, n };
-    }
-    if n < out.len() {
-        out[n] = high * 16 + d;
-        return Decoded { high: 16, n: n + 1 };
-    }
-    Decoded { high: 16, n }
+    Decoded { high: None, n: s.n }
 }
 
 // The bytes that hex digits write, as many as `out` can hold; how many.
 pub fn decode(text: &[u8], out: &mut [u8]) -> usize
     ensures { result ≤ length out.new }
 {
-    let mut s = Decoded { high: 16, n: 0 };
-    let mut i: usize = 0;
-    while i < text.len() {
-        s = with_digit(out, s, digit(text[i]));
-        i += 1;
+    let mut s = Decoded { high: None, n: 0 };
+    for b in text {
+        if let Some(d) = digit(*b) {
+            s = with_digit(out, s, d);
+        }
     }
     s.n
 }
@@ -76,9 +71,7 @@ pub fn short_number(row: &[u8], at: usize) -> usize
     requires { at + 2 ≤ length row.now }
     ensures { result < 65536 }
 {
-    let a = long(row[at]);
-    let b = long(row[at + 1]);
-    a * 256 + b
+    usize::from(row[at]) * 256 + usize::from(row[at + 1])
 }
 
 // The number of 32 bits at a position.
@@ -103,50 +96,27 @@ fn noise(b: u8) -> u8
 // A store full of noise.
 pub fn fill(store: &mut [u8]) {
     let mut b: u8 = 165;
-    let mut i: usize = 0;
-    while i < store.len() {
-        store[i] = b;
+    for byte in store.iter_mut() {
+        *byte = b;
         b = noise(b);
-        i += 1;
     }
 }
 
 // All bytes from `from` on are zeros.
 pub fn is_clear(store: &[u8], from: usize) -> bool {
-    let mut i = from;
-    while i < store.len() {
-        if store[i] != 0 {
-            return false;
-        }
-        i += 1;
-    }
-    true
+    store.iter().skip(from).all(|b| *b == 0)
 }
 
 // The store holds these bytes, and zeros behind them.
 pub fn holds(store: &[u8], want: &[u8]) -> bool {
-    if store.len() < want.len() {
-        return false;
-    }
-    let mut i: usize = 0;
-    while i < want.len() {
-        if store[i] != want[i] {
-            return false;
-        }
-        i += 1;
-    }
-    is_clear(store, want.len())
+    store.starts_with(want) && is_clear(store, want.len())
 }
 
 // THE COUNTS
 
-fn one_more(n: u32) -> u32 {
-    if n < 4294967295 { n + 1 } else { n }
-}
-
 // One row more; one that differs is printed by its number, the first being 1.
 pub fn with_row(rt: &impl Print, c: Counts, agreed: bool) -> Result<Counts> {
-    let rows = one_more(c.rows);
+    let rows = c.rows.saturating_add(1);
     if agreed {
         return Ok(Counts {
             rows,
@@ -156,7 +126,7 @@ pub fn with_row(rt: &impl Print, c: Counts, agreed: bool) -> Result<Counts> {
     println!(rt; "row {rows} differs")?;
     Ok(Counts {
         rows,
-        differ: one_more(c.differ),
+        differ: c.differ.saturating_add(1),
     })
 }
 

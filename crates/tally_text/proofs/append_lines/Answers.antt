@@ -4,7 +4,7 @@ use Rattle.tally_text.proofs.Lines.{nothing, part_there, line_there, next, finis
 use Rattle.tally_text.proofs.append_lines.Goals as goal
 
 pub loop-i-init : goal.loop-i-init
-loop-i-init c = let p = c.requires in nothing _ _ _ _ p.parts_within p.n_in_bounds
+loop-i-init c = let p = c.requires in nothing _ _ _ _ p.parts_within p.room
 
 pub count_part-c-requires : goal.count_part-c-requires
 count_part-c-requires c = part_there _ _ _ _ _ _ _ _ c.loop-i.invariant c.loop-i-test.true

@@ -8,7 +8,7 @@ pub append_lines-requires : goal.append_lines-requires
 append_lines-requires c =
     let p = c.requires in
     let n = c.get_u32-n.ensures in
-    record { parts_within = rw n p.first_part_in_bounds.2; n_in_bounds = rw n (search rules) }
+    record { parts_within = rw n p.first_part_in_bounds.2; room = rw n (search rules) }
 
 pub returns : goal.returns
 unfolding parts_text
