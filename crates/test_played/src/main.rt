@@ -29,8 +29,8 @@ fn row_length(rows: &[u8]) -> usize
 // The answer is the row's. No refusal has a line.
 fn is_answer(answer: Answer, refusal: u8, n: usize) -> bool {
     match answer {
-        Answer::Read(m) => refusal == 0 && m == n,
-        Answer::Refused(k, l) => k == refusal && l == 0,
+        Ok(m) => refusal == 0 && m == n,
+        Err(refused) => u8::from(refused.refusal) == refusal && refused.line == 0,
     }
 }
 
