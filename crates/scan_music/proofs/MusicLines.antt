@@ -6,39 +6,38 @@ use mathlib.Core.Option.{Option, none, some}
 use mathlib.Core.List.{List, [], ◌∷◌, ◌++◌, map}
 use native.Mathlib.Numerals.{add-one}
 use native.Mathlib.Omega.{arith}
-use lib.Dec.{T, ltb→lt, nltb→le}
 use lib.ListN.{length, take, drop}
 use borrow.Author.Tests.{lt-ltb, le-ltb}
+use Rattle.std.specs.Prelude.{Result, Ok, Err}
 use Rattle.laws.specs.Bytes.{between}
 use Rattle.laws.proofs.Parts.{part_cut}
 use Rattle.editions.specs.declared.Edition.{Edition}
 use Rattle.reader.specs.Text.{has_high}
 use Rattle.reader.specs.Tokens.{Effect, counts, refuses, sets_unit, sets_meter, no_effect, token_of, effect_of, effects}
+use Rattle.reader.specs.Token.{Taken}
 use Rattle.reader.specs.Lines.{music}
 use Rattle.reader.specs.Steps.{refuse, on, first}
 use Rattle.reader.specs.Scan.{music_line, note_count, last_unit, last_meter, first_refusal, play_on, act}
 use Rattle.reader.proofs.TokenLaws.{tokens_at, tokens_end}
 use Rattle.reader.proofs.TokenBounds.{token_within}
-use Rattle.tokens.specs.Tokens.{effect_for, effected_for}
+use Rattle.tokens.specs.Tokens.{effect_as}
 use Rattle.tokens.specs.declared.Effect as code
-use Rattle.tokens.specs.declared.Effected.{Effected}
 use Rattle.tokens.proofs.Past.{token_past}
+use Rattle.refusals.specs.declared.Refusal.{Refusal}
+use Rattle.refusals.specs.Numbers.{number_of}
 use Rattle.text_lines.specs.declared.Class.TheVariants as C
 use Rattle.text_lines.specs.Lines.{kind_as}
 use Rattle.scan_table.specs.Rows.{items_in}
 use Rattle.scan_states.specs.declared.State.{State}
-use Rattle.scan_states.specs.declared.Step.TheVariants as S
-use Rattle.scan_states.specs.States.{state_in, out_in, Stepped}
+use Rattle.scan_states.specs.States.{state_in, out_in, refused_in, Stepped}
 use Rattle.scan_music.specs.declared.Count.{Count}
-use Rattle.scan_music.specs.declared.Counted.{Counted}
-use Rattle.scan_music.specs.declared.Counted.TheVariants.{On, Refused}
-use Rattle.scan_music.specs.MusicLines.{effect_as, counted_as, counted_for, counted_on, state_after, goes_on}
+use Rattle.scan_music.specs.MusicLines.{by_number, counted_as, counted_for, counted_on, state_after}
 
 -- ONE TOKEN
 abbrev pub with_notes : Count → ℕ → Count
 with_notes p n = record { notes = n; unit = p.unit; top = p.top; bottom = p.bottom }
 
-pub note_counts_lem : (p : Count) (es : List Effect) → p.notes < 100000 → counted_on (On (with_notes p (p.notes + 1))) es ≡ counted_for p (counts ∷ es)
+pub note_counts_lem : (p : Count) (es : List Effect) → p.notes < 100000 → counted_on (Ok (with_notes p (p.notes + 1))) es ≡ counted_for p (counts ∷ es)
 unfolding counted_on counted_for first_refusal counted_as note_count last_unit last_meter
 note_counts_lem p es h = rw (lt-ltb p.notes 100000 h, add-one p.notes) (go (first_refusal (suc p.notes) es))
   where
@@ -47,17 +46,17 @@ note_counts_lem p es h = rw (lt-ltb p.notes 100000 h, add-one p.notes) (go (firs
 
     go : (o : Option ℕ) → counted_as (with_notes p (suc p.notes)) es o ≡ counted_as p (counts ∷ es) o
     go (some k) = refl
-    go none = ap (λ (n : ℕ). On (record { notes = n; unit = last_unit es p.unit; top = (last_meter es (p.top, p.bottom)).0; bottom = (last_meter es (p.top, p.bottom)).1 })) more
+    go none = ap (λ (n : ℕ). Ok (record { notes = n; unit = last_unit es p.unit; top = (last_meter es (p.top, p.bottom)).0; bottom = (last_meter es (p.top, p.bottom)).1 })) more
 
-pub note_refused : (p : Count) (es : List Effect) → 100000 ≤ p.notes → counted_on (Refused 11) es ≡ counted_for p (counts ∷ es)
+pub note_refused : (p : Count) (es : List Effect) → 100000 ≤ p.notes → counted_on (Err 11) es ≡ counted_for p (counts ∷ es)
 unfolding counted_on counted_for counted_as first_refusal
 note_refused p es h = rw (le-ltb p.notes 100000 h)
 
-pub refused_here : (p : Count) (k : ℕ) (es : List Effect) → counted_on (Refused k) es ≡ counted_for p (refuses k ∷ es)
+pub refused_here : (p : Count) (k : ℕ) (es : List Effect) → counted_on (Err k) es ≡ counted_for p (refuses k ∷ es)
 unfolding counted_on counted_for counted_as first_refusal
 refused_here p k es = refl
 
-pub unit_set : (p : Count) (u : ℕ) (es : List Effect) → counted_on (On (record { notes = p.notes; unit = u; top = p.top; bottom = p.bottom })) es ≡ counted_for p (sets_unit u ∷ es)
+pub unit_set : (p : Count) (u : ℕ) (es : List Effect) → counted_on (Ok (record { notes = p.notes; unit = u; top = p.top; bottom = p.bottom })) es ≡ counted_for p (sets_unit u ∷ es)
 unfolding counted_on counted_for first_refusal counted_as note_count last_unit last_meter
 unit_set p u es = go (first_refusal p.notes es)
   where
@@ -65,7 +64,7 @@ unit_set p u es = go (first_refusal p.notes es)
     go (some k) = refl
     go none = refl
 
-pub meter_set : (p : Count) (t b : ℕ) (es : List Effect) → counted_on (On (record { notes = p.notes; unit = p.unit; top = t; bottom = b })) es ≡ counted_for p (sets_meter (t, b) ∷ es)
+pub meter_set : (p : Count) (t b : ℕ) (es : List Effect) → counted_on (Ok (record { notes = p.notes; unit = p.unit; top = t; bottom = b })) es ≡ counted_for p (sets_meter (t, b) ∷ es)
 unfolding counted_on counted_for first_refusal counted_as note_count last_unit last_meter
 meter_set p t b es = go (first_refusal p.notes es)
   where
@@ -73,7 +72,7 @@ meter_set p t b es = go (first_refusal p.notes es)
     go (some k) = refl
     go none = refl
 
-pub passed : (p : Count) (es : List Effect) → counted_on (On p) es ≡ counted_for p (no_effect ∷ es)
+pub passed : (p : Count) (es : List Effect) → counted_on (Ok p) es ≡ counted_for p (no_effect ∷ es)
 unfolding counted_on counted_for first_refusal counted_as note_count last_unit last_meter
 passed p es = go (first_refusal p.notes es)
   where
@@ -82,74 +81,65 @@ passed p es = go (first_refusal p.notes es)
     go none = refl
 
 -- THE LOOP over a line
-effect_back : (e : Effect) → effect_as (effect_for e) ≡ e
-unfolding effect_as effect_for
-effect_back counts = refl
-effect_back (refuses k) = refl
-effect_back (sets_unit u) = refl
-effect_back (sets_meter m) = refl
-effect_back no_effect = refl
-
 module _ (ed : Edition) (line : List ℕ) (at : ℕ) where
-  pub none_left : (p : Count) → length line ≤ at → counted_for p (effects ed (drop at line)) ≡ On p
+  pub none_left : (p : Count) → length line ≤ at → counted_for p (effects ed (drop at line)) ≡ Ok p
   unfolding counted_for counted_as effects first_refusal note_count last_unit last_meter
-  none_left p h = rw (tokens_end ed line at h) (ap (λ (n : ℕ). On (with_notes p n)) none)
+  none_left p h = rw (tokens_end ed line at h) (ap (λ (n : ℕ). Ok (with_notes p n)) none)
     where
       none : p.notes + 0 ≡ p.notes
       none = omega arith
 
-  abbrev pub found : Effected
-  found = effected_for at (token_of ed (drop at line))
+  -- the token there, and the position after it
+  abbrev pub found : Taken
+  found = token_of ed (drop at line)
 
-  -- the token and those behind it
-  next_effect : at < length line → effects ed (drop at line) ≡ effect_as found.effect ∷ effects ed (drop found.next line)
+  abbrev pub next : ℕ
+  next = at + found.used
+
+  next_effect : at < length line → effects ed (drop at line) ≡ effect_of found.token ∷ effects ed (drop next line)
   unfolding effects
-  next_effect h = ap (map effect_of) (tokens_at ed line at h) ∙ ap (λ (x : Effect). x ∷ effects ed (drop found.next line)) (sym (effect_back (effect_of (token_of ed (drop at line)).token)))
+  next_effect h = ap (map effect_of) (tokens_at ed line at h)
 
-  pub past : at < length line → at < found.next
+  pub past : at < length line → at < next
   past h = token_past ed line at h
 
-  pub within : at < length line → found.next ≤ length line
+  pub within : at < length line → next ≤ length line
   within h = token_within ed line at h
 
   -- the rest, after one token
-  pub turned : at < length line → (q s : Counted) (e : code.Effect) → e ≡ found.effect → ((es : List Effect) → counted_on s es ≡ counted_on q (effect_as e ∷ es)) → counted_on s (effects ed (drop found.next line)) ≡ counted_on q (effects ed (drop at line))
-  turned h q s e x f = f (effects ed (drop found.next line)) ∙ ap (λ (y : code.Effect). counted_on q (effect_as y ∷ effects ed (drop found.next line))) x ∙ ap (counted_on q) (sym (next_effect h))
+  pub turned : at < length line → (q : Count) (s : Result Count ℕ) (e : code.Effect) → effect_as e ≡ effect_of found.token
+      → ((es : List Effect) → counted_on s es ≡ counted_for q (effect_as e ∷ es)) → counted_on s (effects ed (drop next line)) ≡ counted_for q (effects ed (drop at line))
+  turned h q s e x f =
+      f (effects ed (drop next line)) ∙ ap (λ (y : Effect). counted_for q (y ∷ effects ed (drop next line))) x ∙ ap (counted_for q) (sym (next_effect h))
 
-  -- the test of the loop: a token is there, or nothing more is counted
-  pub goes : (q : Counted) (b : Bool) → b ≡ goes_on q at (length line) → T b → at < length line
-  unfolding goes_on
-  goes (On p) b e t = ltb→lt at (length line) (subst T e t)
-  goes (Refused k) b e t = absurd (subst T e t)
-
-  pub ends : (q : Counted) (b : Bool) → b ≡ goes_on q at (length line) → T (not b) → q ≡ counted_on q (effects ed (drop at line))
-  unfolding goes_on counted_on
-  ends (On p) b e t = sym (none_left p (nltb→le at (length line) (subst (λ (x : Bool). T (not x)) e t)))
-  ends (Refused k) b e t = refl
-
--- THE WALK: the cursor is at the place `at` of the line, whose end it knows; what is still to come, after the answer q so far, gives the answer of the whole line after `start`
-pub record Walked (ed : Edition) (line : List ℕ) (start q : Counted) (at end : ℕ) : Type 0 where
+-- THE WALK: the cursor is at the place `at` of the line, whose end it knows; what is still to come, after the count q so far, gives the answer of the whole line after `start`
+pub record Walked (ed : Edition) (line : List ℕ) (start q : Count) (at end : ℕ) : Type 0 where
   pub to_end : end ≡ length line
   pub at_most : at ≤ length line
-  pub to_come : counted_on q (effects ed (drop at line)) ≡ counted_on start (effects ed line)
+  pub to_come : counted_for q (effects ed (drop at line)) ≡ counted_for start (effects ed line)
 
-module _ {ed : Edition} {line : List ℕ} {start q : Counted} {at end : ℕ} (w : Walked ed line start q at end) (b : Bool) (e : b ≡ goes_on q at end) where
-  tested : b ≡ goes_on q at (length line)
-  tested = rw w.to_end at e
-
+module _ {ed : Edition} {line : List ℕ} {start q : Count} {at end : ℕ} (w : Walked ed line start q at end) where
   -- in a turn a token is there
-  pub walked_less : b ≡ true → at < length line
-  walked_less t = goes ed line at q b tested (subst T (sym t) tt)
+  pub walked_less : at < end → at < length line
+  walked_less h = omega (arith, w.to_end, h)
 
-  -- behind the loop the answer so far is the answer
-  pub walked_over : b ≡ false → q ≡ counted_on start (effects ed line)
-  walked_over t = ends ed line at q b tested (subst (λ (x : Bool). T (not x)) (sym t) tt) ∙ w.to_come
+  -- behind the loop the count so far is the answer
+  pub walked_over : end ≤ at → Ok q ≡ counted_for start (effects ed line)
+  walked_over h = sym (none_left ed line at q (omega (arith, w.to_end, h))) ∙ w.to_come
 
-  -- one token more
-  pub walked_on : b ≡ true → (s : Counted) (x : code.Effect) → x ≡ (found ed line at).effect → ((es : List Effect) → counted_on s es ≡ counted_on q (effect_as x ∷ es)) → Walked ed line start s (found ed line at).next end
-  walked_on t s x is f =
-      let h = walked_less t in
-      record { to_end = w.to_end; at_most = within ed line at h; to_come = turned ed line at h q s x is f ∙ w.to_come }
+  module _ (h : at < end) (s : Result Count ℕ) (x : code.Effect) (is : effect_as x ≡ effect_of (found ed line at).token) (f : (es : List Effect) → counted_on s es ≡ counted_for q (effect_as x ∷ es)) where
+    come : counted_on s (effects ed (drop (next ed line at) line)) ≡ counted_for start (effects ed line)
+    come = turned ed line at (walked_less h) q s x is f ∙ w.to_come
+
+    -- one token more
+    pub walked_on : (c : Count) → s ≡ Ok c → Walked ed line start c (next ed line at) end
+    unfolding counted_on
+    walked_on c e = record { to_end = w.to_end; at_most = within ed line at (walked_less h); to_come = ap (λ (r : Result Count ℕ). counted_on r (effects ed (drop (next ed line at) line))) (sym e) ∙ come }
+
+    -- a refusal
+    pub walked_refused : (k : ℕ) → s ≡ Err k → Err k ≡ counted_for start (effects ed line)
+    unfolding counted_on
+    walked_refused k e = ap (λ (r : Result Count ℕ). counted_on r (effects ed (drop (next ed line at) line))) (sym e) ∙ come
 
 -- THE LINE in the scan
 abbrev pub count_of : State → Count
@@ -157,7 +147,7 @@ count_of st = record { notes = st.notes; unit = st.unit; top = st.top; bottom = 
 
 -- in the header it is passed over; refusal 6
 pub line_high : (ed : Edition) (text s s' : List ℕ) (st : State) (from end : ℕ) → st.in_header ≡ false → has_high (between text from end) ≡ true
-    → Stepped text s st (act (state_in text s st) (kind_as ed (between text from end) C.Music) st.in_header) s' (S.Refused 6 (suc st.lines))
+    → Stepped text s st (act (state_in text s st) (kind_as ed (between text from end) C.Music) st.in_header) s' (Err (refused_in st Refusal.NotAscii))
 unfolding act
 line_high ed text s s' st from end body high =
     let l = between text from end in
@@ -167,8 +157,9 @@ line_high ed text s s' st from end body high =
     }
 
 -- the line as it was lent
-pub lent_line : (ed : Edition) (text : List ℕ) (from end : ℕ) (p : Count) (r q : Counted) → r ≡ q → r ≡ counted_for p (effects ed (take (end - from) (drop from text))) → q ≡ counted_for p (effects ed (between text from end))
-lent_line ed text from end p r q e x = sym e ∙ x ∙ ap (λ (l : List ℕ). counted_for p (effects ed l)) (part_cut text from (end - from))
+pub lent_line : (ed : Edition) (text : List ℕ) (from end : ℕ) (p : Count) (r q : Result Count Refusal) → r ≡ q → by_number r ≡ counted_for p (effects ed (take (end - from) (drop from text)))
+    → by_number q ≡ counted_for p (effects ed (between text from end))
+lent_line ed text from end p r q e x = ap by_number (sym e) ∙ x ∙ ap (λ (l : List ℕ). counted_for p (effects ed l)) (part_cut text from (end - from))
 
 module _ (ed : Edition) (text s : List ℕ) (st : State) (from end : ℕ) (body : st.in_header ≡ false) (low : has_high (between text from end) ≡ false) where
   abbrev line : List ℕ
@@ -181,17 +172,18 @@ module _ (ed : Edition) (text s : List ℕ) (st : State) (from end : ℕ) (body 
   unfolding act
   music_line_lem = ap (λ (b : Bool). act (state_in text s st) (music (has_high line) es line) b) body ∙ ap (λ (b : Bool). act (state_in text s st) (music b es line) false) low
 
-  pub line_refused : (s' : List ℕ) (k : ℕ) → Refused k ≡ counted_for (count_of st) es → Stepped text s st (act (state_in text s st) (kind_as ed line C.Music) st.in_header) s' (S.Refused k (suc st.lines))
+  pub line_refused : (s' : List ℕ) (r : Refusal) → Err (number_of r) ≡ counted_for (count_of st) es
+      → Stepped text s st (act (state_in text s st) (kind_as ed line C.Music) st.in_header) s' (Err (refused_in st r))
   unfolding counted_for counted_as play_on
-  line_refused s' k e = record { is = sym (ap (first (items_in text s st.items)) (music_line_lem ∙ go (first_refusal st.notes es) e)); follows = tt }
+  line_refused s' r e = record { is = sym (ap (first (items_in text s st.items)) (music_line_lem ∙ go (first_refusal st.notes es) e)); follows = tt }
     where
-      go : (o : Option ℕ) → Refused k ≡ counted_as (count_of st) es o → play_on (state_in text s st) es line o ≡ refuse k (suc st.lines)
-      go (some j) x = let q : j ≡ k = cc in ap (λ (n : ℕ). refuse n (suc st.lines)) q
-      go none x = let z : ◌≡◌ {A = ℕ} 0 1 = cc in absurd (omega arith)
+      go : (o : Option ℕ) → Err (number_of r) ≡ counted_as (count_of st) es o → play_on (state_in text s st) es line o ≡ refuse (number_of r) (suc st.lines)
+      go (some j) x = let q : j ≡ number_of r = cc in ap (λ (n : ℕ). refuse n (suc st.lines)) q
+      go none x = cc
 
-  pub line_counted : (s' : List ℕ) (q : Count) (r : State) → On q ≡ counted_for (count_of st) es → st.voices ≤ 32 → st.part < 32 → r ≡ state_after st q
-      → out_in text s' (S.On r) ≡ on (state_in text s (state_after st q)) (items_in text s st.items ++ ((st.part, music_line st.unit (st.top, st.bottom) line) ∷ []))
-      → Stepped text s st (act (state_in text s st) (kind_as ed line C.Music) st.in_header) s' (S.On r)
+  pub line_counted : (s' : List ℕ) (q : Count) (r : State) → Ok q ≡ counted_for (count_of st) es → st.voices ≤ 32 → st.part < 32 → r ≡ state_after st q
+      → out_in text s' (Ok r) ≡ on (state_in text s (state_after st q)) (items_in text s st.items ++ ((st.part, music_line st.unit (st.top, st.bottom) line) ∷ []))
+      → Stepped text s st (act (state_in text s st) (kind_as ed line C.Music) st.in_header) s' (Ok r)
   unfolding counted_for counted_as play_on
   line_counted s' q r e v p f x =
       record {
@@ -199,8 +191,8 @@ module _ (ed : Edition) (text s : List ℕ) (st : State) (from end : ℕ) (body 
         follows = rw f (refl, (v, (p, omega arith)));
       }
     where
-      go : (o : Option ℕ) → On q ≡ counted_as (count_of st) es o → play_on (state_in text s st) es line o ≡ on (state_in text s (state_after st q)) ((st.part, music_line st.unit (st.top, st.bottom) line) ∷ [])
-      go (some j) x = let z : ◌≡◌ {A = ℕ} 0 1 = cc in absurd (omega arith)
+      go : (o : Option ℕ) → Ok q ≡ counted_as (count_of st) es o → play_on (state_in text s st) es line o ≡ on (state_in text s (state_after st q)) ((st.part, music_line st.unit (st.top, st.bottom) line) ∷ [])
+      go (some j) x = cc
       go none x =
           let c : Count = record { notes = st.notes + note_count es; unit = last_unit es st.unit; top = (last_meter es (st.top, st.bottom)).0; bottom = (last_meter es (st.top, st.bottom)).1 } in
           let y : c ≡ q = cc in

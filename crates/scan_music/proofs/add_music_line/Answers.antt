@@ -6,6 +6,6 @@ use Rattle.scan_music.proofs.add_music_line.Goals as goal
 pub returns : goal.returns
 unfolding item_in item_as
 returns c = record {
-  value = rw (c.add_item.ensures.value, c.with_opened-opened.ensures, c.with_place-places.ensures) refl;
-  by_index = λ text. rw (← c.with_opened-opened.ensures, ← c.with_place-places.ensures) (c.add_item.ensures.by_index text);
+  state = rw (c.add_item.ensures.state, c.with_opened.ensures, c.with_place.ensures) refl;
+  items = λ text. rw (← c.with_opened.ensures, ← c.with_place.ensures) (rw c.of.ensures at (c.add_item.ensures.items text));
 }

@@ -30,15 +30,15 @@ returns-then-is_high c =
     let a = c.args in
     rw c.refuse.ensures (line_high _ a.text.now a.scratch.now _ a.st a.from a.end c.if-st.false (sym c.is_high.ensures ∙ c.if-is_high.true))
 
-pub returns-in-On : goal.returns-in-On
-returns-in-On c =
+pub returns-in-Ok : goal.returns-in-Ok
+returns-in-Ok c =
     let a = c.args in
     line_counted _ a.text.now a.scratch.now a.st a.from a.end c.if-st.false (sym c.is_high.ensures ∙ c.if-is_high.false) _ _ _
-    (lent_line _ a.text.now a.from a.end (count_of a.st) _ _ c.in-On.is c.count_line-s.ensures) c.requires.ready.voices_fit c.requires.ready.part_fits c.add_music_line.ensures.value (c.add_music_line.ensures.by_index a.text.now)
+    (lent_line _ a.text.now a.from a.end (count_of a.st) _ _ c.in-Ok.is c.count_line.ensures) c.requires.ready.voices_fit c.requires.ready.part_fits c.add_music_line.ensures.state (c.add_music_line.ensures.items a.text.now)
 
-pub returns-in-Refused : goal.returns-in-Refused
-returns-in-Refused c =
+pub returns-in-Err : goal.returns-in-Err
+returns-in-Err c =
     let a = c.args in
-    rw c.refuse-in-Refused.ensures
+    rw c.refuse-in-Err.ensures
     (line_refused _ a.text.now a.scratch.now a.st a.from a.end c.if-st.false (sym c.is_high.ensures ∙ c.if-is_high.false) _ _
-    (lent_line _ a.text.now a.from a.end (count_of a.st) _ _ c.in-Refused.is c.count_line-s.ensures))
+    (lent_line _ a.text.now a.from a.end (count_of a.st) _ _ c.in-Err.is c.count_line.ensures))
