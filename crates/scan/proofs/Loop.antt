@@ -6,6 +6,7 @@ use mathlib.Core.List.{List, [], ◌∷◌, ◌++◌, append-nil, append_assoc}
 use native.Mathlib.Omega.{arith}
 use lib.ListN.{length, drop}
 use borrow.Author.Tests.{lt-ltb, le-ltb}
+use Rattle.std.specs.Prelude.{Result, Ok, Err}
 use Rattle.laws.specs.Bytes.{between}
 use Rattle.laws.proofs.Parts.{length_between}
 use Rattle.editions.specs.declared.Edition.{Edition}
@@ -14,6 +15,8 @@ use Rattle.reader.specs.Lines.{kind_of}
 use Rattle.reader.specs.Steps.{TextLine, Step, refuse, on, first, run}
 use Rattle.reader.specs.Scan.{ScanState, Out, begin, act, step, scan}
 use Rattle.reader.specs.Answer.{scratch_needed}
+use Rattle.refusals.specs.declared.Refusal.{Refusal}
+use Rattle.refusals.specs.declared.Refused.{Refused}
 use Rattle.text_lines.specs.Lines.{LineEnd, CleanEnd, kind_as, class_of}
 use Rattle.text_lines.specs.declared.Class.{Class}
 use Rattle.text_lines.specs.declared.Class.TheVariants as C
@@ -22,11 +25,9 @@ use Rattle.text_lines.proofs.Classes.{row_long, row_kind}
 use Rattle.scan_table.specs.Rows.{voices_in, items_in}
 use Rattle.scan_table.proofs.Rows.{voices_none, items_none}
 use Rattle.scan_states.specs.declared.State.{State}
-use Rattle.scan_states.specs.declared.Step as code
-use Rattle.scan_states.specs.declared.Step.TheVariants.{On, Refused}
-use Rattle.scan_states.specs.States.{state_with, state_in, out_in, Follows, Stepped}
+use Rattle.scan_states.specs.States.{state_with, state_in, out_in, refused_in, Follows, Stepped}
 use Rattle.scan_states.proofs.Items.{by_kind, refused_kind}
-use Rattle.scan.specs.Scanned.{Open, LinesFit, Line, scanned_as, ScanIs}
+use Rattle.scan.specs.Scanned.{Open, LinesFit, Line, shared_of, ScanIs}
 use Rattle.scan.proofs.Music.{music_told}
 
 -- RUNS
@@ -70,15 +71,15 @@ module _ (ed : Edition) (text s : List ℕ) (st : State) (row : List ℕ) where
   step_in h = rw (lt-ltb st.lines 10000 h)
 
   -- refusal 4
-  pub too_many_lines : (s' : List ℕ) → 10000 ≤ st.lines → Line text s st (step ed (state_in text s st) row) s' (Refused 4 (suc st.lines))
+  pub too_many_lines : (s' : List ℕ) → 10000 ≤ st.lines → Line text s st (step ed (state_in text s st) row) s' (Err (refused_in st Refusal.TooManyLines))
   unfolding step
   too_many_lines s' h = record { stepped = record { is = rw (le-ltb st.lines 10000 h); follows = tt }; lines_fit = tt }
 
-  lines_after : (r : code.Step) → Follows st r → st.lines < 10000 → LinesFit r
-  lines_after (On t) f h = omega (arith, f.0)
-  lines_after (Refused n l) f h = tt
+  lines_after : (r : Result State Refused) → Follows st r → st.lines < 10000 → LinesFit r
+  lines_after (Ok t) f h = omega (arith, f.0)
+  lines_after (Err r) f h = tt
 
-  from_act : (s' : List ℕ) (r : code.Step) → st.lines < 10000 → Stepped text s st (act (state_in text s st) (kind_of ed row) st.in_header) s' r → Line text s st (step ed (state_in text s st) row) s' r
+  from_act : (s' : List ℕ) (r : Result State Refused) → st.lines < 10000 → Stepped text s st (act (state_in text s st) (kind_of ed row) st.in_header) s' r → Line text s st (step ed (state_in text s st) row) s' r
   from_act s' r h x =
       record { stepped = subst (λ (o : Out). Stepped text s st o s' r) (sym (step_in h)) x; lines_fit = lines_after r x.follows h }
 
@@ -87,11 +88,11 @@ module _ (ed : Edition) (text s : List ℕ) (st : State) (from to e : ℕ) (c : 
   long = length_between text from e (omega (arith, c.high))
 
   -- refusal 5
-  pub too_long : 1048576 < e - from → Line text s st (step ed (state_in text s st) (between text from to)) s' (Refused 5 (suc st.lines))
-  too_long h = from_act ed text s st (between text from to) s' _ few (refused_kind _ 5 _ (row_long ed text from to e c (rw long h)))
+  pub too_long : 1048576 < e - from → Line text s st (step ed (state_in text s st) (between text from to)) s' (Err (refused_in st Refusal.LineTooLong))
+  too_long h = from_act ed text s st (between text from to) s' _ few (refused_kind _ Refusal.LineTooLong _ (row_long ed text from to e c (rw long h)))
 
   -- by its class
-  pub by_class : (k : Class) (r : code.Step) → e - from ≤ 1048576 → k ≡ class_of (between text from e)
+  pub by_class : (k : Class) (r : Result State Refused) → e - from ≤ 1048576 → k ≡ class_of (between text from e)
       → Stepped text s st (act (state_in text s st) (kind_as ed (between text from e) k) st.in_header) s' r → Line text s st (step ed (state_in text s st) (between text from to)) s' r
   by_class k r h x y = from_act ed text s st (between text from to) s' r few (by_kind _ _ _ (row_kind ed text from to e c k x (rw long h)) y)
 
@@ -153,7 +154,7 @@ module _ (ed : Edition) (text s₀ : List ℕ) where
         record { lines_fit = h.lines_fit; voices_fit = h.voices_fit; part_fits = h.part_fits; room = omega (arith, h.items_fit_lem, h.voices_fit, h.within, h.kept) }
 
     -- the run from a line on
-    next : (to : ℕ) (s' : List ℕ) (r : code.Step) → LineEnd text at to → Line text s st (step ed (state_in text s st) (between text at to)) s' r
+    next : (to : ℕ) (s' : List ℕ) (r : Result State Refused) → LineEnd text at to → Line text s st (step ed (state_in text s st) (between text at to)) s' r
         → onward (step ed) (text_lines (drop to text)) (out_in text s' r) ≡ scan ed (text_lines text)
     next to s' r e x =
         ap (onward (step ed) (text_lines (drop to text))) x.stepped.is
@@ -161,13 +162,12 @@ module _ (ed : Edition) (text s₀ : List ℕ) where
         ∙ ap (λ (rs : List TextLine). first (items_in text s st.items) (run (step ed) (state_in text s st) rs)) (sym e.rest)
         ∙ h.ahead
 
-    pub head_refused : (to : ℕ) (s' : List ℕ) (r : code.Step) (n l : ℕ) → LineEnd text at to → Line text s st (step ed (state_in text s st) (between text at to)) s' r → r ≡ Refused n l
-        → ScanIs ed text s' (scanned_as r)
-    head_refused to s' r n l e x q =
-        subst (λ (t : code.Step). ScanIs ed text s' (scanned_as t)) (sym q)
-        (record { answered = sym (subst (λ (t : code.Step). onward (step ed) (text_lines (drop to text)) (out_in text s' t) ≡ scan ed (text_lines text)) q (next to s' r e x)) })
+    pub head_refused : (to : ℕ) (s' : List ℕ) (r : Result State Refused) (f : Refused) → LineEnd text at to → Line text s st (step ed (state_in text s st) (between text at to)) s' r → r ≡ Err f
+        → ScanIs ed text s' (Err f)
+    head_refused to s' r f e x q =
+        record { answered = sym (subst (λ (t : Result State Refused). onward (step ed) (text_lines (drop to text)) (out_in text s' t) ≡ scan ed (text_lines text)) q (next to s' r e x)) }
 
-    pub head_turn : (to : ℕ) (s' : List ℕ) (r : code.Step) (t : State) → LineEnd text at to → Line text s st (step ed (state_in text s st) (between text at to)) s' r → r ≡ On t → length s' ≡ length s
+    pub head_turn : (to : ℕ) (s' : List ℕ) (r : Result State Refused) (t : State) → LineEnd text at to → Line text s st (step ed (state_in text s st) (between text at to)) s' r → r ≡ Ok t → length s' ≡ length s
         → Head ed text s₀ s' t to
     head_turn to s' r t e x q k =
         let f = subst (Follows st) q x.stepped.follows in
@@ -179,11 +179,11 @@ module _ (ed : Edition) (text s₀ : List ℕ) where
           voices_fit = f.1.0;
           part_fits = f.1.1.0;
           items_fit_lem = omega (arith, f.1.1.1, h.items_fit_lem, e.past);
-          ahead = subst (λ (y : code.Step). onward (step ed) (text_lines (drop to text)) (out_in text s' y) ≡ scan ed (text_lines text)) q (next to s' r e x);
+          ahead = subst (λ (y : Result State Refused). onward (step ed) (text_lines (drop to text)) (out_in text s' y) ≡ scan ed (text_lines text)) q (next to s' r e x);
         }
 
     -- every line was read
-    pub head_done : length text ≤ at → ScanIs ed text s (scanned_as (On st))
+    pub head_done : length text ≤ at → ScanIs ed text s (Ok (shared_of st))
     head_done w =
         let run-all : scan ed (text_lines text) ≡ on (state_in text s st) (items_in text s st.items) =
         sym h.ahead ∙ ap (λ (rs : List TextLine). first (items_in text s st.items) (run (step ed) (state_in text s st) rs)) (rows_over text at w) ∙ run_end (step ed) (items_in text s st.items) (state_in text s st) in

@@ -8,12 +8,12 @@ ghost use Rattle.reader.specs.Answer.{scratch_needed};
 ghost use Rattle.text_lines.specs.declared.Class.{Class};
 ghost use Rattle.text_lines.specs.Lines.{kind_as, class_of};
 ghost use Rattle.scan_states.specs.States.{state_in, Ready, Stepped};
-ghost use Rattle.scan.specs.Scanned.{Open, Line, scanned_as, ScanIs};
+ghost use Rattle.scan.specs.Scanned.{Open, Line, ScanIs};
 
 use editions::Edition;
 use field_keys::Key;
-use scan_states::{State, Step};
-use scan_table::Row;
+use refusals::{Refusal, Refused};
+use scan_states::State;
 use text_lines::Class;
 
 // What the second half of `parse_abc` needs: the number of voices, the header's key, the number of items in the line table, and whether there
@@ -26,13 +26,6 @@ pub struct Shared {
     pub music: bool,
 }
 
-// All lines were read, or the refusal's number and line.
-#[derive(Clone, Copy)]
-pub enum Scanned {
-    Done(Shared),
-    Refused(u8, u32),
-}
-
 // A line by its class.
 fn act_line(
     edition: Edition,
@@ -42,21 +35,21 @@ fn act_line(
     from: usize,
     end: usize,
     class: Class,
-) -> Step
+) -> Result<State, Refused>
     requires ready { Ready (length scratch.old) st }
-    requires from_le_end { (from ≤ end) × (end ≤ length text.now) × (length text.now < 2 ^ 31) }
-    requires class_value { class ≡ class_of (between text.now from end) }
+    requires place { (from ≤ end) × (end ≤ length text.now) × (length text.now < 2 ^ 31) }
+    requires its_class { class ≡ class_of (between text.now from end) }
     ensures { Stepped text.now scratch.old st (act (state_in text.now scratch.old st) (kind_as edition (between text.now from end) class) st.in_header) scratch.new result }
 {
     match class {
-        Class::Blank => Step::On(scan_states::next_line(st)),
-        Class::Lyric => Step::On(scan_states::lyric_line(scratch, st, from, end)),
+        Class::Blank => Ok(scan_states::next_line(st)),
+        Class::Lyric => Ok(scan_states::lyric_line(scratch, st, from, end)),
         Class::Voice => scan_fields::voice_line(text, scratch, st, from, end),
         Class::Key => scan_fields::key_line(edition, text, scratch, st, from, end),
         Class::Unit => scan_fields::unit_line(text, st, from, end),
         Class::Meter => scan_fields::meter_line(text, scratch, st, from, end),
         Class::Tune => scan_states::tune_line(st),
-        Class::Other => Step::On(scan_states::next_line(st)),
+        Class::Other => Ok(scan_states::next_line(st)),
         Class::Music => scan_music::music_line(edition, text, scratch, st, from, end),
     }
 }
@@ -69,43 +62,24 @@ fn step_line(
     st: State,
     from: usize,
     to: usize,
-) -> Step
-    requires fact { Open (length scratch.old) st }
-    requires from_le_to { (from ≤ to) × (to ≤ length text.now) × (length text.now < 2 ^ 31) }
+) -> Result<State, Refused>
+    requires opened { Open (length scratch.old) st }
+    requires place { (from ≤ to) × (to ≤ length text.now) × (length text.now < 2 ^ 31) }
     ensures { Line text.now scratch.old st (step edition (state_in text.now scratch.old st) (between text.now from to)) scratch.new result }
 {
     if 10000 <= st.lines {
-        return scan_states::refuse(st, 4);
+        return scan_states::refuse(st, Refusal::TooManyLines);
     }
     let end = text_lines::clean_end(text, from, to);
     if 1048576 < end - from {
-        return scan_states::refuse(st, 5);
+        return scan_states::refuse(st, Refusal::LineTooLong);
     }
     let class = text_lines::line_class(&text[from..end]);
     act_line(edition, text, scratch, st, from, end, class)
 }
 
-// The answer at the end, or at a refusal.
-fn scan_answer(s: Step) -> Scanned
-    ensures { result ≡ scanned_as s }
-{
-    match s {
-        Step::On(st) => {
-            let key = st.key;
-            let shared = Shared {
-                voices: st.voices,
-                key,
-                items: st.items,
-                music: 0 < st.places,
-            };
-            Scanned::Done(shared)
-        }
-        Step::Refused(n, l) => Scanned::Refused(n, l),
-    }
-}
-
 // Every line of the text in order, to the first refusal.
-pub fn scan_lines(edition: Edition, text: &[u8], scratch: &mut [u8]) -> Scanned
+pub fn scan_lines(edition: Edition, text: &[u8], scratch: &mut [u8]) -> Result<Shared, Refused>
     requires { (length text.now ≤ 67108864) × (scratch_needed (length text.now) ≤ length scratch.old) }
     ensures { ScanIs edition text.now scratch.new result }
 {
@@ -113,12 +87,13 @@ pub fn scan_lines(edition: Edition, text: &[u8], scratch: &mut [u8]) -> Scanned
     let mut at: usize = 0;
     while at < text.len() {
         let to = text_lines::line_end(text, at);
-        let s = step_line(edition, text, scratch, st, at, to);
-        let Step::On(next) = s else {
-            return scan_answer(s);
-        };
-        st = next;
+        st = step_line(edition, text, scratch, st, at, to)?;
         at = to;
     }
-    scan_answer(Step::On(st))
+    Ok(Shared {
+        voices: st.voices,
+        key: st.key,
+        items: st.items,
+        music: 0 < st.places,
+    })
 }

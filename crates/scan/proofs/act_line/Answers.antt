@@ -10,25 +10,25 @@ use Rattle.scan.proofs.act_line.Goals as goal
 pub voice_line-requires : goal.voice_line-requires
 voice_line-requires c =
     let a = c.args in
-    let h = letter_and_colon a.text.now a.from a.end _ _ (search rules) c.requires.class_value c.in-Voice.is refl in
+    let h = letter_and_colon a.text.now a.from a.end _ _ (search rules) c.requires.its_class c.in-Voice.is refl in
     search rules
 
 pub key_line-requires : goal.key_line-requires
 key_line-requires c =
     let a = c.args in
-    let h = letter_and_colon a.text.now a.from a.end _ _ (search rules) c.requires.class_value c.in-Key.is refl in
+    let h = letter_and_colon a.text.now a.from a.end _ _ (search rules) c.requires.its_class c.in-Key.is refl in
     search rules
 
 pub unit_line-requires : goal.unit_line-requires
 unit_line-requires c =
     let a = c.args in
-    let h = letter_and_colon a.text.now a.from a.end _ _ (search rules) c.requires.class_value c.in-Unit.is refl in
+    let h = letter_and_colon a.text.now a.from a.end _ _ (search rules) c.requires.its_class c.in-Unit.is refl in
     search rules
 
 pub meter_line-requires : goal.meter_line-requires
 meter_line-requires c =
     let a = c.args in
-    let h = letter_and_colon a.text.now a.from a.end _ _ (search rules) c.requires.class_value c.in-Meter.is refl in
+    let h = letter_and_colon a.text.now a.from a.end _ _ (search rules) c.requires.its_class c.in-Meter.is refl in
     search rules
 
 pub returns-in-Blank : goal.returns-in-Blank

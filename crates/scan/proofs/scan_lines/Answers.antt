@@ -1,6 +1,7 @@
 -- `scan::scan_lines` meets its contract. The invariant: the items in scratch, before what is still to come of the rows, are the whole scan; and there
 -- is room for the next line.
 use borrow.Author.Rules.{rules}
+use Rattle.std.proofs.lemmas.Result.{err_from_is_err_and}
 use Rattle.scan.proofs.Loop.{head_start, head_open, head_refused, head_turn, head_done}
 use Rattle.scan.proofs.scan_lines.Goals as goal
 
@@ -12,24 +13,19 @@ loop-at-init c =
 pub line_end-to-requires : goal.line_end-to-requires
 line_end-to-requires c = c.loop-at-test.true
 
-pub step_line-s-requires : goal.step_line-s-requires
-step_line-s-requires c =
+pub step_line-requires : goal.step_line-requires
+step_line-requires c =
     let a = c.args in
     let l = c.loop-at in
     let e = c.line_end-to.ensures in
-    record { fact = head_open _ a.text.now a.scratch.now _ l.st l.at l.invariant c.requires.1; from_le_to = search rules }
+    record { opened = head_open _ a.text.now a.scratch.now _ l.st l.at l.invariant c.requires.1; place = search rules }
 
-pub shape_of-scratch-in_default : goal.shape_of-scratch-in_default
-shape_of-scratch-in_default c =
-    let k = c.loop-at.invariant.kept in
-    search rules
-
-pub returns-in_default : goal.returns-in_default
-returns-in_default c =
+pub returns-in_err-st : goal.returns-in_err-st
+returns-in_err-st c =
     let a = c.args in
     let l = c.loop-at in
-    rw c.scan_answer.ensures
-    (head_refused _ a.text.now a.scratch.now _ l.st l.at l.invariant _ _ _ _ _ c.line_end-to.ensures c.step_line-s.ensures c.in_default.is)
+    let p = err_from_is_err_and c.from_residual.result c.from_residual.ensures.1 in
+    rw (p.1, p.2) (head_refused _ a.text.now a.scratch.now _ l.st l.at l.invariant _ _ _ _ c.line_end-to.ensures c.step_line.ensures c.in_err-st.was)
 
 pub loop-at-smaller : goal.loop-at-smaller
 loop-at-smaller c =
@@ -40,7 +36,7 @@ pub loop-at-preserved : goal.loop-at-preserved
 loop-at-preserved c =
     let a = c.args in
     let l = c.loop-at in
-    head_turn _ a.text.now a.scratch.now _ l.st l.at l.invariant _ _ _ _ c.line_end-to.ensures c.step_line-s.ensures c.in-On.is (search rules)
+    head_turn _ a.text.now a.scratch.now _ l.st l.at l.invariant _ _ _ _ c.line_end-to.ensures c.step_line.ensures c.in_ok-st.was (search rules)
 
 pub shape_of-scratch : goal.shape_of-scratch
 shape_of-scratch c = c.loop-at.invariant.kept
@@ -49,4 +45,4 @@ pub returns : goal.returns
 returns c =
     let a = c.args in
     let l = c.loop-at in
-    rw c.scan_answer-2.ensures (head_done _ a.text.now a.scratch.now _ l.st l.at l.invariant c.loop-at-test.false)
+    head_done _ a.text.now a.scratch.now _ l.st l.at l.invariant c.loop-at-test.false

@@ -24,8 +24,8 @@ act_line-requires c =
     let e = c.clean_end-end.ensures in
     record {
       ready = search rules;
-      from_le_end = search rules;
-      class_value = c.line_class-class.ensures ∙ ap class_of (part_cut a.text.now a.from (c.clean_end-end.result - a.from));
+      place = search rules;
+      its_class = c.line_class-class.ensures ∙ ap class_of (part_cut a.text.now a.from (c.clean_end-end.result - a.from));
     }
 
 pub returns : goal.returns
