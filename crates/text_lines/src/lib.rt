@@ -59,7 +59,7 @@ fn pass_without(text: &[u8], at: usize, end: usize, b: u8) -> usize
     i
 }
 
-// The first byte at or behind `at` that is b, or `end`.
+// The first byte at or behind `at` that is b, or `end`. By positions, as its callers have them.
 fn find_byte(text: &[u8], at: usize, end: usize, b: u8) -> usize
     requires { (at ≤ end) × (end ≤ length text.now) }
     ensures { result ≡ end_in (not_byte b) text.now at end }
@@ -179,7 +179,7 @@ pub fn has_high(line: &[u8]) -> bool
     127 < most
 }
 
-// The same, of the line from `from` to `end`.
+// The same, of the line from `from` to `end`, cut here once for all callers, which have its positions.
 #[tactic(auto, using(laws::proofs::Parts::part_cut))]
 pub fn is_high(text: &[u8], from: usize, end: usize) -> bool
     requires { (from ≤ end) × (end ≤ length text.now) }

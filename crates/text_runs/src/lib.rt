@@ -35,7 +35,7 @@ pub fn run_end(line: &[u8], at: usize, b: u8) -> usize
     end_while(line, at, line.len(), |c| c == b)
 }
 
-// The first position of `b` in from..to, and `to` if there is none.
+// The first position of `b` in from..to, and `to` if there is none. By positions, as tokens have them.
 pub fn find(line: &[u8], from: usize, to: usize, b: u8) -> usize
     requires { to ≤ length line.now }
     ensures { result ≡ end_in (λ c. not (eqb c b)) line.now from to }

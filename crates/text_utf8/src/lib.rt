@@ -20,7 +20,7 @@ enum Utf8 {
     Invalid,
 }
 
-// On to `q` if the byte is right.
+// On to `q` if the byte is right. text_white has the same of its own states: one for both would take the state of failure, and be no plainer.
 fn utf8_on(right: bool, q: Utf8) -> Utf8
     ensures { as_utf8 result ≡ cond right (as_utf8 q) (as_utf8 Utf8.Invalid) }
 {

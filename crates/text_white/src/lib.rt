@@ -36,7 +36,7 @@ fn ends_e280(b: u8) -> bool
     text_bytes::is_within(0x80, 0x8a, b) || b == 0xa8 || b == 0xa9 || b == 0xaf
 }
 
-// On to `q` if the byte is right.
+// On to `q` if the byte is right. text_utf8 has the same of its own states: one for both would take the state of failure, and be no plainer.
 fn white_on(right: bool, q: White) -> White
     ensures { as_white result ≡ cond right (as_white q) (as_white White.Other) }
 {
@@ -109,37 +109,36 @@ pub fn is_blank(text: &[u8]) -> bool
     is_all_white(q)
 }
 
-// How many bytes the white character at `at` has, 0 where there is none, in a text that ends at `end`.
-#[tactic(auto, using(crate::proofs::Whites::white_width), unfolding(laws::specs::Bytes::part))]
-fn white_len(text: &[u8], at: usize, end: usize) -> usize
-    requires { (at < end) × (end ≤ length text.now) }
-    ensures { result ≡ white_at (between text.now at end) }
+// How many bytes the white character at the front has, 0 where there is none.
+#[tactic(auto, using(crate::proofs::Whites::white_width))]
+fn white_len(text: &[u8]) -> usize
+    requires { 0 < length text.now }
+    ensures { result ≡ white_at text.now }
 {
-    let part = &text[at..end];
-    let one = white_step(White::White, text_bytes::byte_at(part, 0));
+    let one = white_step(White::White, text_bytes::byte_at(text, 0));
     if is_all_white(one) {
         return 1;
     }
-    let two = white_step(one, text_bytes::byte_at(part, 1));
+    let two = white_step(one, text_bytes::byte_at(text, 1));
     if is_all_white(two) {
         return 2;
     }
-    let three = white_step(two, text_bytes::byte_at(part, 2));
+    let three = white_step(two, text_bytes::byte_at(text, 2));
     if is_all_white(three) {
         return 3;
     }
     0
 }
 
-// The same. ASCII is answered by one byte. By positions, as the loops of callers have them: a slice for each turn would be no plainer.
-#[tactic(auto, using(crate::proofs::Whites::width_ascii, laws::proofs::Parts::between_first))]
+// The same of the text from `at` to `end`. ASCII is answered by one byte. By positions, as the loops of callers have them: a slice for each turn would be no plainer.
+#[tactic(auto, using(crate::proofs::Whites::width_ascii, laws::proofs::Parts::between_first), unfolding(laws::specs::Bytes::part))]
 pub fn white_at(text: &[u8], at: usize, end: usize) -> usize
     requires { (at < end) × (end ≤ length text.now) }
     ensures { result ≡ white_at (between text.now at end) }
 {
     let b = text[at];
     if 127 < b {
-        return white_len(text, at, end);
+        return white_len(&text[at..end]);
     }
     usize::from(text_bytes::is_space(b))
 }
