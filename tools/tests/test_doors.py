@@ -22,6 +22,7 @@ FILES = {
     'packed': 'crates/abc/specs/Packed.antt',
     'bound': 'crates/bounds/proofs/Reading.antt',
     'played': 'crates/reading_played',
+    'numbers': 'crates/refusals/specs/Numbers.antt',
     'library': 'crates/abc_c/src/lib.rt',
     'header': 'include/abc.h',
     'rust': 'bindings/rust/src/lib.rs',
@@ -124,9 +125,11 @@ def specified(t):
     told = set()
     for name in ('answer', 'scan', 'lines', 'fields', 'inline', 'passes', 'tokens', 'sounds'):
         told |= {int(n) for n in re.findall(r'\b(?:refused_with|refused|refuses|refuse|faulty|some) (\d+)\b', t[name])}
-    # Those of the played list: as the definition has them, or the code's call that clears the list.
-    told |= {int(n) for n in re.findall(r'\b(?:refused |refuse\(list, )(\d+)\b', t['played'])}
+    # The code's own refusals, by name; those of the played list are told there.
+    numbers = {name: int(n) for name, n in re.findall(r'^number_of (?:\w+\.)?(\w+) = (\d+)$', t['numbers'], re.M)}
+    told |= {numbers[name] for name in re.findall(r'\bRefusal::(\w+)', t['played'])}
     facts['refused numbers'] = told
+    facts['refusals'] = {n: plain(name) for name, n in numbers.items()}
     return facts
 
 
@@ -302,7 +305,7 @@ SPOILED = [
     ('header', 'size_t reading_len, uint32_t part, uint8_t *list', 'size_t reading_len, uint8_t *list'), ('header', 'bool abc_is_whole', 'int abc_is_whole'),
     ('rust', 'count.saturating_mul(4)', 'count.saturating_mul(8)'), ('rust', 'part: u32, list: *mut u8', 'part: u64, list: *mut u8'), ('rust', 'reading_len: usize) -> bool', 'reading_len: usize) -> u8'),
     ('refusals', '19 => Self::NoSuchPart', '19 => Self::ListShort'), ('library', 'fn abc_played(reading: &[u8], part: u32', 'fn abc_played(part: u32, reading: &[u8]'),
-    ('library', 'fn abc_is_whole', 'fn abc_whole'), ('played', '20', '23'), ('header', 'ABC_KEY_BEYOND 21', 'ABC_KEY_BEYOND 23'), ('refusals', '21 => Self::KeyBeyond', '21 => Self::Middle'), ('fields', '(some 21)', '(some 23)'),
+    ('library', 'fn abc_is_whole', 'fn abc_whole'), ('played', 'Refusal::ListShort', 'Refusal::Middle'), ('numbers', 'ListShort = 20', 'ListShort = 23'), ('numbers', 'NoMusic = 1', 'NoMusic = 2'), ('header', 'ABC_KEY_BEYOND 21', 'ABC_KEY_BEYOND 23'), ('refusals', '21 => Self::KeyBeyond', '21 => Self::Middle'), ('fields', '(some 21)', '(some 23)'),
     ('sounds', 'refused 22', 'refused 23'), ('lengths', 'ltb 31', 'ltb 32'), ('header', 'ABC_MANY_SLASHES 22', 'ABC_MANY_SLASHES 23'), ('header', '31 slashes', '32 slashes'), ('refusals', '22 => Self::ManySlashes', '22 => Self::Octave'),
     ('refusals', 'Self::ManySlashes { .. } => 22', 'Self::ManySlashes { .. } => 21'), ('refusals', '31 slashes', '32 slashes'),
     ('library', 'fn abc_parse_2_1', 'fn abc_parse_21'),
