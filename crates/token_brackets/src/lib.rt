@@ -70,6 +70,7 @@ fn chord(edition: Edition, line: &[u8], at: usize, close: usize) -> Read<Token<F
 }
 
 // An inline field that is not refused, as a token.
+#[tactic(auto, unfolding(token_lexemes::specs::Lexemes::lexeme_for))]
 fn field_token(field: Field) -> Token<Fraction>
     ensures { (at : ℕ) → result ≡ lexeme_for at (fields.token_as (Ok field)) }
 {

@@ -33,6 +33,7 @@ pub enum NoteKind {
 impl From<NoteKind> for u8 {
     ghost from_gives = { λ kind number. number ≡ kind_code (as_kind kind) };
 
+    #[tactic(auto, unfolding(reader::specs::Codes::kind_code))]
     fn from(kind: NoteKind) -> u8 {
         match kind {
             NoteKind::Sounded => 0,

@@ -124,15 +124,13 @@ pub fn letter_classes() -> Classes {
     Classes { table: t }
 }
 
-// The class of a byte: what the table has for it, and "skipped" above 127.
-pub fn class_of(classes: &Classes, b: u8) -> Class
-    ensures { result ≡ class_for (class_of b) }
-{
-    let k = b as usize;
-    if k < 128 {
-        classes.table[k]
-    } else {
-        Class::Skip
+impl Classes {
+    // The class of a byte: what the table has for it, and "skipped" above 127.
+    pub fn class_of(&self, b: u8) -> Class
+        ensures { result ≡ class_for (class_of b) }
+    {
+        let k = b as usize;
+        if k < 128 { self.table[k] } else { Class::Skip }
     }
 }
 
@@ -215,6 +213,7 @@ fn positive(line: &[u8], at: usize, top: u64) -> Option<Read<u64>>
 }
 
 // The first edition's normal number of notes where none is written.
+#[tactic(auto, unfolding(reader::specs::Tuplets::normal_for, reader::specs::Tuplets::or_one_less, standard::specs::Tuplets::usual_normal))]
 fn usual_normal(actual: u8) -> u8
     requires { 1 ≤ actual }
     ensures { result ≡ normal_for First actual }
@@ -228,20 +227,18 @@ fn usual_normal(actual: u8) -> u8
 }
 
 // The second edition's; of 5, 7 and 9 the meter decides.
+#[tactic(auto, unfolding(reader::specs::Tuplets::normal_for, reader::specs::Tuplets::or_one_less, standard::specs::Tuplets::default_normal, standard::specs::Tuplets::usual_normal))]
 fn standard_normal(actual: u8) -> u8
     requires { 1 ≤ actual }
     ensures { result ≡ normal_for Second actual }
 {
     match actual {
-        2 => 3,
-        3 => 2,
-        4 => 3,
         5 => BY_METER,
         6 => 2,
         7 => BY_METER,
         8 => 3,
         9 => BY_METER,
-        _ => actual - 1,
+        _ => usual_normal(actual),
     }
 }
 

@@ -93,6 +93,7 @@ fn rest_length(kind: NoteKind, length: Fraction, unit: u32) -> Length
 }
 
 // A token with the written value of its length.
+#[tactic(auto, unfolding(crate::specs::Tokens::valued_for))]
 fn valued(token: Token<Fraction>, unit: u32) -> Token<Length>
     ensures { result ≡ valued_for unit token }
 {
@@ -194,7 +195,7 @@ pub fn token_at(
     ensures token { result ≡ tokenised_for at unit (token_of edition (drop at line.now)) }
     ensures number { IsNumbered (token_of edition (drop at line.now)).token }
 {
-    match token_symbols::class_of(classes, line[at]) {
+    match classes.class_of(line[at]) {
         Class::Pitched => tokenise(token_lexemes::note(edition, line, at), unit),
         Class::White => Read {
             value: Token::Space,
@@ -204,6 +205,7 @@ pub fn token_at(
     }
 }
 
+#[tactic(auto, unfolding(crate::specs::Tokens::effect_in))]
 fn effect_of(token: Token<Fraction>) -> Effect
     ensures { result ≡ effect_in token }
 {
@@ -284,7 +286,7 @@ pub fn effect_at(edition: Edition, line: &[u8], at: usize, classes: &Classes) ->
     ensures effect { effect_as result.value ≡ effect_of (token_of edition (drop at line.now)).token }
     ensures next { result.next ≡ at + (token_of edition (drop at line.now)).used }
 {
-    match token_symbols::class_of(classes, line[at]) {
+    match classes.class_of(line[at]) {
         Class::Pitched => note_effect(edition, line, at),
         Class::White => Read {
             value: Effect::NoEffect,

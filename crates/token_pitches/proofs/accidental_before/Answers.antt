@@ -1,10 +1,6 @@
 -- `token_pitches::accidental_before` meets its contract.
-use mathlib.Core.Path.{refl, sym, ap, ◌∙◌}
-use native.Mathlib.Omega.{arith}
+use mathlib.Core.Path.{sym, ap, ◌∙◌}
 use native.Mathlib.Nat.{add-zero}
-use lib.Dec.{eqb}
-use borrow.Author.Tests.{eq-eqb}
-use Rattle.laws.proofs.Spans.{run_within}
 use Rattle.token_pitches.specs.Pitches.{before_for}
 use Rattle.token_pitches.proofs.Accidentals.{before_up, before_down, before_natural, before_none}
 use Rattle.token_pitches.proofs.accidental_before.Goals as goal
@@ -18,11 +14,6 @@ pub returns-then-first-eq95 : goal.returns-then-first-eq95
 returns-then-first-eq95 c =
     let a = c.args in
     c.signs-then-first-eq95.ensures ∙ ap (before_for a.at) (sym (before_down a.line.now a.at (sym c.byte_at-first.ensures ∙ c.if-first-eq95.true)))
-
-pub overflow_add-result : goal.overflow_add-result
-overflow_add-result c =
-    let a = c.args in
-    omega (arith, run_within (λ x. eqb x 61) refl a.line.now a.at (eq-eqb _ _ (sym c.byte_at-first.ensures ∙ c.if-first-eq61.true)))
 
 pub returns-then-first-eq61 : goal.returns-then-first-eq61
 returns-then-first-eq61 c =

@@ -1,17 +1,7 @@
 -- `token_pitches::chord_sign` meets its contract.
-use Prim.Native.Nat.{◌+◌}
-use mathlib.Core.Path.{refl, sym, ◌∙◌}
-use native.Mathlib.Omega.{arith}
-use lib.Dec.{eqb}
-use borrow.Author.Tests.{eq-eqb}
-use Rattle.laws.proofs.Spans.{run_within}
+use mathlib.Core.Path.{sym, ◌∙◌}
 use Rattle.token_pitches.proofs.InChord.{sign_first_quarter, sign_first, sign_next}
 use Rattle.token_pitches.proofs.chord_sign.Goals as goal
-
-pub overflow_add-result : goal.overflow_add-result
-overflow_add-result c =
-    let a = c.args in
-    omega (arith, run_within (λ x. eqb x 47) refl a.line.now (a.at + 1) (eq-eqb _ _ (sym c.byte_at.ensures ∙ c.if-byte_at-eq47.true)))
 
 pub returns-then-byte_at-eq47 : goal.returns-then-byte_at-eq47
 returns-then-byte_at-eq47 c =

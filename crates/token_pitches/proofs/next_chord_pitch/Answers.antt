@@ -1,15 +1,12 @@
 -- `token_pitches::next_chord_pitch` meets its contract. The loop's invariant: what is met from i on, with the accidental that waits, is what is met from `at` on; the measure is what is left of the line.
 use Prim.Native.Nat.{◌+◌}
-use mathlib.Core.Path.{refl, sym, ◌∙◌}
+use mathlib.Core.Path.{sym, ◌∙◌}
 use mathlib.Core.Bool.{true, false}
 use native.Mathlib.Omega.{arith}
 use lib.ListN.{drop}
 use Rattle.token_pitches.specs.Pitches.{sign_of}
 use Rattle.token_pitches.proofs.Walk.{mark_back, sign_takes, met_close, met_end, met_up, met_down, met_natural, met_letter, met_other}
 use Rattle.token_pitches.proofs.next_chord_pitch.Goals as goal
-
-pub loop-i-init : goal.loop-i-init
-loop-i-init c = refl
 
 pub returns-then-c-eq93 : goal.returns-then-c-eq93
 returns-then-c-eq93 c =

@@ -6,11 +6,8 @@ use lib.ListN.{drop}
 use Rattle.std.proofs.lemmas.Result.{err_from_is_err_and}
 use Rattle.std.specs.Prelude.{Ok}
 use Rattle.token_pitches.specs.Chords.{pitch_met, met_for, met_pitch}
-use Rattle.token_pitches.proofs.Walk.{counting_start, counting_over, counting_out, counting_one, counting_within}
+use Rattle.token_pitches.proofs.Walk.{counting_over, counting_out, counting_one, counting_within}
 use Rattle.token_pitches.proofs.parse_abc_chord.Goals as goal
-
-pub loop-pitch-init : goal.loop-pitch-init
-loop-pitch-init c = counting_start _ _
 
 pub returns-in_err-pitch : goal.returns-in_err-pitch
 returns-in_err-pitch c =

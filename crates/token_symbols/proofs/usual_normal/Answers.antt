@@ -4,18 +4,6 @@ use Rattle.standard.specs.Tuplets.{usual_normal}
 use Rattle.reader.specs.Tuplets.{normal_for, or_one_less}
 use Rattle.token_symbols.proofs.usual_normal.Goals as goal
 
-pub returns-in-2 : goal.returns-in-2
-unfolding normal_for or_one_less usual_normal
-returns-in-2 c = rw c.in-2.is
-
-pub returns-in-3 : goal.returns-in-3
-unfolding normal_for or_one_less usual_normal
-returns-in-3 c = rw c.in-3.is
-
-pub returns-in-4 : goal.returns-in-4
-unfolding normal_for or_one_less usual_normal
-returns-in-4 c = rw c.in-4.is
-
 pub returns-in_default : goal.returns-in_default
 unfolding normal_for or_one_less usual_normal
 returns-in_default c =

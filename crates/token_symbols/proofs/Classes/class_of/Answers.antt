@@ -1,15 +1,15 @@
--- `token_symbols::class_of` meets its contract.
+-- `token_symbols::Classes::class_of` meets its contract.
 use Prim.Native.Nat.{◌<◌, ◌≤◌}
 use mathlib.Core.Path.{sym}
 use native.Mathlib.Omega.{arith}
 use Rattle.token_symbols.proofs.Table.{table_at, high_skipped}
-use Rattle.token_symbols.proofs.class_of.Goals as goal
+use Rattle.token_symbols.proofs.Classes.class_of.Goals as goal
 
 pub returns-then-k-lt128 : goal.returns-then-k-lt128
 returns-then-k-lt128 c =
     let a = c.args in
     let h : a.b < 128 = omega arith in
-    rw c.args.classes.now.is_table (table_at a.b h)
+    rw c.args.self.now.is_table (table_at a.b h)
 
 pub returns-else-k-lt128 : goal.returns-else-k-lt128
 returns-else-k-lt128 c =
