@@ -126,20 +126,6 @@ option_digits top (c ∷ s) h =
 pub option_run : (top : ℕ) (s : List ℕ) → option (result_ok (written top (run is_digit s))) ≡ digits top (run is_digit s)
 option_run top s = option_digits top (run is_digit s) (run_passes is_digit s)
 
--- what `read_number` answers: the standard's number of the digits at a position, and where they end
-module _ (top : ℕ) (line : List ℕ) (at : ℕ) (r : Read (Result ℕ NumberError)) (e : r ≡ number_at top line at) where
-  pub read_option : option (result_ok r.value) ≡ digits top (run is_digit (drop at line))
-  unfolding number_at
-  read_option = rw e (option_run top (drop at line))
-
-  pub read_next : r.next ≡ at + count_while is_digit (drop at line)
-  unfolding number_at
-  read_next = rw e
-
-  pub read_le : (v : ℕ) → r.value ≡ Ok v → v ≤ top
-  unfolding number_at
-  read_le v x = value_le top (run is_digit (drop at line)) v (rw e at x)
-
 -- A WHOLE TEXT
 module _ (top : ℕ) (s : List ℕ) (r : Read (Result ℕ NumberError)) (e : r ≡ number_at top s 0) where
   -- the digits end before the text does

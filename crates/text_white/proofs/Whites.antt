@@ -94,21 +94,13 @@ white_width (a ∷ b ∷ []) h = pair (is_all_white (white_step white a)) (is_al
     pair false false p = rw p
 white_width (a ∷ b ∷ c ∷ s) h = refl
 
--- each of the four answers
+-- white at once, and not at all
 module _ (s : List ℕ) (h : 0 < length s) where
-  pub width_one : is_all_white (after1 s) ≡ true → 1 ≡ white_at s
+  width_one : is_all_white (after1 s) ≡ true → 1 ≡ white_at s
   width_one a = sym (white_width s h ∙ rw a)
 
-  module _ (a : is_all_white (after1 s) ≡ false) where
-    pub width_two : is_all_white (after2 s) ≡ true → 2 ≡ white_at s
-    width_two b = sym (white_width s h ∙ rw (a, b))
-
-    module _ (b : is_all_white (after2 s) ≡ false) where
-      pub width_three : is_all_white (after3 s) ≡ true → 3 ≡ white_at s
-      width_three c = sym (white_width s h ∙ rw (a, b, c))
-
-      pub width_none : is_all_white (after3 s) ≡ false → 0 ≡ white_at s
-      width_none c = sym (white_width s h ∙ rw (a, b, c))
+  width_none : is_all_white (after1 s) ≡ false → is_all_white (after2 s) ≡ false → is_all_white (after3 s) ≡ false → 0 ≡ white_at s
+  width_none a b c = sym (white_width s h ∙ rw (a, b, c))
 
 -- ASCII at the front: a space is white, and nothing else is
 pub width_space : (c : ℕ) (s : List ℕ) → is_space c ≡ true → 1 ≡ white_at (c ∷ s)
