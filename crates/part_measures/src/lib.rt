@@ -1,5 +1,5 @@
-// The measures of a part in scratch, a row each: the measure record, before its notes. A table is where it begins, a row its index. What a row's bytes mean is known
-// here alone.
+// The measures of a part in scratch, a row each: the measure record, before its notes. A table is where it begins, a row its index, in the one slice that is lent for
+// all tables (as in part_rows). What a row's bytes mean is known here alone.
 #![tactic(auto)]
 
 ghost use Rattle.std.specs.Prelude.{◌≡◌, not, eqb, [], ◌∷◌, ◌++◌, suc, ◌+◌, ◌*◌, ◌^◌, ◌≤◌, ◌<◌, length, get_or};
@@ -125,6 +125,7 @@ pub fn set_meter(store: &mut [u8], at: usize, i: usize, top: u8, bottom: u8)
 }
 
 // A mode, by number.
+#[tactic(auto, unfolding(reader::specs::Codes::mode_code))]
 fn mode_code(minor: bool) -> u8
     ensures { result ≡ mode_code minor }
 {

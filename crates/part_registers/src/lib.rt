@@ -70,7 +70,8 @@ pub struct Verses {
     pub verse: u8,
 }
 
-// All of it: how many rows there are, the key in force, for each overlay voice the place of its last note in the open measure (from 1; 0 if it has none: an index
+// All of it, beside scratch and its tables: three arguments of each step, for scratch is the one slice that is lent for all tables, and the state goes by value.
+// How many rows there are, the key in force, for each overlay voice the place of its last note in the open measure (from 1; 0 if it has none: an index
 // into rows, read and written once for each note, with no room for a tag), what is pending, the line, the tuplet that runs, the half that waits for the next note, and
 // the verses. The order was measured: it decides what the compiler copies between the fields.
 #[derive(Clone, Copy)]
@@ -122,6 +123,7 @@ pub fn abc_note_is_beamable(kind: u8, value: u8) -> bool
     kind == 0 && 5 <= value && value <= 9
 }
 
+#[tactic(auto, unfolding(crate::specs::Notes::bit_of))]
 fn bit(b: bool, n: u8) -> u8
     ensures { (result ≡ bit_of b n) × (result ≤ n) }
 {
@@ -129,6 +131,7 @@ fn bit(b: bool, n: u8) -> u8
 }
 
 // The flags of ties, slurs and graces, by what was pending and what stands behind the note.
+#[tactic(auto, unfolding(crate::specs::Notes::flags_in))]
 pub fn note_flags(p: Pending, tie: bool, slur: bool) -> u8
     ensures { result ≡ flags_in p tie slur }
 {
@@ -136,6 +139,7 @@ pub fn note_flags(p: Pending, tie: bool, slur: bool) -> u8
 }
 
 // A value of 10 is the whole bar.
+#[tactic(auto, unfolding(crate::specs::Notes::length_in))]
 fn length_in(value: u8, dots: u8) -> Length
     ensures { result ≡ length_in value dots }
 {
@@ -146,6 +150,7 @@ fn length_in(value: u8, dots: u8) -> Length
 }
 
 // The tuplet that a note stands in.
+#[tactic(auto, unfolding(crate::specs::Notes::grouped_row))]
 pub fn apply_abc_tuplet(n: NoteRow, tuplet: Option<Running>) -> NoteRow
     ensures { result ≡ grouped_row tuplet n }
 {
@@ -162,6 +167,7 @@ pub fn apply_abc_tuplet(n: NoteRow, tuplet: Option<Running>) -> NoteRow
 }
 
 // Where a note stands in its tuplet: 1 at the start, 2 at the stop, 3 both.
+#[tactic(auto, unfolding(crate::specs::Notes::boundary_of))]
 fn boundary(starts: bool, stops: bool) -> u8
     ensures { result ≡ boundary_of starts stops }
 {
@@ -169,6 +175,7 @@ fn boundary(starts: bool, stops: bool) -> u8
 }
 
 // The tuplet after a note: over when its count is used up.
+#[tactic(auto, unfolding(crate::specs::Notes::fewer))]
 pub fn one_fewer(tuplet: Option<Running>) -> Option<Running>
     ensures { result ≡ fewer tuplet }
 {
@@ -193,6 +200,7 @@ pub fn broken_length(value: u8, dots: u8, half: Half) -> Length
 }
 
 // A note after the half that waited for it.
+#[tactic(auto, unfolding(crate::specs::Notes::halved_row, crate::specs::Notes::broken_row))]
 pub fn after_half(n: NoteRow, half: Option<Half>) -> NoteRow
     ensures { result ≡ halved_row half n }
 {
@@ -211,6 +219,7 @@ pub fn after_half(n: NoteRow, half: Option<Half>) -> NoteRow
 // The beam run after a note (000, update_abc_beam_run): longer by one, or over. The beams themselves, which the Rust's function writes too, are written where the
 // rows are: part_append::beam_before has the note before begin or continue the beam, beamed_new has the new note end it, and part_rhythm::beam_again does the
 // last note once more after an empty chord or an accidental without a note.
+#[tactic(auto, unfolding(crate::specs::Notes::run_again))]
 pub fn update_abc_beam_run(run: u8, kind: u8, value: u8) -> u8
     ensures { result ≡ run_again run kind value }
 {
@@ -224,6 +233,7 @@ pub fn update_abc_beam_run(run: u8, kind: u8, value: u8) -> u8
 }
 
 // A note that a run goes on with ends the beam.
+#[tactic(auto, unfolding(crate::specs::Notes::beamed_row))]
 pub fn beamed_new(run: u8, n: NoteRow) -> NoteRow
     ensures { result ≡ beamed_row run n }
 {

@@ -1,4 +1,5 @@
-// The rows of a part's tables in scratch but for measures (crate part_measures): notes, pitches. A table is where it begins, a row its index.
+// The rows of a part's tables in scratch but for measures (crate part_measures): notes, pitches. A table is where it begins, a row its index: all
+// tables share the one slice that is lent, so no struct borrows a table of its own.
 #![tactic(auto)]
 
 ghost use Rattle.std.specs.Prelude.{◌≡◌, not, [], ◌∷◌, ◌+◌, ◌*◌, ◌^◌, ◌≤◌, ◌<◌, length, get_or};
@@ -138,6 +139,7 @@ pub fn get_written(store: &[u8], at: usize, i: usize) -> Written
 // PITCHES
 
 // A signed number, kept with 128 added, as a byte.
+#[tactic(auto, unfolding(reader::specs::Records::signed8))]
 pub fn signed(n: u8) -> u8
     ensures { result ≡ signed8 n }
 {
@@ -145,6 +147,7 @@ pub fn signed(n: u8) -> u8
 }
 
 // The higher byte of the same in two bytes.
+#[tactic(auto, unfolding(reader::specs::Records::signed16, reader::specs::Records::signed8))]
 fn sign(n: u8) -> u8
     ensures { signed16 n ≡ signed8 n ∷ result ∷ [] }
 {
