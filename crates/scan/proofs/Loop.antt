@@ -4,11 +4,11 @@ use mathlib.Core.Path.{◌≡◌, refl, sym, ap, subst, ◌∙◌}
 use mathlib.Core.Bool.{Bool, true, false, false≢true}
 use mathlib.Core.List.{List, [], ◌∷◌, ◌++◌, append-nil, append_assoc}
 use native.Mathlib.Omega.{arith}
-use lib.ListN.{length, drop}
+use lib.ListN.{length, take, drop}
 use borrow.Author.Tests.{lt-ltb, le-ltb}
 use Rattle.std.specs.Prelude.{Result, Ok, Err}
 use Rattle.laws.specs.Bytes.{between}
-use Rattle.laws.proofs.Parts.{length_between}
+use Rattle.laws.proofs.Parts.{part_cut, length_part, length_between}
 use Rattle.editions.specs.declared.Edition.{Edition}
 use Rattle.reader.specs.Text.{text_lines}
 use Rattle.reader.specs.Lines.{kind_of}
@@ -117,6 +117,12 @@ pub letter_and_colon : (text : List ℕ) (from end : ℕ) (k v : Class) → end 
 letter_and_colon text from end k v h e q c =
     let two : 2 ≤ length (between text from end) = two_bytes (between text from end) (ap has_colon (sym e ∙ q) ∙ c) in
     omega (arith, length_between text from end h)
+
+-- the line as it is lent
+pub lent_long : (text : List ℕ) (from end : ℕ) → end ≤ length text → from + 2 ≤ end → 2 ≤ length (take (end - from) (drop from text))
+lent_long text from end h l =
+    let n : length (take (end - from) (drop from text)) ≡ end - from = ap length (part_cut text from (end - from)) ∙ length_part text from (end - from) (omega arith) in
+    omega (arith, n)
 
 -- THE LOOP
 -- before the line at `at`

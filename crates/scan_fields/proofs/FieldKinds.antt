@@ -5,7 +5,8 @@ use mathlib.Core.Bool.{Bool, true, false}
 use mathlib.Core.Option.{Option, some, none}
 use mathlib.Core.List.{List, [], ◌∷◌}
 use native.Mathlib.Omega.{arith}
-use lib.ListN.{length, take, drop}
+use lib.ListN.{length, take, drop, length-drop}
+use lib.Seq.{take_all}
 use Rattle.laws.specs.Lists.{is_nil}
 use Rattle.laws.specs.Bytes.{part, between}
 use Rattle.laws.proofs.Parts.{part_cut, part_part, length_part, length_between, between_none}
@@ -24,16 +25,13 @@ use Rattle.text_lines.specs.declared.Class.TheVariants as C
 use Rattle.text_lines.specs.Lines.{kind_as}
 use Rattle.scan_states.proofs.Items.{words}
 
-module _ (ed : Edition) (text : List ℕ) (from end : ℕ) where
-  abbrev line : List ℕ
-  line = between text from end
-
+module _ (ed : Edition) (line : List ℕ) where
   -- its value, as it is lent
-  abbrev value : List ℕ
-  value = take (end - (from + 2)) (drop (from + 2) text)
+  abbrev rest : List ℕ
+  rest = take (length line - 2) (drop 2 line)
 
-  value_is : drop 2 line ≡ value
-  value_is = sym (part_cut text (from + 2) (end - (from + 2)) ∙ words text from end)
+  rest_is : drop 2 line ≡ rest
+  rest_is = sym (take_all (length line - 2) (drop 2 line) (omega (arith, length-drop 2 line)))
 
   module _ (h : has_high line ≡ true) where
     pub high_voice : kind_as ed line C.Voice ≡ refused 6
@@ -50,23 +48,34 @@ module _ (ed : Edition) (text : List ℕ) (from end : ℕ) where
 
   module _ (h : has_high line ≡ false) where
     -- K
-    pub refused_key : (r : Refusal) → key_refusal ed value ≡ some (number_of r) → kind_as ed line C.Key ≡ refused (number_of r)
+    pub refused_key : (r : Refusal) → key_refusal ed rest ≡ some (number_of r) → kind_as ed line C.Key ≡ refused (number_of r)
     unfolding key_kind kind_unless
-    refused_key r e = rw (h, value_is, e)
+    refused_key r e = rw (h, rest_is, e)
 
-    pub is_key : (k : Key) → key_refusal ed value ≡ none → k ≡ key_of ed value → kind_as ed line C.Key ≡ key k
+    pub is_key : (k : Key) → key_refusal ed rest ≡ none → k ≡ key_of ed rest → kind_as ed line C.Key ≡ key k
     unfolding key_kind kind_unless
-    is_key k n e = rw (h, value_is, n) (ap key (sym e))
+    is_key k n e = rw (h, rest_is, n) (ap key (sym e))
 
     -- M
-    pub is_meter : (m : Meter) → m ≡ meter_of value → kind_as ed line C.Meter ≡ meter m
-    is_meter m e = rw (h, value_is) (ap meter (sym e))
+    pub is_meter : (m : Meter) → m ≡ meter_of rest → kind_as ed line C.Meter ≡ meter m
+    is_meter m e = rw (h, rest_is) (ap meter (sym e))
 
     -- L
-    pub is_unit : (u : Option ℕ) → u ≡ unit_of value → kind_as ed line C.Unit ≡ unit u
-    is_unit u e = rw (h, value_is) (ap unit (sym e))
+    pub is_unit : (u : Option ℕ) → u ≡ unit_of rest → kind_as ed line C.Unit ≡ unit u
+    is_unit u e = rw (h, rest_is) (ap unit (sym e))
 
-    -- V
+-- V: the line from `from` up to `end` of the text, whose value is lent
+module _ (ed : Edition) (text : List ℕ) (from end : ℕ) where
+  abbrev line : List ℕ
+  line = between text from end
+
+  abbrev value : List ℕ
+  value = take (end - (from + 2)) (drop (from + 2) text)
+
+  value_is : drop 2 line ≡ value
+  value_is = sym (part_cut text (from + 2) (end - (from + 2)) ∙ words text from end)
+
+  module _ (h : has_high line ≡ false) where
     module _ (id : Part) (i : Identifier value id) where
       empty : (l : List ℕ) → length l ≡ 0 → is_nil l ≡ true
       empty [] e = refl

@@ -1,5 +1,5 @@
-// Field lines: V, K, M and L (`parse_abc_header_line` of the Rust source, as far as it concerns the notes). A line is the part of the text from
-// `from` up to `end`, cut and trimmed; its value stands behind the letter and the colon.
+// Field lines: V, K, M and L (`parse_abc_header_line` of the Rust source, as far as it concerns the notes). A line is cut and
+// trimmed; its value stands behind the letter and the colon. A V line goes by its place in the text, since a voice's row holds the place of its identifier.
 #![tactic(auto)]
 
 ghost use Rattle.std.specs.Prelude.{◌≡◌, List, ℕ, ◌+◌, ◌^◌, ◌≤◌, ◌<◌, length, Ok};
@@ -73,20 +73,18 @@ fn set_key(scratch: &mut [u8], st: State, k: Key) -> State
 // A K line: refusals 6, 10 and 21.
 pub fn key_line(
     edition: Edition,
-    text: &[u8],
+    line: &[u8],
     scratch: &mut [u8],
     st: State,
-    from: usize,
-    end: usize,
 ) -> Result<State, Refused>
     requires ready { Ready (length scratch.old) st }
-    requires place { (from + 2 ≤ end) × (end ≤ length text.now) × (length text.now < 2 ^ 32) }
-    ensures { Stepped text.now scratch.old st (act (state_in text.now scratch.old st) (kind_as edition (between text.now from end) Class.Key) st.in_header) scratch.new result }
+    requires letter_and_colon { 2 ≤ length line.now }
+    ensures { (text : List ℕ) → Stepped text scratch.old st (act (state_in text scratch.old st) (kind_as edition line.now Class.Key) st.in_header) scratch.new result }
 {
-    if text_lines::is_high(text, from, end) {
+    if text_lines::has_high(line) {
         return scan_states::refuse(st, Refusal::NotAscii);
     }
-    match field_values::read_key(edition, &text[from + 2..end]) {
+    match field_values::read_key(edition, &line[2..]) {
         Ok(k) => Ok(set_key(scratch, st, k)),
         Err(refusal) => scan_states::refuse(st, refusal),
     }
@@ -114,21 +112,15 @@ fn set_meter(scratch: &mut [u8], st: State, m: Meter) -> State
 }
 
 // An M line: refusal 6.
-pub fn meter_line(
-    text: &[u8],
-    scratch: &mut [u8],
-    st: State,
-    from: usize,
-    end: usize,
-) -> Result<State, Refused>
+pub fn meter_line(line: &[u8], scratch: &mut [u8], st: State) -> Result<State, Refused>
     requires ready { Ready (length scratch.old) st }
-    requires place { (from + 2 ≤ end) × (end ≤ length text.now) × (length text.now < 2 ^ 32) }
-    ensures { (ed : Edition) → Stepped text.now scratch.old st (act (state_in text.now scratch.old st) (kind_as ed (between text.now from end) Class.Meter) st.in_header) scratch.new result }
+    requires letter_and_colon { 2 ≤ length line.now }
+    ensures { (ed : Edition) (text : List ℕ) → Stepped text scratch.old st (act (state_in text scratch.old st) (kind_as ed line.now Class.Meter) st.in_header) scratch.new result }
 {
-    if text_lines::is_high(text, from, end) {
+    if text_lines::has_high(line) {
         return scan_states::refuse(st, Refusal::NotAscii);
     }
-    let m = field_values::parse_meter(&text[from + 2..end]);
+    let m = field_values::parse_meter(&line[2..]);
     Ok(set_meter(scratch, st, m))
 }
 
@@ -144,14 +136,14 @@ fn set_unit(st: State, u: Option<u32>) -> State
 }
 
 // An L line: refusal 6.
-pub fn unit_line(text: &[u8], st: State, from: usize, end: usize) -> Result<State, Refused>
+pub fn unit_line(line: &[u8], st: State) -> Result<State, Refused>
     requires ready { (st.lines < 10000) × (st.voices ≤ 32) × (st.part < 32) }
-    requires place { (from + 2 ≤ end) × (end ≤ length text.now) }
-    ensures { (ed : Edition) (s : List ℕ) → Stepped text.now s st (act (state_in text.now s st) (kind_as ed (between text.now from end) Class.Unit) st.in_header) s result }
+    requires letter_and_colon { 2 ≤ length line.now }
+    ensures { (ed : Edition) (text s : List ℕ) → Stepped text s st (act (state_in text s st) (kind_as ed line.now Class.Unit) st.in_header) s result }
 {
-    if text_lines::is_high(text, from, end) {
+    if text_lines::has_high(line) {
         return scan_states::refuse(st, Refusal::NotAscii);
     }
-    let u = field_values::parse_unit_line(&text[from + 2..end]);
+    let u = field_values::parse_unit_line(&line[2..]);
     Ok(set_unit(st, u))
 }

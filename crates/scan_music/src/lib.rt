@@ -110,7 +110,7 @@ fn add_music_line(scratch: &mut [u8], st: State, from: usize, end: usize, q: Cou
     scan_states::add_item(scratch, played, row)
 }
 
-// A music line, which is passed over in the header: refusal 6, then those of its tokens.
+// A music line, which is passed over in the header: refusal 6, then those of its tokens. It goes by its place in the text, which its item holds.
 pub fn music_line(
     edition: Edition,
     text: &[u8],

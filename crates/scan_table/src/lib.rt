@@ -84,6 +84,7 @@ pub struct Place {
 //   a voice declared: a = 1 in the header;  a key change: a fifths, b = 1 minor;  a meter change: a top, b bottom
 //   a lyric line: a = 1 placed, at and end its words; once its part was read, b its verse and unit its first note
 //   a music line: unit, a top and b bottom where it begins, at and end the line;  a reset, the header's key: nothing
+// The fields stay flat, as a row's 16 bytes hold them: a lyric line gets its verse and its first note later, in bytes of which other kinds make another use.
 #[derive(Clone, Copy, Debug, PartialEq, Eq)]
 pub struct Row {
     pub kind: Kind,

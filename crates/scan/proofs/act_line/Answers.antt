@@ -1,9 +1,11 @@
 -- `scan::act_line` meets its contract: a case for each class.
+use Prim.Native.Nat.{◌-◌}
 use mathlib.Core.Path.{refl}
+use Rattle.laws.proofs.Parts.{part_cut}
 use native.Mathlib.Omega.{arith}
 use Rattle.reader.specs.Scan.{act}
 use Rattle.scan_states.proofs.Items.{stays}
-use Rattle.scan.proofs.Loop.{letter_and_colon}
+use Rattle.scan.proofs.Loop.{letter_and_colon, lent_long}
 use borrow.Author.Rules.{rules}
 use Rattle.scan.proofs.act_line.Goals as goal
 
@@ -13,23 +15,20 @@ voice_line-requires c =
     let h = letter_and_colon a.text.now a.from a.end _ _ (search rules) c.requires.its_class c.in-Voice.is refl in
     search rules
 
-pub key_line-requires : goal.key_line-requires
-key_line-requires c =
+pub key_line-requires-clause-letter_and_colon : goal.key_line-requires-clause-letter_and_colon
+key_line-requires-clause-letter_and_colon c =
     let a = c.args in
-    let h = letter_and_colon a.text.now a.from a.end _ _ (search rules) c.requires.its_class c.in-Key.is refl in
-    search rules
+    lent_long a.text.now a.from a.end (search rules) (letter_and_colon a.text.now a.from a.end _ _ (search rules) c.requires.its_class c.in-Key.is refl)
 
-pub unit_line-requires : goal.unit_line-requires
-unit_line-requires c =
+pub unit_line-requires-clause-letter_and_colon : goal.unit_line-requires-clause-letter_and_colon
+unit_line-requires-clause-letter_and_colon c =
     let a = c.args in
-    let h = letter_and_colon a.text.now a.from a.end _ _ (search rules) c.requires.its_class c.in-Unit.is refl in
-    search rules
+    lent_long a.text.now a.from a.end (search rules) (letter_and_colon a.text.now a.from a.end _ _ (search rules) c.requires.its_class c.in-Unit.is refl)
 
-pub meter_line-requires : goal.meter_line-requires
-meter_line-requires c =
+pub meter_line-requires-clause-letter_and_colon : goal.meter_line-requires-clause-letter_and_colon
+meter_line-requires-clause-letter_and_colon c =
     let a = c.args in
-    let h = letter_and_colon a.text.now a.from a.end _ _ (search rules) c.requires.its_class c.in-Meter.is refl in
-    search rules
+    lent_long a.text.now a.from a.end (search rules) (letter_and_colon a.text.now a.from a.end _ _ (search rules) c.requires.its_class c.in-Meter.is refl)
 
 pub returns-in-Blank : goal.returns-in-Blank
 unfolding act
@@ -42,13 +41,13 @@ pub returns-in-Voice : goal.returns-in-Voice
 returns-in-Voice c = rw c.in-Voice.is (c.voice_line.ensures c.args.edition)
 
 pub returns-in-Key : goal.returns-in-Key
-returns-in-Key c = rw c.in-Key.is c.key_line.ensures
+returns-in-Key c = rw (c.in-Key.is, ← part_cut c.args.text.now c.args.from (c.args.end - c.args.from)) (c.key_line.ensures c.args.text.now)
 
 pub returns-in-Unit : goal.returns-in-Unit
-returns-in-Unit c = rw c.in-Unit.is (c.unit_line.ensures c.args.edition c.args.scratch.now)
+returns-in-Unit c = rw (c.in-Unit.is, ← part_cut c.args.text.now c.args.from (c.args.end - c.args.from)) (c.unit_line.ensures c.args.edition c.args.text.now c.args.scratch.now)
 
 pub returns-in-Meter : goal.returns-in-Meter
-returns-in-Meter c = rw c.in-Meter.is (c.meter_line.ensures c.args.edition)
+returns-in-Meter c = rw (c.in-Meter.is, ← part_cut c.args.text.now c.args.from (c.args.end - c.args.from)) (c.meter_line.ensures c.args.edition c.args.text.now)
 
 pub returns-in-Tune : goal.returns-in-Tune
 returns-in-Tune c = rw c.in-Tune.is (c.tune_line.ensures c.args.text.now c.args.scratch.now)

@@ -5,14 +5,14 @@ use mathlib.Core.Path.{sym, ◌∙◌}
 use Rattle.scan_fields.proofs.FieldKinds.{high_meter, is_meter}
 use Rattle.scan_fields.proofs.meter_line.Goals as goal
 
-pub returns-then-is_high : goal.returns-then-is_high
-returns-then-is_high c =
+pub returns-then-has_high : goal.returns-then-has_high
+returns-then-has_high c =
     let a = c.args in
-    λ ed. rw c.refuse.ensures (refused_kind _ Refusal.NotAscii _ (high_meter ed a.text.now a.from a.end (sym c.is_high.ensures ∙ c.if-is_high.true)))
+    λ ed text. rw c.refuse.ensures (refused_kind _ Refusal.NotAscii _ (high_meter ed a.line.now (sym c.has_high.ensures ∙ c.if-has_high.true)))
 
 pub returns : goal.returns
 returns c =
     let a = c.args in
-    λ ed. by_kind _ _ _
-    (is_meter ed a.text.now a.from a.end (sym c.is_high.ensures ∙ c.if-is_high.false) _ c.parse_meter-m.ensures)
-    (c.set_meter.ensures a.text.now)
+    λ ed text. by_kind _ _ _
+    (is_meter ed a.line.now (sym c.has_high.ensures ∙ c.if-has_high.false) _ c.parse_meter-m.ensures)
+    (c.set_meter.ensures text)

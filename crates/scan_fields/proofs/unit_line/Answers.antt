@@ -5,14 +5,14 @@ use mathlib.Core.Path.{sym, ◌∙◌}
 use Rattle.scan_fields.proofs.FieldKinds.{high_unit, is_unit}
 use Rattle.scan_fields.proofs.unit_line.Goals as goal
 
-pub returns-then-is_high : goal.returns-then-is_high
-returns-then-is_high c =
+pub returns-then-has_high : goal.returns-then-has_high
+returns-then-has_high c =
     let a = c.args in
-    λ ed s. rw c.refuse.ensures (refused_kind _ Refusal.NotAscii _ (high_unit ed a.text.now a.from a.end (sym c.is_high.ensures ∙ c.if-is_high.true)))
+    λ ed text s. rw c.refuse.ensures (refused_kind _ Refusal.NotAscii _ (high_unit ed a.line.now (sym c.has_high.ensures ∙ c.if-has_high.true)))
 
 pub returns : goal.returns
 returns c =
     let a = c.args in
-    λ ed s. by_kind _ _ _
-    (is_unit ed a.text.now a.from a.end (sym c.is_high.ensures ∙ c.if-is_high.false) _ c.parse_unit_line-u.ensures)
-    (c.set_unit.ensures a.text.now s)
+    λ ed text s. by_kind _ _ _
+    (is_unit ed a.line.now (sym c.has_high.ensures ∙ c.if-has_high.false) _ c.parse_unit_line-u.ensures)
+    (c.set_unit.ensures text s)

@@ -1,5 +1,6 @@
 -- `scan_fields::voice_line` meets its contract.
 use Rattle.refusals.specs.declared.Refusal.{Refusal}
+use Rattle.laws.specs.Bytes.{between}
 use Rattle.scan_states.proofs.Items.{by_kind, refused_kind}
 use mathlib.Core.Path.{sym, ◌∙◌}
 use Rattle.scan_fields.proofs.FieldKinds.{high_voice, no_voice, is_voice_lem}
@@ -9,7 +10,7 @@ use Rattle.scan_fields.proofs.voice_line.Goals as goal
 pub returns-then-is_high : goal.returns-then-is_high
 returns-then-is_high c =
     let a = c.args in
-    λ ed. rw c.refuse.ensures (refused_kind _ Refusal.NotAscii _ (high_voice ed a.text.now a.from a.end (sym c.is_high.ensures ∙ c.if-is_high.true)))
+    λ ed. rw c.refuse.ensures (refused_kind _ Refusal.NotAscii _ (high_voice ed (between a.text.now a.from a.end) (sym c.is_high.ensures ∙ c.if-is_high.true)))
 
 pub returns-then-id : goal.returns-then-id
 returns-then-id c =
