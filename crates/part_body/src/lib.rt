@@ -109,6 +109,7 @@ pub fn parse_body_line(
 {
     let classes = token_symbols::letter_classes();
     let mut x = part_steps::begin_line(store, t, r, unit, top, bottom);
+    // Each token says where the next one begins: a step of one to many bytes, so no range.
     let mut at: usize = 0;
     while at < line.len() {
         let kept = x.line;

@@ -26,6 +26,7 @@ pub fn on_space(r: Registers) -> Registers
 }
 
 // The measure's next voice; four at most.
+#[tactic(auto, unfolding(standard::specs::Notes::next_voice))]
 fn next_voice(voice: u8) -> u8
     ensures { result ≡ next_voice voice }
 {
@@ -45,6 +46,7 @@ pub fn on_overlay(r: Registers) -> Registers
 }
 
 // 6/8, 9/8 and 12/8, and no other meter. Without branches: with them the compiler keeps less of the state in registers, for every token.
+#[tactic(auto, unfolding(standard::specs::Tuplets::compound))]
 fn is_compound(top: u8, bottom: u8) -> bool
     ensures { result ≡ compound (top, bottom) }
 {
