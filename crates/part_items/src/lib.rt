@@ -71,6 +71,7 @@ fn set_key(r: Registers, key: Key) -> Registers
 }
 
 // The key of a part that is named for the first time: the header's, but for one that the header names, which in the first edition begins with C major.
+#[tactic(auto, unfolding(reader::specs::Part::first_key, standard::specs::Keys::plain_key))]
 fn first_key(edition: Edition, in_header: bool, header: Key) -> Key
     ensures { key_as result ≡ first_key edition (key_as header) in_header }
 {
@@ -140,6 +141,7 @@ fn on_meter(store: &mut [u8], t: Tables, r: Registers, top: u8, bottom: u8)
 }
 
 // The verse of the next lyric line: it is counted where the part has a place for verses; 32 at most.
+#[tactic(auto, unfolding(standard::specs::Lyrics::next_verse))]
 fn next_verse(verse: u8, placed: bool) -> u8
     ensures { result ≡ cond placed (next_verse verse) verse }
 {
