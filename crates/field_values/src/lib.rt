@@ -58,7 +58,7 @@ fn meter_parts(text: &[u8]) -> Meter
     }
 }
 
-// An M field's meter.
+// An M field's meter. (In a match on the three names the last arm knows of no name that it is not, and its proof does not close.)
 pub fn parse_meter(value: &[u8]) -> Meter
     ensures { meter_as result ≡ meter_of value.now }
 {

@@ -13,7 +13,7 @@ pub struct Part {
     pub end: usize,
 }
 
-// The text without white space at its front.
+// The text without white space at its front. (The library's `trim_ascii` leaves byte 11, which is white space here.)
 fn trim_start(text: &[u8]) -> &[u8]
     ensures { result.now ≡ trim_start text.now }
 {
