@@ -1,4 +1,5 @@
 // What a `[` begins with: an ending, an inline field or a chord, in 000's order of tests.
+// A line and a position in it stay two arguments: each reader goes on at other positions of the line, and a struct of both would be made anew for each.
 #![tactic(auto)]
 
 ghost use Rattle.std.specs.Prelude.{◌≡◌, ℕ, Ok, not, ◌+◌, ◌-◌, ◌≤◌, ◌<◌, eqb, length, drop};

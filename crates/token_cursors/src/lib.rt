@@ -11,7 +11,7 @@ use editions::Edition;
 use token_symbols::Classes;
 use tokens::Effect;
 
-// The next byte to read, and the line's end.
+// The next byte to read, and the line's end: two numbers, lent by `&mut`, as 000 has them.
 #[derive(Clone, Copy)]
 pub struct Cursor {
     pub at: usize,

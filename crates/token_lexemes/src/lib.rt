@@ -1,4 +1,5 @@
 // Tokens as they stand in a music line, each read by a function of its own: all but what a `[` begins with.
+// A line and a position in it stay two arguments: each reader goes on at other positions of the line, and a struct of both would be made anew for each.
 #![tactic(auto)]
 
 ghost use Rattle.std.specs.Prelude.{◌≡◌, suc, ◌+◌, ◌<◌, eqb, length, drop, get_or};
@@ -46,6 +47,7 @@ impl From<NoteKind> for u8 {
 }
 
 // A token, with its length as it is written, a fraction of the unit, or by its written value. A chord's pitches are read again from `place` on (`next_chord_pitch`): no array in an enum.
+// `Nothing` and `Refused` are tokens among the others, as in the definition, and each ends at a position of its own.
 #[derive(Clone, Copy)]
 pub enum Token<L> {
     Space,

@@ -204,6 +204,7 @@ fn chord_letter(
 pub fn next_chord_pitch(line: &[u8], at: usize) -> Result<Option<Read<Pitch>>, Refusal>
     ensures { result ≡ met_for at (pitch_met 0 none (drop at line.now)) }
 {
+    // no `for`: a sign takes one byte, or two with the slash behind it
     let mut waits = None;
     let mut i = at;
     while i < line.len() {

@@ -68,7 +68,7 @@ pub struct Tuplet {
 // A normal number that the meter decides, where the tuplet stands: the definition's own 0, which an empty part passes on as its number (an Option would have to be made of it and undone again).
 pub const BY_METER: u8 = 0;
 
-// The classes of the bytes below 128. The table is made once, and lent to each reader of a token.
+// The classes of the bytes below 128, by the definition's rules.
 #[derive(Clone, Copy)]
 pub struct Classes {
     pub table: [Class; 128],

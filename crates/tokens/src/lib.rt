@@ -1,4 +1,5 @@
 // One token of a music line: the reader by letter class; the token with its written value; and what the scan of the whole text wants of it.
+// A line and a position in it stay two arguments: each reader goes on at other positions of the line, and a struct of both would be made anew for each.
 #![tactic(auto)]
 
 ghost use Rattle.std.specs.Prelude.{◌≡◌, ◌+◌, ◌<◌, length, drop, get_or};
