@@ -20,6 +20,8 @@ use Rattle.lyric_stops.proofs.Table.{how_many, stops_same}
 use Rattle.lyrics.specs.declared.Row.{Row}
 use Rattle.lyrics.specs.declared.Sheet.{Sheet}
 use Rattle.lyrics.specs.Sheet.{lyric_row_width, syllable_of, apply_as, apply_row, syllables_in, Kept, RowAppended}
+use Rattle.reader.specs.Lyrics as Lyrics
+use Rattle.lyrics.proofs.Rows.{happens_put}
 use Rattle.lyrics.proofs.Sheets as sheets
 use Rattle.lyrics.proofs.Sheets.{outside_none}
 use Rattle.lyric_lines.specs.declared.Place.{Place}
@@ -131,7 +133,7 @@ module _ (ed : Edition) (s : List ℕ) (h : Sheet) (v : ℕ) (p q : Place) where
 
   pub sung_syllable : (u : List ℕ) (n : ℕ) (y : Syllable) → RowAppended s u h p.note (row v (Some y.syllabic) y.at y.end) n → TakenPlace ed (stops_by u h) p.note q
       → WordSung ed s u h v p (T.Syllable y) (sung q n)
-  unfolding said syllable_of sung_at apply_as
+  unfolding said syllable_of sung_at
   sung_syllable u n y m t₁ =
       let same : stops_by u h ≡ xs = stops_same s u (stops_of h) m.stops in
       let t : TakenPlace ed xs p.note q = subst (λ (ys : List Stop). TakenPlace ed ys p.note q) same t₁ in
@@ -139,7 +141,7 @@ module _ (ed : Edition) (s : List ℕ) (h : Sheet) (v : ℕ) (p q : Place) where
         kept = m.kept;
         stands = λ start. stands_next ed start xs p q t;
         sung = λ start hints st text ws.
-            ap (sing_at ed start v xs q ws) (m.sung text)
+            ap (sing_at ed start v xs q ws) (m.sung text ∙ ap (λ (f : List Lyrics.Syllable → List Lyrics.Syllable). alter_at p.note f (syllables_in text s h)) (happens_put text (row v (Some y.syllabic) y.at y.end) y.syllabic refl))
             ∙ place_put ed start xs p q v ws t st hints (as_syllabic y.syllabic) (syllable_text (between text y.at y.end)) (syllables_in text s h) (lists text);
         near = taken_near t;
         more = m.more;

@@ -1,4 +1,5 @@
-// Spans of a lyric line: where a word begins and ends, its hyphens and the pieces between them.
+// Spans of a lyric line: where a word begins and ends, its hyphens and the pieces between them. A span goes by its places in the whole text, since a
+// syllable's row holds them.
 #![tactic(auto)]
 
 ghost use Rattle.std.specs.Prelude.{◌≤◌, ◌<◌, ◌≡◌, ℕ, Bool, length};

@@ -109,7 +109,7 @@ fn is_held(found: usize, held: bool, syllabic: Option<Syllabic>) -> bool
     }
 }
 
-// Takes the row at `place` into the window of verses from `from` on.
+// Takes the row at `place` into the window of verses from `from` on. No row is place 0, as in the rows' bytes, where an Option would only be turned into it.
 fn take_row(
     places: &mut [usize; 33],
     held: &mut [bool; 33],
