@@ -61,26 +61,12 @@ pub fn word_end(text: &[u8], at: usize, end: usize) -> usize
     end
 }
 
-// The first byte at or behind `at` that does not pass, or `end`.
-fn run_end<F: Fn(u8) -> bool>(text: &[u8], at: usize, end: usize, passes: F) -> usize
-    requires place { (at ≤ end) × (end ≤ length text.now) }
-    requires callable { F.IsAlwaysCallable passes }
-    ensures { (p : ℕ → Bool) → ((b : ℕ) (r : Bool) → F.post passes b r → r ≡ p b) → result ≡ end_in p text.now at end }
-{
-    for i in at..end {
-        if !passes(text[i]) {
-            return i;
-        }
-    }
-    end
-}
-
 // The first byte at or behind `at` that is no hyphen, or `end`.
 pub fn hyphens_end(text: &[u8], at: usize, end: usize) -> usize
     requires { (at ≤ end) × (end ≤ length text.now) }
     ensures { result ≡ end_in is_hyphen text.now at end }
 {
-    run_end(text, at, end, |b| b == b'-')
+    text_runs::end_while(text, at, end, |b| b == b'-')
 }
 
 // The first hyphen at or behind `at`, or `end`.
@@ -88,7 +74,7 @@ pub fn piece_end(text: &[u8], at: usize, end: usize) -> usize
     requires { (at ≤ end) × (end ≤ length text.now) }
     ensures { result ≡ end_in no_hyphen text.now at end }
 {
-    run_end(text, at, end, |b| b != b'-')
+    text_runs::end_while(text, at, end, |b| b != b'-')
 }
 
 // A byte of a word that begins no white space and is no hyphen, whatever stands behind it.
@@ -114,5 +100,5 @@ pub fn plain_end(text: &[u8], at: usize, end: usize) -> usize
     requires { (at ≤ end) × (end ≤ length text.now) }
     ensures { result ≡ end_in is_plain text.now at end }
 {
-    run_end(text, at, end, is_plain)
+    text_runs::end_while(text, at, end, is_plain)
 }
