@@ -10,36 +10,24 @@ use Rattle.laws.specs.Bytes.{zeros}
 use Rattle.editions.specs.declared.Edition.{Edition}
 use Rattle.reader.specs.Part.{Part}
 use Rattle.reader.specs.Answer as answers
-use Rattle.reader.specs.Answer.{Verdict, refusal, reading, Outcome, Answer, read, refused, encode, refused_with, written, parse_abc, answer_of}
+use Rattle.reader.specs.Answer.{Verdict, refusal, reading, Outcome, read, refused, encode, refused_with, written, parse_abc, answer_of}
 use Rattle.bounds.proofs.Reading.{outcome_cases}
 use Rattle.blocks.specs.Blocks.{rebuilt}
 use Rattle.blocks.specs.Demand.{IsReading, Accepted, voices, only_part, only_voice, part_in, part_of}
 use Rattle.blocks.proofs.Demand.{demand_3, by_name}
 use Rattle.blocks.proofs.Lists.{get_elem?_some}
 use Rattle.blocks.proofs.Parts.{parts_count, part_there}
-use Rattle.reading_answers.specs.declared.Answer as code
-use Rattle.reading_answers.specs.declared.Answer.TheVariants as A
+use Rattle.std.specs.Prelude.{Result, Ok}
+use Rattle.refusals.specs.declared.Refused.{Refused}
 use Rattle.reading_answers.specs.Answers.{answer_as}
+use Rattle.reading_answers.proofs.Same.{same_answer, read_is}
 use Rattle.abc_text.specs.Calls.{In-any-order, Holds, Each-part, Each-alone}
 
--- an answer is told by its meaning
-back : Answer → code.Answer
-back (read n) = A.Read n
-back (refused n l) = A.Refused n l
-
-back_as : (r : code.Answer) → back (answer_as r) ≡ r
-unfolding back
-back_as (A.Read n) = refl
-back_as (A.Refused n l) = refl
-
-same_answer : (r s : code.Answer) → answer_as r ≡ answer_as s → r ≡ s
-same_answer r s e = sym (back_as r) ∙ ap back e ∙ back_as s
-
 -- an accepted text is read, a text that is read is accepted
-accepted_read : (v : Verdict) → IsReading v → (r : code.Answer) → answer_as r ≡ answer_of v → (n : ℕ) × (r ≡ A.Read n)
-unfolding answer_of back
+accepted_read : (v : Verdict) → IsReading v → (r : Result ℕ Refused) → answer_as r ≡ answer_of v → (n : ℕ) × (r ≡ Ok n)
+unfolding answer_of
 accepted_read (refusal n l) h r e = absurd h
-accepted_read (reading ps) h r e = (length (encode ps), sym (back_as r) ∙ ap back e)
+accepted_read (reading ps) h r e = (length (encode ps), read_is r (length (encode ps)) e)
 
 pub read≢refused : (k n l : ℕ) → read k ≡ refused n l → ⊥
 read≢refused k n l e = let z : ◌≡◌ {A = ℕ} 0 1 = cc in omega arith

@@ -13,7 +13,7 @@ use Rattle.reader.specs.Part.{build}
 use Rattle.reader.specs.Records.{sections}
 use Rattle.reader.specs.Answer.{scratch_needed}
 use Rattle.bounds.proofs.Tables.{part_room}
-use Rattle.store_sections.specs.declared.Wrote.TheVariants.{To, NoRoom}
+use Rattle.std.specs.Prelude.{Some, None}
 use Rattle.store_sections.specs.Writes.{WroteIs}
 use Rattle.store_sections.proofs.Writes.{next_to, next_none, none_more}
 use Rattle.scan_table.specs.Rows.{items_in, table_end}
@@ -86,14 +86,14 @@ parts_mono ed k a m (suc n) =
     rw z (omega (arith, parts_mono ed k a m n, ap length (parts_more ed k a (m + n)), length-append (parts_of ed k a (m + n)) (sections (build ed k (items_of (m + n) a)))))
 
 -- a part more behind those that are written
-pub one_part : (ed : Edition) {d e f : List ℕ} {at m : ℕ} (k : Key) (a : Items) (is : List Item) (part : ℕ) → WroteIs d (parts_of ed k a part) e (To at) → is ≡ items_of part a
-    → WroteIs (take (length e - at) (drop at e)) (sections (build ed k is)) f (To m)
-    → WroteIs d (parts_of ed k a (part + 1)) (take at e ++ (f ++ drop (length e - at) (drop at e))) (To (at + m))
+pub one_part : (ed : Edition) {d e f : List ℕ} {at m : ℕ} (k : Key) (a : Items) (is : List Item) (part : ℕ) → WroteIs d (parts_of ed k a part) e (Some at) → is ≡ items_of part a
+    → WroteIs (take (length e - at) (drop at e)) (sections (build ed k is)) f (Some m)
+    → WroteIs d (parts_of ed k a (part + 1)) (take at e ++ (f ++ drop (length e - at) (drop at e))) (Some (at + m))
 one_part ed k a is part h q g = rw (parts_more ed k a part) (next_to h (rw q at g))
 
 -- or no room for it: none for all
-pub no_part : (ed : Edition) {d e f : List ℕ} {at : ℕ} (k : Key) (a : Items) (is : List Item) (part count : ℕ) → part < count → WroteIs d (parts_of ed k a part) e (To at) → is ≡ items_of part a
-    → WroteIs (take (length e - at) (drop at e)) (sections (build ed k is)) f NoRoom → {z : List ℕ} → WroteIs d (parts_of ed k a count) z NoRoom
+pub no_part : (ed : Edition) {d e f : List ℕ} {at : ℕ} (k : Key) (a : Items) (is : List Item) (part count : ℕ) → part < count → WroteIs d (parts_of ed k a part) e (Some at) → is ≡ items_of part a
+    → WroteIs (take (length e - at) (drop at e)) (sections (build ed k is)) f None → {z : List ℕ} → WroteIs d (parts_of ed k a count) z None
 no_part ed k a is part count l h q g =
     let n : part + 1 + (count - (part + 1)) ≡ count = omega arith in
     none_more (next_none h (rw q at g) {z = []}) (parts_of ed k a count)

@@ -14,7 +14,8 @@ use Rattle.reader.specs.Steps.{items_of}
 use Rattle.reader.specs.Scan.{Items, scan}
 use Rattle.reader.specs.Part.{Part}
 use Rattle.reader.specs.Answer.{refused_with, parts, encode, measure_count, written, ended, finish, scanned, answer_of}
-use Rattle.store_sections.specs.declared.Wrote.{Wrote}
+use Rattle.std.specs.Prelude.{Option, Result}
+use Rattle.refusals.specs.declared.Refused.{Refused}
 use Rattle.store_sections.specs.Writes.{Filled}
 use Rattle.scan_table.specs.Rows.{items_in}
 use Rattle.scan_table.proofs.Rows.{length_voices}
@@ -24,26 +25,25 @@ use Rattle.scan.specs.Scanned.{Done}
 use Rattle.abc_answers.specs.Parts.{bytes_of}
 use Rattle.abc_answers.proofs.Owners.{items_owned}
 use Rattle.abc_answers.proofs.Whole.{encode_same, measures_told}
-use Rattle.reading_answers.specs.declared.Answer as code
 use Rattle.reading_answers.specs.Answers.{answer_as}
 use Rattle.abc_text.specs.Answers.{wrote_as, Parsed}
 
 -- parts that are written, or have no room
-filled_parsed : (ps : List Part) (rl sl : ℕ) (w : Wrote) (reading scratch : List ℕ) → Filled (encode ps) rl w reading → scratch ≡ zeros sl
+filled_parsed : (ps : List Part) (rl sl : ℕ) (w : Option ℕ) (reading scratch : List ℕ) → Filled (encode ps) rl w reading → scratch ≡ zeros sl
     → Parsed (cond (leb (length (encode ps)) rl) (written ps rl sl) (refused_with 16 0 rl sl)) (wrote_as w) reading scratch
 unfolding written refused_with answer_of
 filled_parsed ps rl sl w reading scratch f z =
     by_test (leb (length (encode ps)) rl)
-    (λ t. rw t (record { answer = ap (λ (v : Wrote). answer_as (wrote_as v)) f.answer ∙ rw t; reading_is = f.store ∙ rw t; scratch_is = z }))
-    (λ t. rw t (record { answer = ap (λ (v : Wrote). answer_as (wrote_as v)) f.answer ∙ rw t; reading_is = f.store ∙ rw t; scratch_is = z }))
+    (λ t. rw t (record { answer = ap (λ (v : Option ℕ). answer_as (wrote_as v)) f.answer ∙ rw t; reading_is = f.store ∙ rw t; scratch_is = z }))
+    (λ t. rw t (record { answer = ap (λ (v : Option ℕ). answer_as (wrote_as v)) f.answer ∙ rw t; reading_is = f.store ∙ rw t; scratch_is = z }))
 
 -- with a measure, or without
-ended_written : (ps : List Part) (rl sl : ℕ) (w : Wrote) (reading scratch : List ℕ) → leb 1 (sum measure_count ps) ≡ true → Filled (encode ps) rl w reading → scratch ≡ zeros sl
+ended_written : (ps : List Part) (rl sl : ℕ) (w : Option ℕ) (reading scratch : List ℕ) → leb 1 (sum measure_count ps) ≡ true → Filled (encode ps) rl w reading → scratch ≡ zeros sl
     → Parsed (ended ps rl sl) (wrote_as w) reading scratch
 unfolding ended
 ended_written ps rl sl w reading scratch m f z = rw m (filled_parsed ps rl sl w reading scratch f z)
 
-ended_silent : (ps : List Part) (rl sl : ℕ) (r : code.Answer) (reading scratch : List ℕ) → leb 1 (sum measure_count ps) ≡ false → Parsed (refused_with 1 0 rl sl) r reading scratch
+ended_silent : (ps : List Part) (rl sl : ℕ) (r : Result ℕ Refused) (reading scratch : List ℕ) → leb 1 (sum measure_count ps) ≡ false → Parsed (refused_with 1 0 rl sl) r reading scratch
     → Parsed (ended ps rl sl) r reading scratch
 unfolding ended
 ended_silent ps rl sl r reading scratch m p = rw m p
@@ -78,12 +78,12 @@ module _ (ed : Edition) (text s : List ℕ) (h : Shared) (d : Done ed text s h) 
       ∙ (λ i. bytes_of ed (d.key i) (items_in text s h.items) (count i))
 
   -- NO MEASURE
-  pub silent_parsed : (rl sl : ℕ) (r : code.Answer) (reading scratch : List ℕ) → h.music ≡ false → Parsed (refused_with 1 0 rl sl) r reading scratch
+  pub silent_parsed : (rl sl : ℕ) (r : Result ℕ Refused) (reading scratch : List ℕ) → h.music ≡ false → Parsed (refused_with 1 0 rl sl) r reading scratch
       → Parsed (scanned ed rl sl (scan ed (text_lines text))) r reading scratch
   silent_parsed rl sl r reading scratch m p = rw (after rl sl) (ended_silent all_parts rl sl r reading scratch (measures ∙ m) p)
 
   -- A MEASURE: the parts are written, and the rest is cleared
-  pub written_parsed : (rl sl : ℕ) (w : Wrote) (reading scratch : List ℕ) → h.music ≡ true
+  pub written_parsed : (rl sl : ℕ) (w : Option ℕ) (reading scratch : List ℕ) → h.music ≡ true
       → Filled (bytes_of ed (key_as h.key) (items_in text s h.items) (max 1 h.voices)) rl w reading → scratch ≡ zeros sl
       → Parsed (scanned ed rl sl (scan ed (text_lines text))) (wrote_as w) reading scratch
   written_parsed rl sl w reading scratch m f z =

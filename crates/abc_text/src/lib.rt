@@ -6,53 +6,47 @@ ghost use Rattle.std.specs.Prelude.{◌≡◌, List, ℕ, ◌+◌, ◌*◌, ◌^
 ghost use Rattle.reader.specs.Text.{text_lines};
 ghost use Rattle.reader.specs.Scan.{scan};
 ghost use Rattle.reader.specs.Answer.{scratch_needed, refused_with, scanned, parse_abc, answer_of};
+ghost use Rattle.refusals.specs.Numbers.{number_of};
 ghost use Rattle.field_keys.specs.Passed.{key_as};
 ghost use Rattle.scan_table.specs.Rows.{items_in};
 ghost use Rattle.store_sections.specs.Writes.{WroteIs};
 ghost use Rattle.scan.specs.Scanned.{Done};
 ghost use Rattle.abc_answers.specs.Parts.{parts_of, bytes_of};
 ghost use Rattle.reading_answers.specs.Answers.{answer_as};
-ghost use Rattle.abc_text.specs.Answers.{wrote_as, Parsed, EarlyIs, Rooms};
+ghost use Rattle.abc_text.specs.Answers.{Parsed, EarlyIs, Rooms};
 
 use editions::Edition;
 use field_keys::Key;
 use reading_answers::Answer;
-use scan::{Scanned, Shared};
-use store_sections::Wrote;
+use refusals::{Refusal, Refused};
+use scan::Shared;
 
-// Whether a text passes the tests before its first line, or the refusal's number.
-#[derive(Clone, Copy)]
-enum Early {
-    Passes,
-    Refused(u8),
-}
-
-// Refusals 2, 3, 1 for a blank text, and 15, in this order; `room` is the scratch store's length.
-fn test_text(text: &[u8], room: usize) -> Early
+// The tests before a text's first line: TooLong, NotUtf8, NoMusic for a blank text, and ScratchShort, in this order; `room` is the scratch store's length.
+fn test_text(text: &[u8], room: usize) -> Result<(), Refusal>
     ensures { EarlyIs text.now room result }
 {
     if 67108864 < text.len() {
-        return Early::Refused(2);
+        return Err(Refusal::TooLong);
     }
     if !text_utf8::is_utf8(text) {
-        return Early::Refused(3);
+        return Err(Refusal::NotUtf8);
     }
     if text_white::is_blank(text) {
-        return Early::Refused(1);
+        return Err(Refusal::NoMusic);
     }
     if room < 32 * (text.len() + 256) {
-        return Early::Refused(15);
+        return Err(Refusal::ScratchShort);
     }
-    Early::Passes
+    Ok(())
 }
 
 // A refusal: both stores are zeros.
-fn refuse(reading: &mut [u8], scratch: &mut [u8], n: u8, l: u32) -> Answer
-    ensures { Parsed (refused_with n l (length reading.old) (length scratch.old)) result reading.new scratch.new }
+fn refuse(reading: &mut [u8], scratch: &mut [u8], refused: Refused) -> Answer
+    ensures { Parsed (refused_with (number_of refused.refusal) refused.line (length reading.old) (length scratch.old)) result reading.new scratch.new }
 {
     store::clear(reading, 0);
     store::clear(scratch, 0);
-    Answer::Refused(n, l)
+    Err(refused)
 }
 
 // One part for each voice, one at least.
@@ -72,16 +66,15 @@ fn append_parts(
     count: u8,
     key: Key,
     to: &mut [u8],
-) -> Wrote
+) -> Option<usize>
     requires { Rooms text.now scratch.old n }
     ensures { WroteIs to.old (parts_of edition (key_as key) (items_in text.now scratch.old n) count) to.new result }
 {
-    let mut at: usize = 0;
-    let mut part: u8 = 0;
-    while part < count {
+    let mut at = 0;
+    for part in 0..count {
         let own = scan_parts::own_items(text, scratch, n, part, count);
         let from = own.at;
-        let Wrote::To(m) = abc_parts::write_part(
+        at += abc_parts::write_part(
             edition,
             text,
             &mut scratch[from..],
@@ -89,13 +82,9 @@ fn append_parts(
             part,
             key,
             &mut to[at..],
-        ) else {
-            return Wrote::NoRoom;
-        };
-        at += m;
-        part += 1;
+        )?;
     }
-    Wrote::To(at)
+    Some(at)
 }
 
 // The count of parts and, where that ended, the parts.
@@ -107,30 +96,16 @@ fn write_parts(
     count: u8,
     key: Key,
     to: &mut [u8],
-) -> Wrote
+) -> Option<usize>
     requires { Rooms text.now scratch.old n }
     ensures { WroteIs to.old (bytes_of edition (key_as key) (items_in text.now scratch.old n) count) to.new result }
 {
-    let Wrote::To(at) = store_sections::write_u32(to, count as u32) else {
-        return Wrote::NoRoom;
-    };
-    let Wrote::To(m) = append_parts(edition, text, scratch, n, count, key, &mut to[at..]) else {
-        return Wrote::NoRoom;
-    };
-    Wrote::To(at + m)
+    let at = store_sections::write_u32(to, count as u32)?;
+    let m = append_parts(edition, text, scratch, n, count, key, &mut to[at..])?;
+    Some(at + m)
 }
 
-// The reading's length, or 16.
-fn wrote_answer(w: Wrote) -> Answer
-    ensures { result ≡ wrote_as w }
-{
-    match w {
-        Wrote::To(n) => Answer::Read(n),
-        Wrote::NoRoom => Answer::Refused(16, 0),
-    }
-}
-
-// After the scan: 1 where there is no measure, 16 where the reading has no room; else it is written.
+// After the scan: NoMusic where there is no measure, ReadingShort where the reading has no room; else it is written.
 fn finish(
     edition: Edition,
     text: &[u8],
@@ -143,14 +118,24 @@ fn finish(
     ensures { Parsed (scanned edition (length reading.old) (length scratch.old) (scan edition (text_lines text.now))) result reading.new scratch.new }
 {
     if !h.music {
-        return refuse(reading, scratch, 1, 0);
+        return refuse(
+            reading,
+            scratch,
+            Refused {
+                refusal: Refusal::NoMusic,
+                line: 0,
+            },
+        );
     }
     let count = count_parts(h.voices);
     let key = h.key;
     let w = write_parts(edition, text, scratch, h.items, count, key, reading);
     store::clear(scratch, 0);
     store_sections::seal(reading, w);
-    wrote_answer(w)
+    w.ok_or(Refused {
+        refusal: Refusal::ReadingShort,
+        line: 0,
+    })
 }
 
 // The whole of it: any bytes, stores of any length, in the edition that the caller names.
@@ -160,10 +145,10 @@ pub fn parse_abc(text: &[u8], reading: &mut [u8], scratch: &mut [u8], edition: E
     ensures scratch_after { scratch.new ≡ (parse_abc edition text.now (length reading.old) (length scratch.old)).scratch }
 {
     match test_text(text, scratch.len()) {
-        Early::Refused(n) => refuse(reading, scratch, n, 0),
-        Early::Passes => match scan::scan_lines(edition, text, scratch) {
-            Scanned::Refused(n, l) => refuse(reading, scratch, n, l),
-            Scanned::Done(h) => finish(edition, text, reading, scratch, h),
+        Err(refusal) => refuse(reading, scratch, Refused { refusal, line: 0 }),
+        Ok(()) => match scan::scan_lines(edition, text, scratch) {
+            Err(refused) => refuse(reading, scratch, refused),
+            Ok(h) => finish(edition, text, reading, scratch, h),
         },
     }
 }

@@ -24,7 +24,7 @@ seal-requires c = reached_in c.write_parts-w.ensures (search rules)
 pub returns : goal.returns
 returns c =
     let a = c.args in
-    rw c.wrote_answer.ensures
+    rw c.ok_or.ensures.value
     (written_parsed _ a.text.now a.scratch.now a.h c.requires.done _ _ _ _ _ (not_false _ c.if-not-h.false)
     (filled (rw c.count_parts-count.ensures at c.write_parts-w.ensures) (search rules) c.seal.ensures)
     (cleared _ _ _ c.clear.ensures (search rules)))

@@ -5,4 +5,4 @@ use Rattle.abc_text.proofs.refuse.Goals as goal
 pub returns : goal.returns
 returns c =
     let a = c.args in
-    refused_parsed a.reading.now a.scratch.now _ _ a.n a.l c.clear.ensures c.clear-2.ensures
+    refused_parsed a.reading.now a.scratch.now _ _ a.refused c.clear.ensures c.clear-2.ensures
