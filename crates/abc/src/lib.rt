@@ -24,8 +24,11 @@ fn pack(a: Answer) -> u64
     ensures result_value { unpacked result ≡ answer_as a }
 {
     match a {
-        Answer::Read(n) => n as u64,
-        Answer::Refused(n, l) => REFUSED + (n as u64) * NUMBER + (l as u64),
+        Ok(n) => n as u64,
+        Err(refused) => {
+            let number = u64::from(u8::from(refused.refusal));
+            REFUSED + number * NUMBER + u64::from(refused.line)
+        }
     }
 }
 
