@@ -16,6 +16,7 @@ use Rattle.lyrics.specs.Items.{line_of, lines_in}
 use Rattle.part_rows.specs.Table.{Only}
 use Rattle.part_registers.specs.declared.Tables.{Tables}
 use Rattle.part_registers.specs.declared.Registers.{Registers}
+use Rattle.part_registers.specs.declared.Running.TheVariants.{Nothing}
 use Rattle.part_bars.specs.Bars.{nowhere}
 use Rattle.part_invariant.specs.Invariant.{Represents}
 use Rattle.part_invariant.specs.Lines.{RoomForBytes, RepresentedBetween, GrowsBy}
@@ -30,7 +31,7 @@ begun =
       pending = record { tie = false; slur = false; grace = false };
       line = record { unit = 8; top = 4; bottom = 4; overlay = 0; run = 0 };
       half = None;
-      tuplet = None;
+      tuplet = Nothing;
       verses = record { sounded = 0; start = 0; verse = 1 };
     }
 

@@ -18,7 +18,7 @@ ghost use Rattle.part_items.specs.Items.{begun, keyed_as, versed, Ready, Taken, 
 use editions::Edition;
 use field_keys::Key;
 use part_accidentals::AbcPartParseState;
-use part_registers::{Counts, Line, Pending, Registers, Tables, Verses};
+use part_registers::{Counts, Line, Pending, Registers, Running, Tables, Verses};
 use scan_table::{Kind, Row};
 
 // A part before its first item: C major, 4/4, unit 1/8.
@@ -50,7 +50,7 @@ pub fn begin_part() -> Registers
             overlay: 0,
             run: 0,
         },
-        tuplet: None,
+        tuplet: Running::Nothing,
         half: None,
         verses: Verses {
             sounded: 0,

@@ -8,6 +8,7 @@ use Rattle.part_rows.specs.declared.NoteRow.{NoteRow}
 use Rattle.part_registers.specs.declared.Pending.{Pending}
 use Rattle.part_registers.specs.declared.Half.{Half}
 use Rattle.part_registers.specs.declared.Running.{Running}
+use Rattle.part_registers.specs.declared.Running.TheVariants as running
 
 unfoldable pub beams : ℕ → ℕ → Bool
 beams kind value = eqb kind 0 && (leb 5 value && leb value 9)
@@ -33,13 +34,13 @@ with_value w n = record { kind = n.kind; value = w.value; dots = w.dots; flags =
 abbrev pub with_group : ℕ → ℕ → ℕ → NoteRow → NoteRow
 with_group a b c n = record { kind = n.kind; value = n.value; dots = n.dots; flags = n.flags; beam = n.beam; actual = a; normal = b; boundary = c; pitches = n.pitches }
 
-unfoldable pub grouped_row : Option Running → NoteRow → NoteRow
-grouped_row None n = n
-grouped_row (Some t) n = with_group t.actual t.normal (boundary_of (eqb t.remaining t.count) (eqb t.remaining 1)) n
+unfoldable pub grouped_row : Running → NoteRow → NoteRow
+grouped_row running.Nothing n = n
+grouped_row (running.Tuplet actual normal count remaining) n = with_group actual normal (boundary_of (eqb remaining count) (eqb remaining 1)) n
 
-unfoldable pub fewer : Option Running → Option Running
-fewer None = None
-fewer (Some t) = cond (leb t.remaining 1) None (Some (record { actual = t.actual; normal = t.normal; count = t.count; remaining = t.remaining - 1 }))
+unfoldable pub fewer : Running → Running
+fewer running.Nothing = running.Nothing
+fewer (running.Tuplet actual normal count remaining) = cond (leb remaining 1) running.Nothing (running.Tuplet actual normal count (remaining - 1))
 
 unfoldable pub broken_row : Bool → ℕ → NoteRow → NoteRow
 broken_row up times n = with_value (as_value (broken_length up times (length_in n.value n.dots))) n

@@ -10,6 +10,7 @@ use Rattle.part_registers.specs.declared.Pending.{Pending}
 use Rattle.part_registers.specs.declared.Line.{Line}
 use Rattle.part_registers.specs.declared.Half.{Half}
 use Rattle.part_registers.specs.declared.Running.{Running}
+use Rattle.part_registers.specs.declared.Running.TheVariants as running
 
 abbrev pub pending_for : Notes.Pending → Pending
 pending_for p = record { tie = p.tie; slur = p.slur; grace = p.grace }
@@ -18,9 +19,9 @@ abbrev pub half_for : Option State.Half → code.Option Half
 half_for none = None
 half_for (some h) = Some (record { up = h.up; times = h.times })
 
-abbrev pub running_for : Option State.Running → code.Option Running
-running_for none = None
-running_for (some t) = Some (record { actual = t.tuplet.actual; normal = t.tuplet.normal; count = t.tuplet.count; remaining = t.remaining })
+abbrev pub running_for : Option State.Running → Running
+running_for none = running.Nothing
+running_for (some t) = running.Tuplet t.tuplet.actual t.tuplet.normal t.tuplet.count t.remaining
 
 -- a run of more than two notes counts as two
 abbrev pub line_for : State.Line → Line

@@ -42,7 +42,7 @@ use Rattle.part_invariant.specs.Invariant.{Room, Stored, Represents, Represented
 use Rattle.part_invariant.proofs.Stores.{note_altered}
 use Rattle.part_invariant.proofs.Logs.{place_at, place_pitches, broken_pitches}
 use Rattle.part_invariant.proofs.Appending.{some_note, stored_pitches}
-use Rattle.part_rhythm.specs.Rhythm.{place_of, broken_value, value_bytes, broken_store, again_beam, again_store, again_in, again_run, row_of, half_waits, runs}
+use Rattle.part_rhythm.specs.Rhythm.{place_of, broken_value, value_bytes, broken_store, broken_in, half_after, again_beam, again_store, again_in, again_run, again_at, run_at, row_of, half_waits, runs}
 
 -- the counts as they are
 same_counts : (c : Counts) → Grows c c 0 0 0 0
@@ -326,3 +326,24 @@ module _ {t : Tables} {s : List ℕ} {r : Registers} (room : Room t r.counts (le
 pub no_run : {t : Tables} {s : List ℕ} {r : Registers} → Room t r.counts (length s) 0 0 0 0 → RepresentedInLine t s r → None ≡ row_of r → (x : Registers) → x ≡ runs r 0
     → Simulates t s r s x 0 0 0 0 (λ l. on_token l token.nothing)
 no_run {t} {s} {r} room a e x ex = subst (λ (y : Registers). Simulates t s r s y 0 0 0 0 (λ l. on_token l token.nothing)) (sym ex) (nothing_none room a (row_none r e))
+
+-- of the row that there may be
+module _ {t : Tables} {s : List ℕ} {r : Registers} (room : Room t r.counts (length s) 0 0 0 0) (a : RepresentedInLine t s r) where
+  -- there is room for it
+  pub inside : (row : code.Option ℕ) → row ≡ row_of r → (i : ℕ) → row ≡ Some i → t.notes + note_row_width * i + note_row_width ≤ length s
+  inside row e i d = row_inside room a i (sym d ∙ e)
+
+  pub broken_either : (row : code.Option ℕ) → row ≡ row_of r → (up : Bool) (times : ℕ) (s' : List ℕ) → s' ≡ broken_in s t.notes row up times → (x : Registers)
+      → x ≡ half_waits r (half_after r.half row (record { up = not up; times = times })) → Simulates t s r s' x 0 0 0 0 (λ l. on_token l (token.broken up times))
+  unfolding broken_in half_after
+  broken_either None e up times s' d x ex =
+      subst (λ (y : Registers). Simulates t s r s' y 0 0 0 0 (λ l. on_token l (token.broken up times))) (sym ex)
+      (subst (λ (q : List ℕ). Simulates t s r q r 0 0 0 0 (λ l. on_token l (token.broken up times))) (sym d) (broken_none room a up times (row_none r e)))
+  broken_either (Some i) e up times s' d x ex = broken_by room a i e up times s' d x ex
+
+  pub nothing_either : (row : code.Option ℕ) → row ≡ row_of r → (s' : List ℕ) → s' ≡ again_at s t.notes row r.line.run → (run : ℕ) → run ≡ run_at s t.notes row r.line.run → (x : Registers) → x ≡ runs r run
+      → Simulates t s r s' x 0 0 0 0 (λ l. on_token l token.nothing)
+  unfolding again_at run_at
+  nothing_either None e s' d run er x ex =
+      subst (λ (q : List ℕ). Simulates t s r q x 0 0 0 0 (λ l. on_token l token.nothing)) (sym d) (no_run room a e x (ex ∙ ap (runs r) er))
+  nothing_either (Some i) e s' d run er x ex = nothing_by room a i e s' d run er x ex

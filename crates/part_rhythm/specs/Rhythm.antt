@@ -1,12 +1,12 @@
 -- The last note's row and the registers by the code's values.
-use Rattle.std.specs.Prelude.{ℕ, ◌+◌, ◌-◌, Bool, cond, List, [], ◌∷◌, eqb, get_or, Option, None, Some}
+use Rattle.std.specs.Prelude.{ℕ, ◌+◌, ◌-◌, ◌*◌, Bool, cond, List, [], ◌∷◌, eqb, get_or, Option, None, Some}
 use Rattle.laws.specs.Bytes.{splice}
 use Rattle.standard.specs.Lengths.{Value}
 use Rattle.token_lengths.specs.Values.{as_value, broken_length}
 use Rattle.part_registers.specs.declared.Registers.{Registers}
 use Rattle.part_registers.specs.declared.Half.{Half}
 use Rattle.part_registers.specs.Notes.{beams, length_in, run_again}
-use Rattle.part_rows.specs.Encoded.{value_at, dots_at, beam_at}
+use Rattle.part_rows.specs.Encoded.{note_row_width, value_at, dots_at, beam_at}
 
 -- the place of the last note of the voice being written
 abbrev pub place_of : Registers → ℕ
@@ -27,6 +27,16 @@ value_bytes w = w.value ∷ w.dots ∷ []
 abbrev pub broken_store : List ℕ → ℕ → Bool → ℕ → List ℕ
 broken_store s place up times = splice s (place + value_at) (value_bytes (broken_value up times (get_or s (place + value_at) 0) (get_or s (place + dots_at) 0)))
 
+-- the same for the row there may be
+unfoldable pub broken_in : List ℕ → ℕ → Option ℕ → Bool → ℕ → List ℕ
+broken_in s at None up times = s
+broken_in s at (Some i) up times = broken_store s (at + note_row_width * i) up times
+
+-- where a note is broken its other half waits
+unfoldable pub half_after : Option Half → Option ℕ → Half → Option Half
+half_after before None half = before
+half_after before (Some i) half = Some half
+
 -- what the beam step writes for a note of this kind and value; and the row at a place after it
 unfoldable pub again_beam : ℕ → ℕ → ℕ → List ℕ
 again_beam run kind value = cond (beams kind value) (cond (eqb run 0) [] (3 ∷ [])) (0 ∷ [])
@@ -40,6 +50,15 @@ again_in s place run = again_store s place run (get_or s place 0) (get_or s (pla
 
 abbrev pub again_run : List ℕ → ℕ → ℕ → ℕ
 again_run s place run = run_again run (get_or s place 0) (get_or s (place + value_at) 0)
+
+-- and for the row there may be
+unfoldable pub again_at : List ℕ → ℕ → Option ℕ → ℕ → List ℕ
+again_at s at None run = s
+again_at s at (Some i) run = again_in s (at + note_row_width * i) run
+
+unfoldable pub run_at : List ℕ → ℕ → Option ℕ → ℕ → ℕ
+run_at s at None run = 0
+run_at s at (Some i) run = again_run s (at + note_row_width * i) run
 
 -- another half; another run
 abbrev pub half_waits : Registers → Option Half → Registers

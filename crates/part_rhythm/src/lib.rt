@@ -1,12 +1,12 @@
 // The voice's last note, changed behind it: broken rhythm, and the beam step taken once more after an empty chord or an accidental without a note.
 #![tactic(auto)]
 
-ghost use Rattle.std.specs.Prelude.{◌≡◌, ◌+◌, ◌*◌, ◌≤◌, ◌<◌, length, Some};
+ghost use Rattle.std.specs.Prelude.{◌≡◌, ℕ, ◌+◌, ◌*◌, ◌≤◌, ◌<◌, length, Some};
 ghost use Rattle.reader.specs.Token as token;
 ghost use Rattle.part_layout.specs.Log.{on_token};
 ghost use Rattle.part_invariant.specs.Invariant.{Room, RepresentedInLine, Simulates};
 ghost use Rattle.part_rows.specs.Encoded.{note_row_width};
-ghost use Rattle.part_rhythm.specs.Rhythm.{broken_store, again_store, again_in, again_run, row_of, half_waits, runs};
+ghost use Rattle.part_rhythm.specs.Rhythm.{broken_store, broken_in, half_after, again_store, again_in, again_run, again_at, run_at, row_of, half_waits, runs};
 
 use part_registers::{Half, Registers, Tables};
 use part_rows::Beam;
@@ -39,12 +39,35 @@ fn break_note(store: &mut [u8], at: usize, i: usize, half: Half)
     part_rows::set_note_value(store, at, i, value, dots);
 }
 
-// A half waits for the next note.
-fn wait_for(r: Registers, half: Half) -> Registers
-    ensures { result ≡ half_waits r (Some half) }
+// The note in that row, if there is one.
+#[tactic(auto, unfolding(crate::specs::Rhythm::broken_in))]
+fn break_row(store: &mut [u8], at: usize, row: Option<usize>, half: Half)
+    requires { (i : ℕ) → row ≡ Some i → at + note_row_width * i + note_row_width ≤ length store.old }
+    ensures { store.new ≡ broken_in store.old at row half.up half.times }
 {
+    if let Some(i) = row {
+        break_note(store, at, i, half);
+    }
+}
+
+// Where a note is broken its other half waits for the next one.
+#[tactic(auto, unfolding(crate::specs::Rhythm::half_after))]
+fn half_after(before: Option<Half>, row: Option<usize>, half: Half) -> Option<Half>
+    ensures { result ≡ half_after before row half }
+{
+    match row {
+        None => before,
+        Some(_) => Some(half),
+    }
+}
+
+// The registers have one way on here, whether a note is broken or not: with two the compiler copies more of them for every token (a fifth of the instructions on notes).
+fn wait_for(r: Registers, row: Option<usize>, half: Half) -> Registers
+    ensures { result ≡ half_waits r (half_after r.half row half) }
+{
+    let after = half_after(r.half, row, half);
     let mut x = r;
-    x.half = Some(half);
+    x.half = after;
     x
 }
 
@@ -53,13 +76,9 @@ pub fn on_broken(store: &mut [u8], t: Tables, r: Registers, up: bool, times: u8)
     requires { Room t r.counts (length store.old) 0 0 0 0 × RepresentedInLine t store.old r }
     ensures { Simulates t store.old r store.new result 0 0 0 0 (λ l. on_token l (token.broken up times)) }
 {
-    match last_row(r) {
-        None => r,
-        Some(i) => {
-            break_note(store, t.notes, i, Half { up, times });
-            wait_for(r, Half { up: !up, times })
-        }
-    }
+    let row = last_row(r);
+    break_row(store, t.notes, row, Half { up, times });
+    wait_for(r, row, Half { up: !up, times })
 }
 
 // THE BEAM STEP ONCE MORE
@@ -98,16 +117,25 @@ fn run_again(store: &mut [u8], at: usize, i: usize, run: u8) -> u8
     part_registers::update_abc_beam_run(run, w.kind, w.value)
 }
 
+// The beam step on the note in that row, and the run after it; none where there is no row.
+#[tactic(auto, unfolding(crate::specs::Rhythm::again_at, crate::specs::Rhythm::run_at))]
+fn run_after(store: &mut [u8], at: usize, row: Option<usize>, run: u8) -> u8
+    requires { (i : ℕ) → row ≡ Some i → at + note_row_width * i + note_row_width ≤ length store.old }
+    ensures value { result ≡ run_at store.old at row run }
+    ensures store_after { store.new ≡ again_at store.old at row run }
+{
+    match row {
+        None => 0,
+        Some(i) => run_again(store, at, i, run),
+    }
+}
+
 // An empty chord, or an accidental without a note: the beam step on the voice's last note. Where there is none, no beam runs.
 pub fn on_nothing(store: &mut [u8], t: Tables, r: Registers) -> Registers
     requires { Room t r.counts (length store.old) 0 0 0 0 × RepresentedInLine t store.old r }
     ensures { Simulates t store.old r store.new result 0 0 0 0 (λ l. on_token l token.nothing) }
 {
-    match last_row(r) {
-        None => run_on(r, 0),
-        Some(i) => {
-            let run = run_again(store, t.notes, i, r.line.run);
-            run_on(r, run)
-        }
-    }
+    let row = last_row(r);
+    let run = run_after(store, t.notes, row, r.line.run);
+    run_on(r, run)
 }

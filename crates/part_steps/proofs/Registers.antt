@@ -16,6 +16,7 @@ use Rattle.part_rows.proofs.Tables.{only_none}
 use Rattle.part_registers.specs.declared.Line.{Line}
 use Rattle.part_registers.specs.declared.Pending.{Pending}
 use Rattle.part_registers.specs.declared.Running.{Running}
+use Rattle.part_registers.specs.declared.Running.TheVariants.{Tuplet}
 use Rattle.part_registers.specs.declared.Tables.{Tables}
 use Rattle.part_registers.specs.declared.Registers.{Registers}
 use Rattle.part_registers.specs.States.{pending_for, running_for, line_for}
@@ -23,7 +24,7 @@ use Rattle.part_invariant.specs.Invariant.{Simulates}
 use Rattle.part_bars.proofs.Heads.{grows_none}
 use Rattle.reader.specs.Part.{in_meter}
 
-abbrev lined : Registers → Line → Option Running → Registers
+abbrev lined : Registers → Line → Running → Registers
 lined r line group =
     record { counts = r.counts; key = r.key; last = r.last; pending = r.pending; line = line; half = r.half; tuplet = group; verses = r.verses }
 
@@ -33,7 +34,7 @@ pended r p =
 
 module _ (r : Registers) (t : Tables) (s : List ℕ) where
   -- another line: f leaves its half
-  lined_simulates : (line : Line) (group : Option Running) (f : State.Line → State.Line) → ((n : State.Line) → r.line ≡ line_for n → line ≡ line_for (f n)) → ((n : State.Line) → (f n).half ≡ n.half)
+  lined_simulates : (line : Line) (group : Running) (f : State.Line → State.Line) → ((n : State.Line) → r.line ≡ line_for n → line ≡ line_for (f n)) → ((n : State.Line) → (f n).half ≡ n.half)
       → ((n : State.Line) → r.line ≡ line_for n → r.tuplet ≡ running_for n.tuplet → group ≡ running_for (f n).tuplet) → Simulates t s r s (lined r line group) 0 0 0 0 (λ l. set_line (f l.line) l)
   lined_simulates line group f a b c =
       record {
@@ -96,11 +97,11 @@ module _ (r : Registers) (t : Tables) (s : List ℕ) where
 
   -- the meter of the line decides a default that waits for it
   pub tuplet_simulates : (actual normal count there : ℕ) → there ≡ normal_in (r.line.top, r.line.bottom) normal
-      → Simulates t s r s (lined r r.line (Some (record { actual = actual; normal = there; count = count; remaining = count }))) 0 0 0 0 (λ l. on_token l (token.tuplet (record { actual = actual; normal = normal; count = count })))
+      → Simulates t s r s (lined r r.line (Tuplet actual there count count)) 0 0 0 0 (λ l. on_token l (token.tuplet (record { actual = actual; normal = normal; count = count })))
   unfolding on_token in_meter
   tuplet_simulates actual normal count there k =
       lined_simulates _ _ (λ n. with_tuplet (some (record { tuplet = in_meter n.meter (record { actual = actual; normal = normal; count = count }); remaining = count })) n) (λ n e. e) (λ n. refl)
-      (λ n e d. ap (λ (q : ℕ). Some (record { actual = actual; normal = q; count = count; remaining = count })) (k ∙ ap (λ (x : Line). normal_in (x.top, x.bottom) normal) e))
+      (λ n e d. ap (λ (q : ℕ). Tuplet actual q count count) (k ∙ ap (λ (x : Line). normal_in (x.top, x.bottom) normal) e))
 
   pub unit_simulates : (unit : ℕ) → Simulates t s r s (lined r (record { unit = unit; top = r.line.top; bottom = r.line.bottom; overlay = r.line.overlay; run = r.line.run }) r.tuplet) 0 0 0 0 (λ l. on_token l (token.unit unit))
   unfolding on_token

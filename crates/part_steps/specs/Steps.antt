@@ -3,6 +3,7 @@ use Rattle.std.specs.Prelude.{None}
 use Rattle.std.specs.Prelude.{ℕ}
 use Rattle.standard.specs.Keys.{Key}
 use Rattle.part_registers.specs.declared.Registers.{Registers}
+use Rattle.part_registers.specs.declared.Running.TheVariants.{Nothing}
 use Rattle.part_bars.specs.Bars.{nowhere}
 
 abbrev pub hearing : Registers → Key → Registers
@@ -28,6 +29,6 @@ begun r heads unit top bottom =
       pending = r.pending;
       line = record { unit = unit; top = top; bottom = bottom; overlay = 0; run = 0 };
       half = None;
-      tuplet = None;
+      tuplet = Nothing;
       verses = record { sounded = r.verses.sounded; start = r.verses.sounded; verse = 1 };
     }

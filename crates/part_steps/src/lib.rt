@@ -68,14 +68,14 @@ pub fn on_tuplet(r: Registers, tuplet: Tuplet) -> Registers
     ensures { (t : Tables) (s : List ℕ) → Simulates t s r s result 0 0 0 0 (λ l. on_token l (token.tuplet (record { actual = tuplet.actual; normal = tuplet.normal; count = tuplet.count }))) }
 {
     let line = r.line;
-    let running = Running {
+    let running = Running::Tuplet {
         actual: tuplet.actual,
         normal: normal_in(line.top, line.bottom, tuplet.normal),
         count: tuplet.count,
         remaining: tuplet.count,
     };
     let mut x = r;
-    x.tuplet = Some(running);
+    x.tuplet = running;
     x
 }
 
@@ -154,7 +154,7 @@ fn new_line(r: Registers, heads: u32, unit: u32, top: u8, bottom: u8) -> Registe
     let mut x = r;
     x.counts.heads = heads;
     x.line = line;
-    x.tuplet = None;
+    x.tuplet = Running::Nothing;
     x.half = None;
     x.verses.start = verses.sounded;
     x.verses.verse = 1;

@@ -20,8 +20,9 @@ use Rattle.tally_counts.specs.Counted.{counts_from}
 use Rattle.tally_counts.proofs.Encoded.{Read, told_tally}
 use Rattle.io.specs.Counts as io
 use Rattle.tally_text.specs.Printed.{parts_text, refused_text, verdict_text, most_input, reading_bytes, scratch_bytes, printed, reading_left, scratch_left, Adds}
-use Rattle.reading_answers.specs.declared.Answer as code
-use Rattle.reading_answers.specs.declared.Answer.TheVariants as A
+use Rattle.std.specs.Prelude.{Result, Ok, Err}
+use Rattle.refusals.specs.declared.Refused.{Refused}
+use Rattle.refusals.specs.Numbers.{number_of}
 use Rattle.reading_answers.specs.Answers.{answer_as}
 use Rattle.abc_text.proofs.Order.{read≢refused}
 
@@ -81,8 +82,8 @@ unfolding answer_of verdict_text text_of
 refusal_of (refusal k m) n l e = ap text_of e
 refusal_of (reading ps) n l e = absurd (read≢refused _ n l (sym e))
 
-pub refused_text_lem : (v : Verdict) (r : code.Answer) (n l : ℕ) → answer_as r ≡ answer_of v → r ≡ A.Refused n l → refused_text n l ≡ verdict_text v
-refused_text_lem v r n l e q = refusal_of v n l (sym (ap answer_as q) ∙ e)
+pub refused_text_lem : (v : Verdict) (x : Refused) → answer_as (Err x) ≡ answer_of v → refused_text (number_of x.refusal) x.line ≡ verdict_text v
+refused_text_lem v x e = refusal_of v (number_of x.refusal) x.line e
 
 -- a reading
 read_of : (v : Verdict) (n : ℕ) → read n ≡ answer_of v → (ps : List Part) × (v ≡ reading ps)
@@ -94,11 +95,11 @@ pub record Countable (s : List ℕ) (text : List ℕ) : Type 0 where
   pub room : (first_part ≤ length s) × (u32_at s 0 ≤ 32) × PartsWithin s first_part (u32_at s 0)
   pub is : parts_text (u32_at s 0) (counts_from s first_part (u32_at s 0)) ≡ text
 
-pub read_text : (input : List ℕ) (rl sl : ℕ) (s : List ℕ) (r : code.Answer) (n : ℕ) → answer_as r ≡ answer_of (parse_abc First input rl sl).verdict → r ≡ A.Read n → s ≡ (parse_abc First input rl sl).reading
+pub read_text : (input : List ℕ) (rl sl : ℕ) (s : List ℕ) (n : ℕ) → answer_as (Ok n) ≡ answer_of (parse_abc First input rl sl).verdict → s ≡ (parse_abc First input rl sl).reading
     → Countable s (verdict_text (parse_abc First input rl sl).verdict)
 unfolding verdict_text
-read_text input rl sl s r n e q es =
-    let p = read_of (parse_abc First input rl sl).verdict n (sym (ap answer_as q) ∙ e) in
+read_text input rl sl s n e es =
+    let p = read_of (parse_abc First input rl sl).verdict n e in
     let t = told_tally input rl sl p.0 p.1 in
     let x : Read s p.0 = subst (λ (l : List ℕ). Read l p.0) (sym es) t.0 in
     record {

@@ -6,7 +6,6 @@ ghost use Rattle.io.specs.Counts as io_counts;
 ghost use Rattle.tally_text.specs.Printed.{reading_bytes, scratch_bytes, out_bytes, printed, reading_left, scratch_left};
 
 use editions::Edition;
-use reading_answers::Answer;
 use std::io::{Read, Result};
 
 // The longest input that is read.
@@ -30,8 +29,8 @@ pub fn tally(input: &[u8], reading: &mut [u8], scratch: &mut [u8], out: &mut [u8
         return tally_text::append_bytes(out, 0, b"too long\n");
     }
     match abc_text::parse_abc(input, reading, scratch, Edition::First) {
-        Answer::Read(_) => tally_text::append_reading(reading, out),
-        Answer::Refused(n, l) => tally_text::append_refusal(out, n, l),
+        Ok(_) => tally_text::append_reading(reading, out),
+        Err(refused) => tally_text::append_refusal(out, refused),
     }
 }
 

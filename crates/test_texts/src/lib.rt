@@ -37,8 +37,8 @@ fn row_length(rows: &[u8]) -> usize
 // The answer is the row's.
 fn is_answer(answer: Answer, refusal: u8, number: usize) -> bool {
     match answer {
-        Answer::Read(n) => refusal == 0 && n == number,
-        Answer::Refused(k, l) => k == refusal && l as usize == number,
+        Ok(n) => refusal == 0 && n == number,
+        Err(refused) => u8::from(refused.refusal) == refusal && refused.line as usize == number,
     }
 }
 

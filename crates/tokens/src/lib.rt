@@ -2,11 +2,12 @@
 // A line and a position in it stay two arguments: each reader goes on at other positions of the line, and a struct of both would be made anew for each.
 #![tactic(auto)]
 
-ghost use Rattle.std.specs.Prelude.{◌≡◌, ◌+◌, ◌<◌, length, drop, get_or};
+ghost use Rattle.std.specs.Prelude.{◌≡◌, ◌≢◌, ◌+◌, ◌<◌, length, drop, get_or};
 ghost use Rattle.std.proofs.Math.Option.{none};
 ghost use Rattle.reader.specs.Sounds.{note_as, note_of};
 ghost use Rattle.reader.specs.Tokens.{class_of, token_of, effect_of};
 ghost use Rattle.token_symbols.specs.Classes.{class_for};
+ghost use Rattle.token_symbols.specs.declared.Class.{Class};
 ghost use Rattle.token_lexemes.specs.Lexemes.{cut_for};
 ghost use Rattle.tokens.specs.Tokens.{tokenised_for, IsNumbered, value_for, kind_length, valued_for, tokenised_in, effect_in, effect_as, effected_for};
 
@@ -28,9 +29,10 @@ pub enum Effect {
     NoEffect,
 }
 
-// The token at `at` as it stands there, by the class of its first byte.
+// The token at `at` as it stands there, by the class of its first byte, but for a note: the callers read that themselves, so that there is one call that the compiler
+// draws into the loop.
 fn lexeme_at(edition: Edition, line: &[u8], at: usize, class: Class) -> Read<Token<Fraction>>
-    requires { (at < length line.now) × (class ≡ class_for (class_of (get_or line.now at 0))) }
+    requires { (at < length line.now) × (class ≡ class_for (class_of (get_or line.now at 0))) × (class ≢ Class.Pitched) }
     ensures { result ≡ cut_for at (token_of edition (drop at line.now)) }
 {
     match class {
@@ -71,7 +73,7 @@ fn lexeme_at(edition: Edition, line: &[u8], at: usize, class: Class) -> Read<Tok
             at,
             NoteKind::InvisibleBarRest,
         ),
-        Class::Pitched => token_lexemes::note(edition, line, at),
+        Class::Pitched => unreachable!(),
     }
 }
 
@@ -196,14 +198,17 @@ pub fn token_at(
     ensures token { result ≡ tokenised_for at unit (token_of edition (drop at line.now)) }
     ensures number { IsNumbered (token_of edition (drop at line.now)).token }
 {
-    match classes.class_of(line[at]) {
-        Class::Pitched => tokenise(token_lexemes::note(edition, line, at), unit),
-        Class::White => Read {
+    let class = classes.class_of(line[at]);
+    if let Class::Pitched = class {
+        return tokenise(token_lexemes::note(edition, line, at), unit);
+    }
+    if let Class::White = class {
+        return Read {
             value: Token::Space,
             next: at + 1,
-        },
-        class => tokenise(lexeme_at(edition, line, at, class), unit),
+        };
     }
+    tokenise(lexeme_at(edition, line, at, class), unit)
 }
 
 #[tactic(auto, unfolding(crate::specs::Tokens::effect_in))]

@@ -1,19 +1,12 @@
 -- `part_rhythm::on_broken` meets its contract.
-use Rattle.part_rhythm.proofs.Rhythm.{overlay_small, row_none, row_inside, broken_none, broken_by}
+use Rattle.part_rhythm.proofs.Rhythm.{overlay_small, inside, broken_either}
 use Rattle.part_rhythm.proofs.on_broken.Goals as goal
 
-pub last_row-requires : goal.last_row-requires
-last_row-requires c = overlay_small c.requires.1
+pub last_row-row-requires : goal.last_row-row-requires
+last_row-row-requires c = overlay_small c.requires.1
 
-pub returns-in-None : goal.returns-in-None
-returns-in-None c =
-    let a = c.args in
-    broken_none c.requires.0 c.requires.1 a.up a.times (row_none a.r c.in-None.ensures)
+pub break_row-requires : goal.break_row-requires
+break_row-requires c = inside c.requires.0 c.requires.1 _ c.last_row-row.ensures
 
-pub break_note-requires : goal.break_note-requires
-break_note-requires c = row_inside c.requires.0 c.requires.1 _ c.in-Some.ensures
-
-pub returns-in-Some : goal.returns-in-Some
-returns-in-Some c =
-    let a = c.args in
-    broken_by c.requires.0 c.requires.1 _ c.in-Some.ensures a.up a.times _ c.break_note.ensures _ c.wait_for.ensures
+pub returns : goal.returns
+returns c = broken_either c.requires.0 c.requires.1 _ c.last_row-row.ensures c.args.up c.args.times _ c.break_row.ensures _ c.wait_for.ensures

@@ -12,15 +12,15 @@ returns-then-input-gt-MOST_INPUT c =
 
 pub append_reading-requires : goal.append_reading-requires
 append_reading-requires c =
-    let p = c.parse_abc.ensures in
-    record { first_part_in_bounds = (read_text _ _ _ _ _ _ p.result_value c.in-Read.is p.reading_after).room; out_bytes_in_bounds = search rules }
+    let p = c.in-Ok.ensures in
+    record { first_part_in_bounds = (read_text _ _ _ _ _ p.result_value p.reading_after).room; out_bytes_in_bounds = search rules }
 
-pub returns-in-Read : goal.returns-in-Read
-returns-in-Read c =
-    let p = c.parse_abc.ensures in
+pub returns-in-Ok : goal.returns-in-Ok
+returns-in-Ok c =
+    let p = c.in-Ok.ensures in
     let q = c.requires in
     let l = c.if-input-gt-MOST_INPUT.false in
-    let t = (read_text _ _ _ _ _ _ p.result_value c.in-Read.is p.reading_after).is in
+    let t = (read_text _ _ _ _ _ p.result_value p.reading_after).is in
     let h = whole _ c.append_reading.ensures (t ∙ short _ _ _ l q.0 q.1) in
     record {
       prefix_len = h.counts;
@@ -30,12 +30,12 @@ returns-in-Read c =
       scratch_after = p.scratch_after ∙ scratch_short _ _ _ _ l q.0 q.1;
     }
 
-pub returns-in-Refused : goal.returns-in-Refused
-returns-in-Refused c =
-    let p = c.parse_abc.ensures in
+pub returns-in-Err : goal.returns-in-Err
+returns-in-Err c =
+    let p = c.in-Err.ensures in
     let q = c.requires in
     let l = c.if-input-gt-MOST_INPUT.false in
-    let t = refused_text_lem _ _ _ _ p.result_value c.in-Refused.is in
+    let t = refused_text_lem _ _ p.result_value in
     let h = whole _ c.append_refusal.ensures (t ∙ short _ _ _ l q.0 q.1) in
     record {
       prefix_len = h.counts;

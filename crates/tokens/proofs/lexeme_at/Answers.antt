@@ -73,7 +73,3 @@ returns-in-BarRest c = c.rest-in-BarRest.ensures ∙ rest_cut _ c.args.line.now 
 pub returns-in-InvisibleBarRest : goal.returns-in-InvisibleBarRest
 unfolding by_class token_as lexeme_for
 returns-in-InvisibleBarRest c = c.rest-in-InvisibleBarRest.ensures ∙ rest_cut _ c.args.line.now c.args.at Notes.invisible_bar_rest ∙ ap (cut_for c.args.at) (sym (classed _ c.args.line.now c.args.at _ _ (c.type_inv.line c.args.at).fits c.requires.1 c.in-InvisibleBarRest.is))
-
-pub returns-in-Pitched : goal.returns-in-Pitched
-unfolding by_class token_as lexeme_for
-returns-in-Pitched c = c.note.ensures ∙ ap (cut_for c.args.at) (sym (classed _ c.args.line.now c.args.at _ _ (c.type_inv.line c.args.at).fits c.requires.1 c.in-Pitched.is))
