@@ -1,16 +1,24 @@
--- A measure that the code reads is the one of its index.
-use Prim.Native.Nat.{ℕ, suc}
+-- A measure that the code reads lies within the reading, and is the one of its index.
+use Prim.Native.Nat.{ℕ, suc, ◌+◌, ◌*◌, ◌≤◌, ◌<◌}
 use mathlib.Core.Path.{◌≡◌, sym, ap, ◌∙◌}
 use mathlib.Core.Bool.{Bool}
 use mathlib.Core.Option.{Option}
 use mathlib.Core.List.{List}
+use native.Mathlib.Omega.{arith}
+use lib.ListN.{length}
 use Rattle.std.specs.Prelude as code
 use Rattle.reader.specs.Records.{measure_width}
-use Rattle.reading_sections.specs.Sections.{record_at, volta_of, passes_of}
+use Rattle.reading_sections.specs.Sections.{behind, record_at, volta_of, passes_of}
 use Rattle.reading_walk.specs.Walk.{opens}
 use Rattle.reading_walk.specs.Spans.{span_at, span_after, open_before, bar_at}
 use Rattle.reading_bars.specs.Bars.{span_of, BarIs}
+use Rattle.reading_bars.specs.Parts.{Here}
 use Rattle.reading_bars.specs.declared.Bar.{Bar}
+
+-- its record lies within the reading
+pub record_in : (s : List ℕ) (at n i : ℕ) → Here s at n → i < n → at + 4 + measure_width * i + measure_width ≤ length s
+unfolding behind
+record_in s at n i h l = omega (arith, h.inside, h.count_is, l)
 
 -- measure i, before which the code keeps the span that is open there
 module _ (s : List ℕ) (at i : ℕ) (before : code.Option ℕ) (b : Bar) (h : BarIs s (record_at measure_width at i) before b) (e : span_of before ≡ open_before s at i) where

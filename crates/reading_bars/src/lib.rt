@@ -2,12 +2,21 @@
 #![tactic(auto)]
 
 ghost use Rattle.std.specs.Prelude.{◌≡◌, cond, suc, ◌+◌, ◌≤◌, ◌<◌, ◌^◌, max, leb, length};
-ghost use Rattle.laws.specs.Bytes.{u32_at};
 ghost use Rattle.reader.specs.Records.{measure_width};
-ghost use Rattle.reading_sections.specs.Sections.{notes_at};
+ghost use Rattle.reading_sections.specs.Sections.{record_at};
 ghost use Rattle.reading_walk.specs.Walk as walk;
 ghost use Rattle.reading_walk.specs.Spans.{span_at, span_after, open_before};
 ghost use Rattle.reading_bars.specs.Bars.{span_of, BarIs, LimitIs};
+ghost use Rattle.reading_bars.specs.Parts.{Here};
+
+// A part of a reading: where it begins, and how many measures it has. They lie within the reading's bytes.
+#[derive(Clone, Copy)]
+pub struct Part<'r> {
+    pub reading: &'r [u8],
+    pub at: usize,
+    pub measures: usize,
+    ghost here: { Here reading.now at measures },
+}
 
 // A measure: its barlines, the span that it lies in, and the span that is open behind it.
 #[derive(Clone, Copy)]
@@ -51,18 +60,52 @@ fn span_after(before: Option<u32>, volta: u8, passes: u32) -> Option<u32>
     None
 }
 
-// The measure whose record stands at `at`, before which `before` is open.
-pub fn bar_at(reading: &[u8], at: usize, before: Option<u32>) -> Bar
-    requires { at + measure_width ≤ length reading.now }
-    ensures { BarIs reading.now at before result }
-{
-    let volta = store::get_u8(reading, at + reading_records::VOLTA);
-    let passes = store::get_u32(reading, at + reading_records::PASSES);
-    Bar {
-        left: store::get_u8(reading, at + reading_records::LEFT),
-        right: store::get_u8(reading, at + reading_records::RIGHT),
-        span: span_at(before, volta, passes),
-        after: span_after(before, volta, passes),
+impl Part<'_> {
+    // Where the record of measure i stands.
+    fn record_at(&self, i: usize) -> usize
+        requires { i < self.now.measures }
+        ensures { (result ≡ record_at measure_width self.now.at i) × (result + measure_width ≤ length self.now.reading.now) }
+    {
+        self.at + reading_records::COUNT + reading_records::MEASURE * i
+    }
+
+    // Measure i, before which `before` is open.
+    pub fn bar_at(&self, i: usize, before: Option<u32>) -> Bar
+        requires { i < self.now.measures }
+        ensures { BarIs self.now.reading.now (record_at measure_width self.now.at i) before result }
+    {
+        let at = self.record_at(i);
+        let volta = store::get_u8(self.reading, at + reading_records::VOLTA);
+        let passes = store::get_u32(self.reading, at + reading_records::PASSES);
+        Bar {
+            left: store::get_u8(self.reading, at + reading_records::LEFT),
+            right: store::get_u8(self.reading, at + reading_records::RIGHT),
+            span: span_at(before, volta, passes),
+            after: span_after(before, volta, passes),
+        }
+    }
+
+    // The limit of the section that starts at measure `start`, before which `before` is open.
+    pub fn limit_from(&self, start: usize, before: Option<u32>) -> Limit
+        requires start_in_part { start < self.now.measures }
+        requires before_value { span_of before ≡ open_before self.now.reading.now self.now.at start }
+        ensures start_lt_end { start < result.end }
+        ensures limit_is { LimitIs self.now.reading.now self.now.at start result }
+    {
+        let mut limit = Limit {
+            most: 2,
+            end: start,
+        };
+        let mut span = before;
+        for i in start..self.measures {
+            let bar = self.bar_at(i, span);
+            if start < i && opens(bar.left) {
+                return limit;
+            }
+            limit = raised(limit, greatest_pass(bar.span), i);
+            span = bar.after;
+        }
+        limit
     }
 }
 
@@ -138,31 +181,4 @@ fn raised(limit: Limit, top: usize, i: usize) -> Limit
         return limit;
     }
     Limit { most, end: i + 1 }
-}
-
-// The limit of the section that starts at measure `start`, before which `before` is open, in the part at `at` with n measures.
-pub fn limit_from(reading: &[u8], at: usize, n: usize, start: usize, before: Option<u32>) -> Limit
-    requires at_in_bounds { (notes_at reading.now at ≤ length reading.now) × (n ≡ u32_at reading.now at) × (start < n) }
-    requires before_value { span_of before ≡ open_before reading.now at start }
-    ensures start_lt_end { start < result.end }
-    ensures limit_is { LimitIs reading.now at start result }
-{
-    let mut limit = Limit {
-        most: 2,
-        end: start,
-    };
-    let mut span = before;
-    for i in start..n {
-        let bar = bar_at(
-            reading,
-            at + reading_records::COUNT + reading_records::MEASURE * i,
-            span,
-        );
-        if start < i && opens(bar.left) {
-            return limit;
-        }
-        limit = raised(limit, greatest_pass(bar.span), i);
-        span = bar.after;
-    }
-    limit
 }
