@@ -26,7 +26,8 @@ use Rattle.reading_passes.specs.declared.Pass.{Pass}
 use Rattle.reading_passes.specs.declared.Walked.{Walked}
 use Rattle.reading_passes.specs.declared.Kept.{Kept}
 use Rattle.reading_passes.specs.declared.Next.{Next}
-use Rattle.reading_passes.specs.Walks.{all_of, Here, Lists, StandsAt, Starts, WentOn, Went, KeptIs, kept_after, NextIs, PlayedIs}
+use Rattle.reading_bars.specs.Parts.{Here}
+use Rattle.reading_passes.specs.Walks.{all_of, Lists, StandsAt, Starts, WentOn, Went, KeptIs, kept_after, NextIs, PlayedIs}
 use Rattle.reading_passes.proofs.Walks.{ended}
 use Rattle.reading_passes.proofs.Again.{kept_none, kept_later, kept_after_lem}
 

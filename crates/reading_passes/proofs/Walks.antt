@@ -1,5 +1,5 @@
 -- ONE PASS, measure by measure: how far it has come, and each step of it.
-use Prim.Native.Nat.{ℕ, zero, suc, ◌+◌, ◌-◌, ◌*◌, ◌≤◌, ◌<◌}
+use Prim.Native.Nat.{ℕ, zero, suc, ◌-◌, ◌≤◌, ◌<◌}
 use mathlib.Core.Path.{◌≡◌, refl, sym, ap, subst, ◌∙◌}
 use mathlib.Core.Bool.{Bool, true, false, cond, ◌&&◌, false≢true}
 use mathlib.Core.Option.{Option, some}
@@ -12,7 +12,7 @@ use Rattle.laws.specs.Bytes.{le32, splice, enc_all}
 use Rattle.laws.proofs.Bools.{and_left}
 use Rattle.laws.proofs.Splices.{length_spliced}
 use Rattle.reader.specs.Records.{measure_width}
-use Rattle.reading_sections.specs.Sections.{behind, record_at}
+use Rattle.reading_sections.specs.Sections.{record_at}
 use Rattle.reading_list.specs.Numbers.{number_at}
 use Rattle.reading_list.proofs.Numbers.{written_none, written_more}
 use Rattle.reading_walk.specs.Walk.{opens, closes, is_skipped}
@@ -23,11 +23,12 @@ use Rattle.reading_walk.proofs.Passes.{played_end}
 use Rattle.reading_walk.proofs.Follow.{seg_more, seg_none, walking_start, walking_skip, walking_stay, walking_open, listing_on, listing_close}
 use Rattle.std.specs.Prelude as rust
 use Rattle.reading_bars.specs.Bars.{span_of, BarIs}
+use Rattle.reading_bars.specs.Parts.{Here}
 use Rattle.reading_bars.proofs.Spans.{bar_left_lem, bar_right_lem, bar_span, bar_after}
 use Rattle.reading_bars.specs.declared.Bar as code
 use Rattle.reading_passes.specs.declared.Pass.{Pass}
 use Rattle.reading_passes.specs.declared.Walked.{Walked}
-use Rattle.reading_passes.specs.Walks.{all_of, Here, entered_at, Starts, WentOn, WalkedIs}
+use Rattle.reading_passes.specs.Walks.{all_of, entered_at, Starts, WentOn, WalkedIs}
 
 -- A MEASURE as the code has it is the definition's
 pub record Seen (s : List ℕ) (at i : ℕ) (b : code.Bar) : Type 0 where
@@ -38,11 +39,6 @@ pub record Seen (s : List ℕ) (at i : ℕ) (b : code.Bar) : Type 0 where
 
 pub seen : (s : List ℕ) (at i : ℕ) (span : rust.Option ℕ) (b : code.Bar) → span_of span ≡ open_before s at i → BarIs s (record_at measure_width at i) span b → Seen s at i b
 seen s at i span b e h = record { left_is = bar_left_lem s at i span b h e; right_is = bar_right_lem s at i span b h e; span_is = bar_span s at i span b h e; after_is = bar_after s at i span b h e }
-
--- its record lies within the reading
-pub record_in : (s : List ℕ) (at n i : ℕ) → Here s at n → i < n → at + 4 + measure_width * i + measure_width ≤ length s
-unfolding behind
-record_in s at n i h l = omega (arith, h.inside, h.count_is, l)
 
 -- a list that goes on has a number more
 pub goes_on_lem : (all : List ℕ) (c x : ℕ) (l : List ℕ) → drop c all ≡ x ∷ l → c < length all

@@ -1,7 +1,6 @@
 -- What the code says of a list that is being written: its numbers stand in the store behind the count.
-use Rattle.std.specs.Prelude.{ℕ, suc, ◌+◌, ◌-◌, ◌≤◌, ◌<◌, ◌^◌, ◌≡◌, true, false, cond, ◌&&◌, List, ◌++◌, Option, Some, None, leb, ltb, length, drop, take}
-use Rattle.laws.specs.Bytes.{le32, u32_at, splice, enc_all}
-use Rattle.reading_sections.specs.Sections.{notes_at}
+use Rattle.std.specs.Prelude.{ℕ, suc, ◌+◌, ◌-◌, ◌≤◌, ◌<◌, ◌≡◌, true, false, cond, ◌&&◌, List, ◌++◌, Option, Some, None, leb, ltb, length, drop, take}
+use Rattle.laws.specs.Bytes.{le32, splice, enc_all}
 use Rattle.reading_list.specs.Numbers.{number_at, numbers_in, above}
 use Rattle.reading_walk.specs.Walk.{opens, played}
 use Rattle.reading_walk.specs.Spans.{open_before, bars_of}
@@ -15,12 +14,6 @@ use Rattle.reading_passes.specs.declared.Next.{Next}
 -- all numbers of the part at `at`
 abbrev pub all_of : List ℕ → ℕ → List ℕ
 all_of s at = played (bars_of s at)
-
--- A PART OF n MEASURES at `at`, which lies within the reading
-pub record Here (s : List ℕ) (at n : ℕ) : Type 0 where
-  pub inside : notes_at s at ≤ length s
-  pub count_is : n ≡ u32_at s at
-  pub few : n < 2 ^ 32
 
 -- its first c numbers stand in the store l
 pub record Lists (s : List ℕ) (at : ℕ) (l : List ℕ) (c : ℕ) : Type 0 where

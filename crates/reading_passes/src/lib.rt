@@ -5,9 +5,9 @@ ghost use Rattle.std.specs.Prelude.{◌≡◌, ◌&&◌, ◌<◌, ◌^◌, leb, 
 ghost use Rattle.reading_list.specs.Numbers.{Room};
 ghost use Rattle.reading_walk.specs.Spans.{open_before};
 ghost use Rattle.reading_bars.specs.Bars.{span_of, LimitIs};
-ghost use Rattle.reading_passes.specs.Walks.{Here, Lists, entered_at, Starts, WalkedIs, ClosedIs, WentOn, KeptIs, kept_after, NextIs, PlayedIs};
+ghost use Rattle.reading_passes.specs.Walks.{Lists, entered_at, Starts, WalkedIs, ClosedIs, WentOn, KeptIs, kept_after, NextIs, PlayedIs};
 
-use reading_bars::Limit;
+use reading_bars::{Limit, Part};
 
 // A pass of a section: the section's first measure, the pass, the span that is open before the section, the measure before which the player stands, the span that
 // is open before that, and how many numbers are listed.
@@ -77,25 +77,14 @@ fn enter(p: Pass, at: usize, left: u8, span: Option<u32>, count: usize) -> Pass
 }
 
 // One pass, measure by measure, until a measure closes it or opens another section; None where a number has no room.
-fn walk_pass(
-    reading: &[u8],
-    part: usize,
-    n: usize,
-    list: &mut [u8],
-    room: usize,
-    start: Pass,
-) -> Option<Walked>
-    requires { (Here reading.now part n) × (Room list.old room) × (Starts reading.now part n room start) }
-    ensures { WalkedIs reading.now part n room start list.old list.new result }
+fn walk_pass(part: &Part, list: &mut [u8], room: usize, start: Pass) -> Option<Walked>
+    requires { (Room list.old room) × (Starts part.now.reading.now part.now.at part.now.measures room start) }
+    ensures { WalkedIs part.now.reading.now part.now.at part.now.measures room start list.old list.new result }
 {
     let mut span = start.span;
     let mut count = start.from;
-    for at in start.at..n {
-        let bar = reading_bars::bar_at(
-            reading,
-            part + reading_records::COUNT + reading_records::MEASURE * at,
-            span,
-        );
+    for at in start.at..part.measures {
+        let bar = part.bar_at(at, span);
         if !reading_bars::is_skipped(bar.span, start.pass) {
             let p = enter(start, at, bar.left, span, count);
             if count == room {
@@ -131,11 +120,11 @@ fn walk_pass(
         span = bar.after;
     }
     Some(Walked {
-        section: n,
+        section: part.measures,
         pass: 1,
         before: span,
         from: count,
-        at: n,
+        at: part.measures,
         after: span,
         count,
         closed: false,
@@ -150,21 +139,13 @@ fn is_kept(kept: Kept, at: usize) -> bool
 }
 
 // One pass: listed again as it was kept, or measure by measure.
-fn one_pass(
-    reading: &[u8],
-    part: usize,
-    n: usize,
-    list: &mut [u8],
-    room: usize,
-    start: Pass,
-    kept: Kept,
-) -> Option<Walked>
-    requires here { (Here reading.now part n) × (Room list.old room) × (Starts reading.now part n room start) }
-    requires kept_is { (KeptIs reading.now part n start.from start.pass kept) × (Lists reading.now part list.old start.from) }
-    ensures { WalkedIs reading.now part n room start list.old list.new result }
+fn one_pass(part: &Part, list: &mut [u8], room: usize, start: Pass, kept: Kept) -> Option<Walked>
+    requires stands { (Room list.old room) × (Starts part.now.reading.now part.now.at part.now.measures room start) }
+    requires kept_is { (KeptIs part.now.reading.now part.now.at part.now.measures start.from start.pass kept) × (Lists part.now.reading.now part.now.at list.old start.from) }
+    ensures { WalkedIs part.now.reading.now part.now.at part.now.measures room start list.old list.new result }
 {
     if !is_kept(kept, start.at) {
-        return walk_pass(reading, part, n, list, room, start);
+        return walk_pass(part, list, room, start);
     }
     let count = reading_list::repeat_numbers(list, room, kept.from, kept.to, start.at, start.from)?;
     Some(Walked {
@@ -197,28 +178,21 @@ fn keep(kept: Kept, w: Walked) -> Kept
 }
 
 // The limit of a section: as it is known, or looked up.
-fn limit_of(
-    reading: &[u8],
-    part: usize,
-    n: usize,
-    section: usize,
-    before: Option<u32>,
-    known: Limit,
-) -> Limit
-    requires { (Here reading.now part n) × (section < n) × (span_of before ≡ open_before reading.now part section) × (LimitIs reading.now part section known) }
+fn limit_of(part: &Part, section: usize, before: Option<u32>, known: Limit) -> Limit
+    requires { (section < part.now.measures) × (span_of before ≡ open_before part.now.reading.now part.now.at section) × (LimitIs part.now.reading.now part.now.at section known) }
     ensures section_lt_end { section < result.end }
-    ensures limit_is { LimitIs reading.now part section result }
+    ensures limit_is { LimitIs part.now.reading.now part.now.at section result }
 {
     if section < known.end {
         return known;
     }
-    reading_bars::limit_from(reading, part, n, section, before)
+    part.limit_from(section, before)
 }
 
 // Where the player goes on once measure w.at closed a pass. The limit is 2 at least, so pass 1 does not ask for it.
-fn leave(reading: &[u8], part: usize, n: usize, start: Pass, w: Walked, known: Limit) -> Next
-    requires { (Here reading.now part n) × (ClosedIs reading.now part n start w) × (LimitIs reading.now part w.section known) }
-    ensures { NextIs reading.now part n start w.count result }
+fn leave(part: &Part, start: Pass, w: Walked, known: Limit) -> Next
+    requires { (ClosedIs part.now.reading.now part.now.at part.now.measures start w) × (LimitIs part.now.reading.now part.now.at w.section known) }
+    ensures { NextIs part.now.reading.now part.now.at part.now.measures start w.count result }
 {
     if w.pass == 1 {
         return Next {
@@ -231,7 +205,7 @@ fn leave(reading: &[u8], part: usize, n: usize, start: Pass, w: Walked, known: L
             end: known.end,
         };
     }
-    let limit = limit_of(reading, part, n, w.section, w.before, known);
+    let limit = limit_of(part, w.section, w.before, known);
     if w.pass < limit.most {
         return Next {
             section: w.section,
@@ -255,12 +229,12 @@ fn leave(reading: &[u8], part: usize, n: usize, start: Pass, w: Walked, known: L
 }
 
 // Where the player goes on after a pass.
-fn go_on(reading: &[u8], part: usize, n: usize, start: Pass, w: Walked, known: Limit) -> Next
-    requires { (Here reading.now part n) × (WentOn reading.now part n start w) × (LimitIs reading.now part start.section known) }
-    ensures { NextIs reading.now part n start w.count result }
+fn go_on(part: &Part, start: Pass, w: Walked, known: Limit) -> Next
+    requires { (WentOn part.now.reading.now part.now.at part.now.measures start w) × (LimitIs part.now.reading.now part.now.at start.section known) }
+    ensures { NextIs part.now.reading.now part.now.at part.now.measures start w.count result }
 {
     if w.closed {
-        return leave(reading, part, n, start, w, known);
+        return leave(part, start, w, known);
     }
     Next {
         section: w.section,
@@ -273,10 +247,10 @@ fn go_on(reading: &[u8], part: usize, n: usize, start: Pass, w: Walked, known: L
     }
 }
 
-// Lists the n measures of a part as they are played. Answers how many numbers are listed, or None where one has no room.
-pub fn play(reading: &[u8], part: usize, n: usize, list: &mut [u8], room: usize) -> Option<usize>
-    requires { (Here reading.now part n) × (Room list.old room) }
-    ensures { PlayedIs reading.now part room list.old list.new result }
+// Lists the measures of a part as they are played. Answers how many numbers are listed, or None where one has no room.
+pub fn play(part: &Part, list: &mut [u8], room: usize) -> Option<usize>
+    requires { Room list.old room }
+    ensures { PlayedIs part.now.reading.now part.now.at room list.old list.new result }
 {
     let none = Kept {
         least: 0,
@@ -296,7 +270,7 @@ pub fn play(reading: &[u8], part: usize, n: usize, list: &mut [u8], room: usize)
         end: 0,
     };
     let mut count: usize = 0;
-    while x.at < n {
+    while x.at < part.measures {
         let pass = x.pass;
         let start = Pass {
             section: x.section,
@@ -307,7 +281,7 @@ pub fn play(reading: &[u8], part: usize, n: usize, list: &mut [u8], room: usize)
             from: count,
         };
         let k = kept[pass];
-        let w = one_pass(reading, part, n, list, room, start, k)?;
+        let w = one_pass(part, list, room, start, k)?;
         count = w.count;
         let q = w.pass;
         let old = kept[q];
@@ -316,7 +290,7 @@ pub fn play(reading: &[u8], part: usize, n: usize, list: &mut [u8], room: usize)
             most: x.most,
             end: x.end,
         };
-        x = go_on(reading, part, n, start, w, known);
+        x = go_on(part, start, w, known);
     }
     Some(count)
 }

@@ -20,11 +20,11 @@ returns-in_err-count c =
     let a = c.args in
     let k : (leb a.kept.least a.start.at && ltb a.start.at a.kept.end) ≡ true = sym c.is_kept.ensures ∙ c.if-not-is_kept.false in
     rw c.from_residual.ensures
-    (listed_short _ _ _ _ _ _ _ _ p.here.2 p.kept_is.0 p.kept_is.1 (leb-true _ _ (and_left (leb a.kept.least a.start.at) (ltb a.start.at a.kept.end) k)) (ltb-true _ _ (and_right (leb a.kept.least a.start.at) (ltb a.start.at a.kept.end) k)) c.in_err-count.ensures)
+    (listed_short _ _ _ _ _ _ _ _ p.stands.1 p.kept_is.0 p.kept_is.1 (leb-true _ _ (and_left (leb a.kept.least a.start.at) (ltb a.start.at a.kept.end) k)) (ltb-true _ _ (and_right (leb a.kept.least a.start.at) (ltb a.start.at a.kept.end) k)) c.in_err-count.ensures)
 
 pub returns : goal.returns
 returns c =
     let p = c.requires in
     let a = c.args in
     let k : (leb a.kept.least a.start.at && ltb a.start.at a.kept.end) ≡ true = sym c.is_kept.ensures ∙ c.if-not-is_kept.false in
-    listed_again _ _ _ _ _ _ _ _ p.here.2 p.kept_is.0 p.kept_is.1 _ (leb-true _ _ (and_left (leb a.kept.least a.start.at) (ltb a.start.at a.kept.end) k)) (ltb-true _ _ (and_right (leb a.kept.least a.start.at) (ltb a.start.at a.kept.end) k)) c.in_ok-count.ensures
+    listed_again _ _ _ _ _ _ _ _ p.stands.1 p.kept_is.0 p.kept_is.1 _ (leb-true _ _ (and_left (leb a.kept.least a.start.at) (ltb a.start.at a.kept.end) k)) (ltb-true _ _ (and_right (leb a.kept.least a.start.at) (ltb a.start.at a.kept.end) k)) c.in_ok-count.ensures

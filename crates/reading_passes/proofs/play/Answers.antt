@@ -20,8 +20,8 @@ one_pass-requires c =
     let l = c.loop-x in
     let p = c.requires in
     record {
-      here = (p.0, room_same _ _ _ p.1 l.invariant.long, playing_starts _ _ _ _ _ _ _ _ _ p.0 p.1 l.invariant c.loop-x-test.true);
-      kept_is = (l.invariant.kept _ l.x.pass (omega (arith, l.invariant.stands.pass_most)), playing_lists _ _ _ _ _ _ _ _ _ p.0 p.1 l.invariant);
+      stands = (room_same _ _ _ p l.invariant.long, playing_starts _ _ _ _ _ _ _ _ _ c.args.part.now.here p l.invariant c.loop-x-test.true);
+      kept_is = (l.invariant.kept _ l.x.pass (omega (arith, l.invariant.stands.pass_most)), playing_lists _ _ _ _ _ _ _ _ _ c.args.part.now.here p l.invariant);
     }
 
 pub returns-in_err-w : goal.returns-in_err-w
@@ -37,7 +37,7 @@ pub keep-requires : goal.keep-requires
 keep-requires c =
     let x = went_in _ _ _ _ _ c.in_ok-w.ensures.says.went_on in
     let p = c.requires in
-    (omega (arith, x.1, p.0.few), omega (arith, x.2, p.0.few))
+    (omega (arith, x.1, c.args.part.now.here.few), omega (arith, x.2, c.args.part.now.here.few))
 
 pub offset_bounds-kept-q-in-loop-x : goal.offset_bounds-kept-q-in-loop-x
 offset_bounds-kept-q-in-loop-x c = omega (arith, (went_in _ _ _ _ _ c.in_ok-w.ensures.says.went_on).0)
@@ -49,7 +49,7 @@ pub go_on-x-requires : goal.go_on-x-requires
 go_on-x-requires c =
     let l = c.loop-x in
     let p = c.requires in
-    (p.0, c.in_ok-w.ensures.says.went_on, l.invariant.limit_is)
+    (c.in_ok-w.ensures.says.went_on, l.invariant.limit_is)
 
 pub loop-x-smaller : goal.loop-x-smaller
 loop-x-smaller c = rank_less _ _ _ _ _ _ _ refl refl c.go_on-x.ensures
@@ -58,7 +58,7 @@ pub loop-x-preserved : goal.loop-x-preserved
 loop-x-preserved c =
     let l = c.loop-x in
     let p = c.requires in
-    playing_on _ _ _ _ _ _ _ _ _ p.0 p.1 l.invariant _ refl _ _ c.in_ok-w.ensures.says _ _ _ _ c.go_on-x.ensures refl c.keep.ensures
+    playing_on _ _ _ _ _ _ _ _ _ c.args.part.now.here p l.invariant _ refl _ _ c.in_ok-w.ensures.says _ _ _ _ c.go_on-x.ensures refl c.keep.ensures
 
 pub shape_of-list : goal.shape_of-list
 shape_of-list c = search (rules, c.loop-x.invariant.long)
@@ -67,4 +67,4 @@ pub returns : goal.returns
 returns c =
     let l = c.loop-x in
     let p = c.requires in
-    playing_end _ _ _ _ _ _ _ _ _ p.0 p.1 l.invariant c.loop-x-test.false
+    playing_end _ _ _ _ _ _ _ _ _ c.args.part.now.here p l.invariant c.loop-x-test.false
