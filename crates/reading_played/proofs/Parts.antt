@@ -12,7 +12,8 @@ use Rattle.reading_sections.specs.Sections.{part_at, part_end}
 use Rattle.reading_sections.proofs.Inside.{Inside, inside, behind_past}
 use Rattle.reading_whole.proofs.Parts.{whole_part_inside}
 use Rattle.reading_walk.specs.Played.{listed_in, played_of}
-use Rattle.reading_passes.specs.Walks.{all_of, Here}
+use Rattle.reading_bars.specs.Parts.{Here}
+use Rattle.reading_passes.specs.Walks.{all_of}
 use Rattle.reading_played.proofs.Calls.{PartIs}
 
 part_next : (s : List ℕ) (at q : ℕ) → part_at s at (suc q) ≡ part_end s (part_at s at q)

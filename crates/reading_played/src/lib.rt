@@ -9,9 +9,10 @@ ghost use Rattle.reading_answers.specs.Answers.{answer_as};
 ghost use Rattle.reading_sections.specs.Sections.{part_at};
 ghost use Rattle.reading_whole.specs.Whole.{is_whole};
 ghost use Rattle.reading_walk.specs.Played.{has_part, listed_in, played_measures, refused_with};
-ghost use Rattle.reading_passes.specs.Walks.{all_of, Here};
+ghost use Rattle.reading_passes.specs.Walks.{all_of};
 
 use reading_answers::Answer;
+use reading_bars::Part;
 use refusals::{Refusal, Refused};
 
 // Where part q begins, from 0.
@@ -45,17 +46,16 @@ fn has_part(reading: &[u8], part: u32) -> bool
     1 <= part && part <= store::get_u32(reading, 0)
 }
 
-// Writes the list of the part at `part` with n measures: its count, its numbers, then zeros. ListShort where it has no room.
-fn write_list(reading: &[u8], part: usize, n: usize, list: &mut [u8]) -> Answer
-    requires { Here reading.now part n }
-    ensures result_value { answer_as result ≡ (listed_in (all_of reading.now part) (length list.old)).answer }
-    ensures list_after { list.new ≡ (listed_in (all_of reading.now part) (length list.old)).store }
+// Writes the list of a part: its count, its numbers, then zeros. ListShort where it has no room.
+fn write_list(part: &Part, list: &mut [u8]) -> Answer
+    ensures result_value { answer_as result ≡ (listed_in (all_of part.now.reading.now part.now.at) (length list.old)).answer }
+    ensures list_after { list.new ≡ (listed_in (all_of part.now.reading.now part.now.at) (length list.old)).store }
 {
     if list.len() < reading_records::COUNT {
         return refuse(list, Refusal::ListShort);
     }
     let room = reading_list::room_of(list.len());
-    let Some(count) = reading_passes::play(reading, part, n, list, room) else {
+    let Some(count) = reading_passes::play(part, list, room) else {
         return refuse(list, Refusal::ListShort);
     };
     store::put_u32(list, 0, count as u32);
@@ -73,6 +73,10 @@ pub fn played_measures(reading: &[u8], part: u32, list: &mut [u8]) -> Answer
         return refuse(list, Refusal::NoSuchPart);
     }
     let at = part_at(reading, part as usize - 1);
-    let n = store::get_u32(reading, at) as usize;
-    write_list(reading, at, n, list)
+    let part = Part {
+        reading,
+        at,
+        measures: store::get_u32(reading, at) as usize,
+    };
+    write_list(&part, list)
 }

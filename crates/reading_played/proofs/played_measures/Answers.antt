@@ -21,15 +21,15 @@ part_at-at-requires c =
     let p = part_is _ _ (sym c.has_part.ensures ∙ c.if-not-has_part.false) in
     (p.whole, omega (arith, p.least, p.most))
 
-pub get_u32-n-requires : goal.get_u32-n-requires
-get_u32-n-requires c =
+pub get_u32-requires : goal.get_u32-requires
+get_u32-requires c =
     let p = part_is _ _ (sym c.has_part.ensures ∙ c.if-not-has_part.false) in
     part_room _ _ _ p c.part_at-at.ensures
 
-pub write_list-requires : goal.write_list-requires
-write_list-requires c =
+pub invariant_of-part : goal.invariant_of-part
+invariant_of-part c =
     let p = part_is _ _ (sym c.has_part.ensures ∙ c.if-not-has_part.false) in
-    part_here _ _ _ _ p c.part_at-at.ensures c.get_u32-n.ensures (search rules)
+    record { here = part_here _ _ _ _ p c.part_at-at.ensures c.get_u32.ensures (search rules) }
 
 pub returns : goal.returns
 returns c =

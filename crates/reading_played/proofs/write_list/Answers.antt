@@ -18,11 +18,10 @@ play-requires c = search rules
 
 pub returns-in_default : goal.returns-in_default
 returns-in_default c =
-    let a = c.args in
     let r = c.refuse-in_default.ensures in
     let e =
     ap (refused_with 20) c.play.auto.list
-    ∙ list_full (all_of a.reading.now a.part) _ _ c.if-list-lt-COUNT.false c.room_of-room.ensures c.in_default.ensures.says in
+    ∙ list_full (all_of c.args.part.now.reading.now c.args.part.now.at) _ _ c.if-list-lt-COUNT.false c.room_of-room.ensures c.in_default.ensures.says in
     record { result_value = r.result_value ∙ ap (λ (o : Outcome). o.answer) e; list_after = r.list_after ∙ ap (λ (o : Outcome). o.store) e }
 
 pub overflow_cast-count : goal.overflow_cast-count
