@@ -29,6 +29,7 @@ pub fn put_number(list: &mut [u8], i: usize, number: usize)
 
 // Lists again those of the numbers `from` up to `to` that are above `least`, behind the `listed` that there are. Answers how many numbers are listed then, or None where
 // one had no room.
+// The store and its room stay two arguments: of a struct with the `&mut` store each function would have to ensure that its reference and its room are still the same, two facts for the one that `Room` says.
 pub fn repeat_numbers(
     list: &mut [u8],
     room: usize,
