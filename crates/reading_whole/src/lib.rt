@@ -11,6 +11,7 @@ use reading_records::{COUNT, FIRST_PART, LYRIC, MEASURE, NOTE, PITCH};
 use reading_sections::Section;
 
 // THE SECTIONS. A count is taken from what is left of the section's that it adds up to, so no sum is made that could pass 64 bits.
+// Each test asks for a section of its own width and is called in one place: a struct for (reading, at, count), generic in the width, would be made anew for each of the four calls, and say no more.
 
 // The measures of the section at `at`: each fine, their voltas in order, their voices' notes as many as there are.
 fn are_measures(reading: &[u8], at: usize, count: usize, notes: usize) -> bool
