@@ -31,23 +31,33 @@ pub struct PartTables {
     pub pitches: Rows,
 }
 
+// What every writer of a section reads: a part's tables within their store, and whether all of its notes are of voice 0.
+#[derive(Clone, Copy)]
+pub struct StoredPart<'s> {
+    pub store: &'s [u8],
+    pub tables: PartTables,
+    pub lead: bool,
+    pub ghost within: { InStore store.now tables },
+    pub ghost lead_is: { lead ≡ leads store.now tables.notes.at tables.notes.count },
+}
+
 // MEASURES
 
 // The section of the measures: their rows as they are.
-pub fn write_measures(store: &[u8], t: PartTables, to: &mut [u8]) -> Option<usize>
-    requires { InStore store.now t }
-    ensures bytes_of_store { WroteIs to.old (measures_section store.now t) to.new result }
-    ensures bytes_of_tables { (ms : List Head) (log : List (ℕ × Note)) → Represents store.now t ms log → WroteIs to.old (section head_bytes ms) to.new result }
+pub fn write_measures(part: &StoredPart<'_>, to: &mut [u8]) -> Option<usize>
+    ensures bytes_of_store { WroteIs to.old (measures_section part.now.store.now part.now.tables) to.new result }
+    ensures bytes_of_tables { (ms : List Head) (log : List (ℕ × Note)) → Represents part.now.store.now part.now.tables ms log → WroteIs to.old (section head_bytes ms) to.new result }
 {
-    let len = MEASURE * t.measures.count;
+    let measures = part.tables.measures;
+    let len = MEASURE * measures.count;
     if to.len() < COUNT {
         return None;
     }
     if to.len() - COUNT < len {
         return None;
     }
-    store::put_u32(to, 0, t.measures.count as u32);
-    store::copy(store, t.measures.at, to, COUNT, len);
+    store::put_u32(to, 0, measures.count as u32);
+    store::copy(part.store, measures.at, to, COUNT, len);
     Some(COUNT + len)
 }
 
@@ -152,10 +162,11 @@ fn write_measure_notes(store: &[u8], place: usize, k: usize, to: &mut [u8]) -> O
 }
 
 // The records of all notes, measure by measure.
-fn write_note_records(store: &[u8], t: PartTables, to: &mut [u8]) -> Option<usize>
-    requires { InStore store.now t }
-    ensures { WroteIs to.old (notes_out store.now t.measures.at t.notes.at t.measures.count) to.new result }
+fn write_note_records(part: &StoredPart<'_>, to: &mut [u8]) -> Option<usize>
+    ensures { let t = part.now.tables in WroteIs to.old (notes_out part.now.store.now t.measures.at t.notes.at t.measures.count) to.new result }
 {
+    let store = part.store;
+    let t = part.tables;
     let mut at = 0;
     let mut p = t.notes.at;
     for measure in 0..t.measures.count {
@@ -166,24 +177,23 @@ fn write_note_records(store: &[u8], t: PartTables, to: &mut [u8]) -> Option<usiz
     Some(at)
 }
 
-// The records of all notes: at once where all of them are of voice 0 (`lead`), else measure by measure.
-fn write_all(store: &[u8], t: PartTables, lead: bool, to: &mut [u8]) -> Option<usize>
-    requires { InStore store.now t × (lead ≡ leads store.now t.notes.at t.notes.count) }
-    ensures { WroteIs to.old (notes_out store.now t.measures.at t.notes.at t.measures.count) to.new result }
+// The records of all notes: at once where all of them are of voice 0, else measure by measure.
+fn write_all(part: &StoredPart<'_>, to: &mut [u8]) -> Option<usize>
+    ensures { let t = part.now.tables in WroteIs to.old (notes_out part.now.store.now t.measures.at t.notes.at t.measures.count) to.new result }
 {
-    if lead {
-        return write_rows(store, t.notes.at, t.notes.count, to);
+    if part.lead {
+        let t = part.tables;
+        return write_rows(part.store, t.notes.at, t.notes.count, to);
     }
-    write_note_records(store, t, to)
+    write_note_records(part, to)
 }
 
-// The section of the notes: by measure, then by voice, then as written. `lead` tells whether all of them are of voice 0.
-pub fn write_notes(store: &[u8], t: PartTables, lead: bool, to: &mut [u8]) -> Option<usize>
-    requires { InStore store.now t × (lead ≡ leads store.now t.notes.at t.notes.count) }
-    ensures bytes_of_store { WroteIs to.old (notes_section store.now t) to.new result }
-    ensures bytes_of_tables { (ms : List Head) (log : List (ℕ × Note)) → Represents store.now t ms log → WroteIs to.old (section (λ (x : ℕ × Note). note_bytes x.1) (in_order ms log)) to.new result }
+// The section of the notes: by measure, then by voice, then as written.
+pub fn write_notes(part: &StoredPart<'_>, to: &mut [u8]) -> Option<usize>
+    ensures bytes_of_store { WroteIs to.old (notes_section part.now.store.now part.now.tables) to.new result }
+    ensures bytes_of_tables { (ms : List Head) (log : List (ℕ × Note)) → Represents part.now.store.now part.now.tables ms log → WroteIs to.old (section (λ (x : ℕ × Note). note_bytes x.1) (in_order ms log)) to.new result }
 {
-    let at = store_sections::write_u32(to, t.notes.count as u32)?;
-    let m = write_all(store, t, lead, &mut to[at..])?;
+    let at = store_sections::write_u32(to, part.tables.notes.count as u32)?;
+    let m = write_all(part, &mut to[at..])?;
     Some(at + m)
 }

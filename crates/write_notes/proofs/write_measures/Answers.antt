@@ -4,11 +4,16 @@ use Rattle.write_notes.proofs.Out.{measures_none, measures_wrote, measures_say}
 use Rattle.write_notes.proofs.write_measures.Goals as goal
 
 pub returns-then-to-lt-COUNT : goal.returns-then-to-lt-COUNT
-returns-then-to-lt-COUNT c = let w = measures_none c.args.store.now c.args.t c.requires (omega arith) in record { bytes_of_store = w; bytes_of_tables = (measures_say {t = c.args.t} w).1 }
+returns-then-to-lt-COUNT c =
+    let p = c.args.part.now in
+    let w = measures_none p.store.now p.tables p.within (omega arith) in record { bytes_of_store = w; bytes_of_tables = (measures_say {t = p.tables} w).1 }
 
 pub returns-then-to-len : goal.returns-then-to-len
-returns-then-to-len c = let w = measures_none c.args.store.now c.args.t c.requires (omega arith) in record { bytes_of_store = w; bytes_of_tables = (measures_say {t = c.args.t} w).1 }
+returns-then-to-len c =
+    let p = c.args.part.now in
+    let w = measures_none p.store.now p.tables p.within (omega arith) in record { bytes_of_store = w; bytes_of_tables = (measures_say {t = p.tables} w).1 }
 
 pub returns : goal.returns
 returns c =
-    let w = measures_wrote c.args.store.now c.args.t c.requires c.put_u32.ensures c.copy.ensures (omega arith) in record { bytes_of_store = w; bytes_of_tables = (measures_say {t = c.args.t} w).1 }
+    let p = c.args.part.now in
+    let w = measures_wrote p.store.now p.tables p.within c.put_u32.ensures c.copy.ensures (omega arith) in record { bytes_of_store = w; bytes_of_tables = (measures_say {t = p.tables} w).1 }
