@@ -11,13 +11,12 @@ ghost use Rattle.part_layout.specs.Sections.{in_order};
 ghost use Rattle.part_rows.specs.Encoded.{note_row_width, pitch_row_width};
 ghost use Rattle.part_rows.specs.Read.{pitch_count};
 ghost use Rattle.store_sections.specs.Writes.{WroteIs};
-ghost use Rattle.write_notes.specs.Tables.{pitch_total, InStore, Represents};
-ghost use Rattle.write_notes.specs.Out.{leads};
+ghost use Rattle.write_notes.specs.Tables.{pitch_total, Represents};
 ghost use Rattle.write_pitches.specs.Out.{voice_out, voices_out, pitches_out, pitches_section};
 
 use part_measures::MEASURE;
 use part_rows::{NOTE_ROW, PITCH_ROW};
-use write_notes::PartTables;
+use write_notes::StoredPart;
 
 // How many bytes the pitches of the note in the row at `place` take.
 fn pitch_bytes(store: &[u8], place: usize) -> usize
@@ -113,10 +112,11 @@ fn write_measure(
 }
 
 // The pitches of all notes, measure by measure.
-fn write_records(store: &[u8], t: PartTables, to: &mut [u8]) -> Option<usize>
-    requires { InStore store.now t }
-    ensures { WroteIs to.old (pitches_out store.now t.measures.at t.notes.at t.pitches.at t.measures.count) to.new result }
+fn write_records(part: &StoredPart<'_>, to: &mut [u8]) -> Option<usize>
+    ensures { let t = part.now.tables in WroteIs to.old (pitches_out part.now.store.now t.measures.at t.notes.at t.pitches.at t.measures.count) to.new result }
 {
+    let store = part.store;
+    let t = part.tables;
     let mut at = 0;
     let mut p = t.notes.at;
     let mut q = t.pitches.at;
@@ -130,24 +130,23 @@ fn write_records(store: &[u8], t: PartTables, to: &mut [u8]) -> Option<usize>
     Some(at)
 }
 
-// The pitches of all notes: one run where all notes are of voice 0 (`lead`), else measure by measure.
-fn write_all(store: &[u8], t: PartTables, lead: bool, to: &mut [u8]) -> Option<usize>
-    requires { InStore store.now t × (lead ≡ leads store.now t.notes.at t.notes.count) }
-    ensures { WroteIs to.old (pitches_out store.now t.measures.at t.notes.at t.pitches.at t.measures.count) to.new result }
+// The pitches of all notes: one run where all notes are of voice 0, else measure by measure.
+fn write_all(part: &StoredPart<'_>, to: &mut [u8]) -> Option<usize>
+    ensures { let t = part.now.tables in WroteIs to.old (pitches_out part.now.store.now t.measures.at t.notes.at t.pitches.at t.measures.count) to.new result }
 {
-    if lead {
-        return write_run(store, t.pitches.at, PITCH_ROW * t.pitches.count, to);
+    if part.lead {
+        let t = part.tables;
+        return write_run(part.store, t.pitches.at, PITCH_ROW * t.pitches.count, to);
     }
-    write_records(store, t, to)
+    write_records(part, to)
 }
 
-// The section of the pitches, in the order of the notes that have them. `lead` tells whether all notes are of voice 0.
-pub fn write_pitches(store: &[u8], t: PartTables, lead: bool, to: &mut [u8]) -> Option<usize>
-    requires { InStore store.now t × (lead ≡ leads store.now t.notes.at t.notes.count) }
-    ensures bytes_of_store { WroteIs to.old (pitches_section store.now t) to.new result }
-    ensures bytes_of_tables { (ms : List Head) (log : List (ℕ × Note)) → Represents store.now t ms log → WroteIs to.old (section pitch_bytes (concat (map (λ (x : ℕ × Note). x.1.pitches) (in_order ms log)))) to.new result }
+// The section of the pitches, in the order of the notes that have them.
+pub fn write_pitches(part: &StoredPart<'_>, to: &mut [u8]) -> Option<usize>
+    ensures bytes_of_store { WroteIs to.old (pitches_section part.now.store.now part.now.tables) to.new result }
+    ensures bytes_of_tables { (ms : List Head) (log : List (ℕ × Note)) → Represents part.now.store.now part.now.tables ms log → WroteIs to.old (section pitch_bytes (concat (map (λ (x : ℕ × Note). x.1.pitches) (in_order ms log)))) to.new result }
 {
-    let at = store_sections::write_u32(to, t.pitches.count as u32)?;
-    let m = write_all(store, t, lead, &mut to[at..])?;
+    let at = store_sections::write_u32(to, part.tables.pitches.count as u32)?;
+    let m = write_all(part, &mut to[at..])?;
     Some(at + m)
 }
