@@ -5,15 +5,13 @@ ghost use Rattle.std.specs.Prelude.{◌≡◌, true, false, ◌++◌, ◌+◌, �
 ghost use Rattle.laws.specs.Bytes.{le32};
 ghost use Rattle.part_rows.specs.Encoded.{note_row_width};
 ghost use Rattle.store_sections.specs.Writes.{WroteIs};
-ghost use Rattle.write_notes.specs.Tables.{InStore};
-ghost use Rattle.write_notes.specs.Out.{leads};
 ghost use Rattle.lyrics.specs.Sheet.{syllables_in};
 ghost use Rattle.write_lyrics.specs.Out.{sung_rows, sung_total, rows_out, PassedIs, measures_out, texts_out, counted, section_out, SheetIn};
 
 use part_measures::MEASURE;
 use part_rows::NOTE_ROW;
 use reading_records::{COUNT, LYRIC};
-use write_notes::PartTables;
+use write_notes::StoredPart;
 
 // How far records are written: up to where, and how many notes are sung up to there.
 #[derive(Clone, Copy)]
@@ -60,14 +58,15 @@ fn write_rows(
 // Those of all measures.
 fn write_measures(
     text: &[u8],
-    store: &[u8],
+    part: &StoredPart<'_>,
     sheet: lyrics::Sheet,
-    t: PartTables,
     to: &mut [u8],
 ) -> Option<Passed>
-    requires { SheetIn store.now sheet × InStore store.now t }
-    ensures { PassedIs to.old (measures_out false (syllables_in text.now store.now sheet) store.now 0 0 t.measures.at t.notes.at t.measures.count) to.new (sung_total store.now t.measures.at t.notes.at t.measures.count) result }
+    requires { SheetIn part.now.store.now sheet }
+    ensures { let t = part.now.tables in PassedIs to.old (measures_out false (syllables_in text.now part.now.store.now sheet) part.now.store.now 0 0 t.measures.at t.notes.at t.measures.count) to.new (sung_total part.now.store.now t.measures.at t.notes.at t.measures.count) result }
 {
+    let store = part.store;
+    let t = part.tables;
     let mut at = 0;
     let mut i = 0;
     let mut j = 0;
@@ -83,40 +82,37 @@ fn write_measures(
     Some(Passed { to: at, sung: j })
 }
 
-// Those of all notes: all rows at once where all are of voice 0 (`lead`), else measure by measure.
+// Those of all notes: all rows at once where all are of voice 0, else measure by measure.
 fn write_all(
     text: &[u8],
-    store: &[u8],
+    part: &StoredPart<'_>,
     sheet: lyrics::Sheet,
-    t: PartTables,
-    lead: bool,
     to: &mut [u8],
 ) -> Option<Passed>
-    requires { SheetIn store.now sheet × InStore store.now t × (lead ≡ leads store.now t.notes.at t.notes.count) }
-    ensures { PassedIs to.old (measures_out false (syllables_in text.now store.now sheet) store.now 0 0 t.measures.at t.notes.at t.measures.count) to.new (sung_total store.now t.measures.at t.notes.at t.measures.count) result }
+    requires { SheetIn part.now.store.now sheet }
+    ensures { let t = part.now.tables in PassedIs to.old (measures_out false (syllables_in text.now part.now.store.now sheet) part.now.store.now 0 0 t.measures.at t.notes.at t.measures.count) to.new (sung_total part.now.store.now t.measures.at t.notes.at t.measures.count) result }
 {
-    if lead {
-        return write_rows(text, store, sheet, t.notes.at, t.notes.count, 0, 0, to);
+    if part.lead {
+        let t = part.tables;
+        return write_rows(text, part.store, sheet, t.notes.at, t.notes.count, 0, 0, to);
     }
-    write_measures(text, store, sheet, t, to)
+    write_measures(text, part, sheet, to)
 }
 
 // Their section. Its count is written last.
 fn write_records(
     text: &[u8],
-    store: &[u8],
+    part: &StoredPart<'_>,
     sheet: lyrics::Sheet,
-    t: PartTables,
-    lead: bool,
     to: &mut [u8],
 ) -> Option<Passed>
-    requires { SheetIn store.now sheet × InStore store.now t × (lead ≡ leads store.now t.notes.at t.notes.count) }
-    ensures { PassedIs to.old (section_out false (syllables_in text.now store.now sheet) store.now t) to.new (sung_total store.now t.measures.at t.notes.at t.measures.count) result }
+    requires { SheetIn part.now.store.now sheet }
+    ensures { let t = part.now.tables in PassedIs to.old (section_out false (syllables_in text.now part.now.store.now sheet) part.now.store.now t) to.new (sung_total part.now.store.now t.measures.at t.notes.at t.measures.count) result }
 {
     if to.len() < COUNT {
         return None;
     }
-    let passed = write_all(text, store, sheet, t, lead, &mut to[COUNT..])?;
+    let passed = write_all(text, part, sheet, &mut to[COUNT..])?;
     let low = write_syllables::low32(passed.to / LYRIC);
     store::put_u32(to, 0, low);
     Some(Passed {
@@ -179,34 +175,30 @@ fn write_none(to: &mut [u8]) -> Option<usize>
 // The records, and the texts of as many notes as are sung.
 fn write_sung(
     text: &[u8],
-    store: &[u8],
+    part: &StoredPart<'_>,
     sheet: lyrics::Sheet,
-    t: PartTables,
-    lead: bool,
     to: &mut [u8],
 ) -> Option<usize>
-    requires { SheetIn store.now sheet × InStore store.now t × (lead ≡ leads store.now t.notes.at t.notes.count) }
-    ensures { WroteIs to.old (section_out false (syllables_in text.now store.now sheet) store.now t ++ section_out true (syllables_in text.now store.now sheet) store.now t) to.new result }
+    requires { SheetIn part.now.store.now sheet }
+    ensures { let s = part.now.store.now in let ws = syllables_in text.now s sheet in WroteIs to.old (section_out false ws s part.now.tables ++ section_out true ws s part.now.tables) to.new result }
 {
-    let passed = write_records(text, store, sheet, t, lead, to)?;
-    let m = write_text(text, store, sheet, passed.sung, &mut to[passed.to..])?;
+    let passed = write_records(text, part, sheet, to)?;
+    let m = write_text(text, part.store, sheet, passed.sung, &mut to[passed.to..])?;
     Some(passed.to + m)
 }
 
-// The sections of the lyrics and of their texts. Where no row is written both are empty, and no note is asked. `lead` tells whether all notes are of voice 0.
+// The sections of the lyrics and of their texts. Where no row is written both are empty, and no note is asked.
 pub fn write_lyrics(
     text: &[u8],
-    store: &[u8],
+    part: &StoredPart<'_>,
     sheet: lyrics::Sheet,
-    t: PartTables,
-    lead: bool,
     to: &mut [u8],
 ) -> Option<usize>
-    requires { SheetIn store.now sheet × InStore store.now t × (lead ≡ leads store.now t.notes.at t.notes.count) }
-    ensures { WroteIs to.old (section_out false (syllables_in text.now store.now sheet) store.now t ++ section_out true (syllables_in text.now store.now sheet) store.now t) to.new result }
+    requires { SheetIn part.now.store.now sheet }
+    ensures { let s = part.now.store.now in let ws = syllables_in text.now s sheet in WroteIs to.old (section_out false ws s part.now.tables ++ section_out true ws s part.now.tables) to.new result }
 {
     if sheet.count == 0 {
         return write_none(to);
     }
-    write_sung(text, store, sheet, t, lead, to)
+    write_sung(text, part, sheet, to)
 }

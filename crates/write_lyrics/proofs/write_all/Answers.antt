@@ -5,9 +5,10 @@ use Rattle.lyrics.specs.Sheet.{syllables_in}
 use Rattle.write_lyrics.proofs.Leads.{passed_all}
 use Rattle.write_lyrics.proofs.write_all.Goals as goal
 
-pub returns-then-lead : goal.returns-then-lead
-returns-then-lead c =
+pub returns-then-part : goal.returns-then-part
+returns-then-part c =
     let a = c.args in
-    let t = a.t in
-    passed_all false (syllables_in a.text.now a.store.now a.sheet) a.store.now t.measures.at t.notes.at t.measures.count t.notes.count (sym c.requires.1.all_notes_lem) (sym c.requires.2 ∙ c.if-lead.true)
+    let p = a.part.now in
+    let t = p.tables in
+    passed_all false (syllables_in a.text.now p.store.now a.sheet) p.store.now t.measures.at t.notes.at t.measures.count t.notes.count (sym p.within.all_notes_lem) (sym p.lead_is ∙ c.if-part.true)
     c.write_rows.ensures

@@ -10,7 +10,7 @@ pub returns-then-sheet-eq0 : goal.returns-then-sheet-eq0
 returns-then-sheet-eq0 c =
     let a = c.args in
     let none = c.if-sheet-eq0.true in
-    wrote_as_lem c.write_none.ensures (λ i. sym (section_silent false a.text.now a.store.now a.sheet a.t none) i ++ sym (section_silent true a.text.now a.store.now a.sheet a.t none) i)
+    wrote_as_lem c.write_none.ensures (λ i. sym (section_silent false a.text.now a.part.now.store.now a.sheet a.part.now.tables none) i ++ sym (section_silent true a.text.now a.part.now.store.now a.sheet a.part.now.tables none) i)
 
 pub returns : goal.returns
 returns c = c.write_sung.ensures
