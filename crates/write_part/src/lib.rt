@@ -8,34 +8,26 @@ ghost use Rattle.part_layout.specs.Sections as layout;
 ghost use Rattle.store_sections.specs.Writes.{WroteIs};
 ghost use Rattle.lyrics.specs.Sheet.{syllables_in};
 ghost use Rattle.write_notes.specs.Tables.{InStore, Represents};
-ghost use Rattle.write_notes.specs.Out.{leads};
 ghost use Rattle.write_lyrics.specs.Out.{SheetIn};
 
 use lyrics::Sheet;
-use write_notes::PartTables;
+use write_notes::{PartTables, StoredPart};
 
-// Measures, notes, pitches, lyrics and lyric text, each where the last one ended. `lead` tells whether all notes are of voice 0.
-fn write_tables(
-    text: &[u8],
-    store: &[u8],
-    t: PartTables,
-    sheet: Sheet,
-    lead: bool,
-    to: &mut [u8],
-) -> Option<usize>
-    requires { InStore store.now t × SheetIn store.now sheet × (lead ≡ leads store.now t.notes.at t.notes.count) }
-    ensures { (ms : List Head) (log : List (ℕ × Note)) → Represents store.now t ms log → WroteIs to.old (layout.sections (record { heads = ms; log = log; words = syllables_in text.now store.now sheet })) to.new result }
+// Measures, notes, pitches, lyrics and lyric text, each where the last one ended.
+fn write_tables(text: &[u8], part: &StoredPart<'_>, sheet: Sheet, to: &mut [u8]) -> Option<usize>
+    requires { SheetIn part.now.store.now sheet }
+    ensures { (ms : List Head) (log : List (ℕ × Note)) → Represents part.now.store.now part.now.tables ms log → WroteIs to.old (layout.sections (record { heads = ms; log = log; words = syllables_in text.now part.now.store.now sheet })) to.new result }
 {
-    let measures = write_notes::write_measures(store, t, to)?;
-    let notes = write_notes::write_notes(store, t, lead, &mut to[measures..])?;
+    let measures = write_notes::write_measures(part, to)?;
+    let notes = write_notes::write_notes(part, &mut to[measures..])?;
     let b = measures + notes;
-    let pitches = write_pitches::write_pitches(store, t, lead, &mut to[b..])?;
+    let pitches = write_pitches::write_pitches(part, &mut to[b..])?;
     let c = b + pitches;
-    let lyrics = write_lyrics::write_lyrics(text, store, sheet, t, lead, &mut to[c..])?;
+    let lyrics = write_lyrics::write_lyrics(text, part, sheet, &mut to[c..])?;
     Some(c + lyrics)
 }
 
-// The same: whether all notes are of voice 0 is asked once. The two calls have a constant each, by which the compiler makes two shorter writers of one.
+// The same: whether all notes are of voice 0 is asked once. The two calls have a constant of `lead` each, by which the compiler makes two shorter writers of one.
 pub fn write_sections(
     text: &[u8],
     store: &[u8],
@@ -47,7 +39,17 @@ pub fn write_sections(
     ensures { (ms : List Head) (log : List (ℕ × Note)) → Represents store.now t ms log → WroteIs to.old (layout.sections (record { heads = ms; log = log; words = syllables_in text.now store.now sheet })) to.new result }
 {
     if write_notes::is_lead(store, t.notes.at, t.notes.count) {
-        return write_tables(text, store, t, sheet, true, to);
+        let part = StoredPart {
+            store,
+            tables: t,
+            lead: true,
+        };
+        return write_tables(text, &part, sheet, to);
     }
-    write_tables(text, store, t, sheet, false, to)
+    let part = StoredPart {
+        store,
+        tables: t,
+        lead: false,
+    };
+    write_tables(text, &part, sheet, to)
 }

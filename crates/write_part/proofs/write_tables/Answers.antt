@@ -11,7 +11,7 @@ pub returns-in_err-measures : goal.returns-in_err-measures
 returns-in_err-measures c =
     let a = c.args in
     rw c.from_residual.ensures
-    (sections_say a.store.now a.t (syllables_in a.text.now a.store.now a.sheet) (none (none (none c.in_err-measures.ensures.bytes_of_store _ {z = []}) _ {z = []}) _))
+    (sections_say a.part.now.store.now a.part.now.tables (syllables_in a.text.now a.part.now.store.now a.sheet) (none (none (none c.in_err-measures.ensures.bytes_of_store _ {z = []}) _ {z = []}) _))
 
 pub slice_bounds-write_notes-count : goal.slice_bounds-write_notes-count
 slice_bounds-write_notes-count c =
@@ -23,16 +23,13 @@ slice_bounds-write_notes-start c =
     let w1 = c.in_ok-measures.ensures.bytes_of_store in
     (in_store w1).0
 
-pub write_notes-requires : goal.write_notes-requires
-write_notes-requires c = (c.requires.0, c.requires.2)
-
 -- no room for the notes
 pub returns-in_err-notes : goal.returns-in_err-notes
 returns-in_err-notes c =
     let w1 = c.in_ok-measures.ensures.bytes_of_store in
     let a = c.args in
     rw c.from_residual-in_err-notes.ensures
-    (sections_say a.store.now a.t (syllables_in a.text.now a.store.now a.sheet) (none (none (next_none w1 c.in_err-notes.ensures.bytes_of_store {z = []}) _ {z = []}) _))
+    (sections_say a.part.now.store.now a.part.now.tables (syllables_in a.text.now a.part.now.store.now a.sheet) (none (none (next_none w1 c.in_err-notes.ensures.bytes_of_store {z = []}) _ {z = []}) _))
 
 pub overflow_add-b : goal.overflow_add-b
 overflow_add-b c =
@@ -52,9 +49,6 @@ slice_bounds-write_pitches-start c =
     let w2 = next_to w1 c.in_ok-notes.ensures.bytes_of_store in
     (in_store w2).0
 
-pub write_pitches-requires : goal.write_pitches-requires
-write_pitches-requires c = (c.requires.0, c.requires.2)
-
 -- no room for the pitches
 pub returns-in_err-pitches : goal.returns-in_err-pitches
 returns-in_err-pitches c =
@@ -62,7 +56,7 @@ returns-in_err-pitches c =
     let w2 = next_to w1 c.in_ok-notes.ensures.bytes_of_store in
     let a = c.args in
     rw c.from_residual-in_err-pitches.ensures
-    (sections_say a.store.now a.t (syllables_in a.text.now a.store.now a.sheet) (none (next_none w2 c.in_err-pitches.ensures.bytes_of_store {z = []}) _))
+    (sections_say a.part.now.store.now a.part.now.tables (syllables_in a.text.now a.part.now.store.now a.sheet) (none (next_none w2 c.in_err-pitches.ensures.bytes_of_store {z = []}) _))
 
 pub overflow_add-c : goal.overflow_add-c
 overflow_add-c c =
@@ -85,9 +79,6 @@ slice_bounds-write_lyrics-start c =
     let w3 = next_to w2 c.in_ok-pitches.ensures.bytes_of_store in
     (in_store w3).0
 
-pub write_lyrics-requires : goal.write_lyrics-requires
-write_lyrics-requires c = (c.requires.1, c.requires.0, c.requires.2)
-
 -- no room for the lyrics and their text
 pub returns-in_err-lyrics : goal.returns-in_err-lyrics
 returns-in_err-lyrics c =
@@ -96,7 +87,7 @@ returns-in_err-lyrics c =
     let w3 = next_to w2 c.in_ok-pitches.ensures.bytes_of_store in
     let a = c.args in
     rw c.from_residual-in_err-lyrics.ensures
-    (sections_say a.store.now a.t (syllables_in a.text.now a.store.now a.sheet) (next_none w3 c.in_err-lyrics.ensures))
+    (sections_say a.part.now.store.now a.part.now.tables (syllables_in a.text.now a.part.now.store.now a.sheet) (next_none w3 c.in_err-lyrics.ensures))
 
 pub overflow_add-result : goal.overflow_add-result
 overflow_add-result c =
@@ -114,4 +105,4 @@ returns c =
     let w3 = next_to w2 c.in_ok-pitches.ensures.bytes_of_store in
     let w4 = next_to w3 c.in_ok-lyrics.ensures in
     let a = c.args in
-    sections_say a.store.now a.t (syllables_in a.text.now a.store.now a.sheet) w4
+    sections_say a.part.now.store.now a.part.now.tables (syllables_in a.text.now a.part.now.store.now a.sheet) w4
