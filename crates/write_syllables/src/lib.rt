@@ -7,10 +7,20 @@ ghost use Rattle.standard.specs.Lyrics.{syllable_text};
 ghost use Rattle.reader.specs.Records.{lyric_bytes};
 ghost use Rattle.store_sections.specs.Writes.{WroteIs};
 ghost use Rattle.lyrics.specs.Sheet.{syllables_in, lyric_row_width};
-ghost use Rattle.lyric_walk.specs.Walks.{Tables, chain, syllable_is, within, sung_at, window, Gathered};
+ghost use Rattle.lyric_walk.specs.Walks.{chain, syllable_is, within, sung_at, window, Gathered};
+ghost use Rattle.write_syllables.specs.Sheets.{SheetIn};
 ghost use Rattle.write_syllables.specs.Pieces.{piece, pieces};
 
 use reading_records::LYRIC;
+
+// What the writers of lyrics read: the sheet of a part's syllables within its store, and the text that they are cut from.
+#[derive(Clone, Copy)]
+pub struct StoredLyrics<'s> {
+    pub text: &'s [u8],
+    pub store: &'s [u8],
+    pub sheet: lyrics::Sheet,
+    pub ghost sheet_in: { SheetIn store.now sheet },
+}
 
 // A RECORD
 
@@ -176,16 +186,16 @@ fn write_verses(
 // The records of note `sung` among the notes that are sung, which is the note at index `note` of all: none past the last of the sheet. Nearly every
 // chain has one row or none.
 pub fn write_syllable_records(
-    text: &[u8],
-    store: &[u8],
-    sheet: lyrics::Sheet,
+    words: &StoredLyrics<'_>,
     sung: usize,
     note: usize,
     to: &mut [u8],
 ) -> Option<usize>
-    requires { (Tables store.now sheet) × (sheet.count + 1 < 18446744073709551616) }
-    ensures { WroteIs to.old (pieces false note (get_or (syllables_in text.now store.now sheet) sung [])) to.new result }
+    ensures { WroteIs to.old (pieces false note (get_or (syllables_in words.now.text.now words.now.store.now words.now.sheet) sung [])) to.new result }
 {
+    let text = words.text;
+    let store = words.store;
+    let sheet = words.sheet;
     if sheet.sounded <= sung {
         return Some(0);
     }
@@ -198,16 +208,12 @@ pub fn write_syllable_records(
 }
 
 // Their texts, in which no index stands.
-pub fn write_syllable_texts(
-    text: &[u8],
-    store: &[u8],
-    sheet: lyrics::Sheet,
-    sung: usize,
-    to: &mut [u8],
-) -> Option<usize>
-    requires { (Tables store.now sheet) × (sheet.count + 1 < 18446744073709551616) }
-    ensures { WroteIs to.old (pieces true 0 (get_or (syllables_in text.now store.now sheet) sung [])) to.new result }
+pub fn write_syllable_texts(words: &StoredLyrics<'_>, sung: usize, to: &mut [u8]) -> Option<usize>
+    ensures { WroteIs to.old (pieces true 0 (get_or (syllables_in words.now.text.now words.now.store.now words.now.sheet) sung [])) to.new result }
 {
+    let text = words.text;
+    let store = words.store;
+    let sheet = words.sheet;
     if sheet.sounded <= sung {
         return Some(0);
     }

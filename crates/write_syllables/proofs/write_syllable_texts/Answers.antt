@@ -15,36 +15,37 @@ use Rattle.write_syllables.proofs.write_syllable_texts.Goals as goal
 pub returns-then-sheet-sung : goal.returns-then-sheet-sung
 returns-then-sheet-sung c =
     let a = c.args in
-    wrote_as_lem (start _) (sym (pieces_past true 0 (syllables_in a.text.now a.store.now a.sheet) a.sung (omega (arith, how_many a.text.now a.store.now a.sheet, c.if-sheet-sung.true))))
+    let w = a.words.now in
+    wrote_as_lem (start _) (sym (pieces_past true 0 (syllables_in w.text.now w.store.now w.sheet) a.sung (omega (arith, how_many w.text.now w.store.now w.sheet, c.if-sheet-sung.true))))
 
 pub sole_syllable-requires : goal.sole_syllable-requires
-sole_syllable-requires c = omega (arith, c.head-k.ensures.low, c.requires.0.log)
+sole_syllable-requires c = omega (arith, c.head-k.ensures.low, c.args.words.now.sheet_in.tables.log)
 
 pub write_text-requires : goal.write_text-requires
 write_text-requires c =
-    let a = c.args in
-    sole_in a.text.now a.store.now a.sheet.log c.head-k.result _ _ c.sole_syllable.ensures c.in-One.is
+    let w = c.args.words.now in
+    sole_in w.text.now w.store.now w.sheet.log c.head-k.result _ _ c.sole_syllable.ensures c.in-One.is
 
 pub write_verses-requires : goal.write_verses-requires
-write_verses-requires c = omega (arith, c.head-k.ensures.low, c.requires.0.log)
+write_verses-requires c = omega (arith, c.head-k.ensures.low, c.args.words.now.sheet_in.tables.log)
 
 -- no row
 pub returns-in-Nothing : goal.returns-in-Nothing
 returns-in-Nothing c =
-    let a = c.args in
+    let w = c.args.words.now in
     let head = c.head-k in
-    wrote_as_lem (start _) (sym (sole_none true 0 a.text.now a.store.now a.sheet.log head.result _ c.sole_syllable.ensures c.in-Nothing.is) ∙ ap (pieces true 0) (sym (head.ensures.sung a.text.now)))
+    wrote_as_lem (start _) (sym (sole_none true 0 w.text.now w.store.now w.sheet.log head.result _ c.sole_syllable.ensures c.in-Nothing.is) ∙ ap (pieces true 0) (sym (head.ensures.sung w.text.now)))
 
 -- one
 pub returns-in-One : goal.returns-in-One
 unfolding syllable_is
 returns-in-One c =
-    let a = c.args in
+    let w = c.args.words.now in
     let head = c.head-k in
-    wrote_as_lem c.write_text.ensures (sym (sole_one true 0 a.text.now a.store.now a.sheet.log head.result _ _ c.sole_syllable.ensures c.in-One.is) ∙ ap (pieces true 0) (sym (head.ensures.sung a.text.now)))
+    wrote_as_lem c.write_text.ensures (sym (sole_one true 0 w.text.now w.store.now w.sheet.log head.result _ _ c.sole_syllable.ensures c.in-One.is) ∙ ap (pieces true 0) (sym (head.ensures.sung w.text.now)))
 
 -- several
 pub returns-in-Several : goal.returns-in-Several
 returns-in-Several c =
-    let a = c.args in
-    wrote_as_lem c.write_verses.ensures (ap (pieces true 0) (sym (c.head-k.ensures.sung a.text.now)))
+    let w = c.args.words.now in
+    wrote_as_lem c.write_verses.ensures (ap (pieces true 0) (sym (c.head-k.ensures.sung w.text.now)))
