@@ -52,6 +52,6 @@ unfolding counted
 none_counted_lem true = append-nil (le32 0)
 none_counted_lem false = append-nil (le32 0)
 
-pub section_silent : (texts : Bool) (text s : List ℕ) (h : Sheet) (t : PartTables) → h.count ≡ 0 → section_out texts (syllables_in text s h) s t ≡ le32 0
-section_silent texts text s h t z =
-    ap (counted texts) (measures_silent texts (syllables_in text s h) (no_syllable text s h z) s 0 0 t.measures.at t.notes.at t.measures.count) ∙ none_counted_lem texts
+pub section_silent : (texts : Bool) (text d : List ℕ) (h : Sheet) (s : List ℕ) (t : PartTables) → h.count ≡ 0 → section_out texts (syllables_in text d h) s t ≡ le32 0
+section_silent texts text d h s t z =
+    ap (counted texts) (measures_silent texts (syllables_in text d h) (no_syllable text d h z) s 0 0 t.measures.at t.notes.at t.measures.count) ∙ none_counted_lem texts

@@ -1,6 +1,6 @@
 -- THE LYRICS OF A PART in the order of the reading, as the bytes of its tables in scratch give them: records, or texts. ws has the syllables of each note that
 -- is sung.
-use Rattle.std.specs.Prelude.{ℕ, zero, suc, ◌+◌, ◌*◌, ◌/◌, ◌<◌, ◌≡◌, Bool, true, cond, List, [], ◌++◌, Option, Some, None, length, get_or}
+use Rattle.std.specs.Prelude.{ℕ, zero, suc, ◌+◌, ◌*◌, ◌/◌, ◌≡◌, Bool, true, cond, List, [], ◌++◌, Option, Some, None, length, get_or}
 use Rattle.laws.specs.Bytes.{le32}
 use Rattle.reader.specs.Codes.{bit}
 use Rattle.reader.specs.Lyrics.{Syllable}
@@ -9,8 +9,6 @@ use Rattle.part_rows.specs.Encoded.{note_row_width}
 use Rattle.store_sections.specs.Writes.{WroteIs}
 use Rattle.part_rows.specs.Read.{lead_row, sung_row}
 use Rattle.part_measures.specs.Heads.{note_count}
-use Rattle.lyrics.specs.declared.Sheet.{Sheet}
-use Rattle.lyric_walk.specs.Walks.{Tables}
 use Rattle.write_notes.specs.declared.PartTables.{PartTables}
 use Rattle.write_syllables.specs.Pieces.{pieces}
 use Rattle.write_lyrics.specs.declared.Passed.{Passed}
@@ -60,8 +58,3 @@ counted texts bs = le32 (count_of texts (length bs)) ++ bs
 -- the section
 abbrev pub section_out : Bool → List (List Syllable) → List ℕ → PartTables → List ℕ
 section_out texts ws s t = counted texts (measures_out texts ws s 0 0 t.measures.at t.notes.at t.measures.count)
-
--- the sheet's tables are within the store
-pub record SheetIn (s : List ℕ) (h : Sheet) : Type 0 where
-  pub tables : Tables s h
-  pub few : h.count + 1 < 18446744073709551616

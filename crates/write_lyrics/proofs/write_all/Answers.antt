@@ -10,5 +10,5 @@ returns-then-part c =
     let a = c.args in
     let p = a.part.now in
     let t = p.tables in
-    passed_all false (syllables_in a.text.now p.store.now a.sheet) p.store.now t.measures.at t.notes.at t.measures.count t.notes.count (sym p.within.all_notes_lem) (sym p.lead_is ∙ c.if-part.true)
+    passed_all false (syllables_in a.words.now.text.now a.words.now.store.now a.words.now.sheet) p.store.now t.measures.at t.notes.at t.measures.count t.notes.count (sym p.within.all_notes_lem) (sym p.lead_is ∙ c.if-part.true)
     c.write_rows.ensures

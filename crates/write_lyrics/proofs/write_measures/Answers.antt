@@ -21,7 +21,7 @@ loop-measure-init c =
       omega arith,
       omega (arith, sung_total_first a.part.now.store.now t.measures.at t.notes.at t.measures.count),
       refl,
-      begin_rows _ (λ h n. measures_out false (syllables_in a.text.now a.part.now.store.now a.sheet) a.part.now.store.now 0 0 h t.notes.at n) measure_width t.measures.at t.measures.count,
+      begin_rows _ (λ h n. measures_out false (syllables_in a.words.now.text.now a.words.now.store.now a.words.now.sheet) a.part.now.store.now 0 0 h t.notes.at n) measure_width t.measures.at t.measures.count,
     )
 
 pub note_count-k-requires : goal.note_count-k-requires
@@ -41,7 +41,7 @@ write_rows-requires c =
     let t = total_more c.args.part.now.store.now m.at m.count l.measure c.loop-measure-test.true in
     let k = c.note_count-k.ensures.0 in
     let good = c.well_formed in
-    (c.requires, omega (arith, v.0, t, k), omega (arith, v.0, v.1, t, k, good), omega (arith, v.0, v.1, v.2, t, k, good))
+    (omega (arith, v.0, t, k), omega (arith, v.0, v.1, t, k, good), omega (arith, v.0, v.1, v.2, t, k, good))
 
 -- no room for a measure
 pub returns-in_err-passed : goal.returns-in_err-passed
@@ -53,7 +53,7 @@ returns-in_err-passed c =
     let q = sung_rows a.part.now.store.now l.p k.result in
     rw c.from_residual.ensures
     (record {
-      says = written_none l.invariant.5 c.in_err-passed.ensures.says (measures_out false (syllables_in a.text.now a.part.now.store.now a.sheet) a.part.now.store.now (l.i + k.result) (l.j + q) (t.measures.at + measure_width * (l.measure + 1)) (l.p + note_row_width * k.result) (t.measures.count - (l.measure + 1)))
+      says = written_none l.invariant.5 c.in_err-passed.ensures.says (measures_out false (syllables_in a.words.now.text.now a.words.now.store.now a.words.now.sheet) a.part.now.store.now (l.i + k.result) (l.j + q) (t.measures.at + measure_width * (l.measure + 1)) (l.p + note_row_width * k.result) (t.measures.count - (l.measure + 1)))
           (measures_step _ _ _ _ _ _ _ _ _ _ q c.loop-measure-test.true k.ensures.0 refl);
     })
 
@@ -98,7 +98,7 @@ loop-measure-preserved c =
       omega (arith, v.2, e, sung_low a.part.now.store.now l.p n),
       omega (arith, v.3, e, sung_total_step a.part.now.store.now t.measures.at l.p t.measures.count l.measure n more k),
       (written_in g).1,
-      written_as_lem g (ap (λ (x : ℕ). measures_out false (syllables_in a.text.now a.part.now.store.now a.sheet) a.part.now.store.now (l.i + n) x (t.measures.at + measure_width * (l.measure + 1)) (l.p + note_row_width * n) (t.measures.count - (l.measure + 1))) (sym e)),
+      written_as_lem g (ap (λ (x : ℕ). measures_out false (syllables_in a.words.now.text.now a.words.now.store.now a.words.now.sheet) a.part.now.store.now (l.i + n) x (t.measures.at + measure_width * (l.measure + 1)) (l.p + note_row_width * n) (t.measures.count - (l.measure + 1))) (sym e)),
     )
 
 pub returns : goal.returns

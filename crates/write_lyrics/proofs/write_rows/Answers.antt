@@ -15,7 +15,7 @@ use Rattle.write_lyrics.proofs.write_rows.Goals as goal
 pub loop-row-init : goal.loop-row-init
 loop-row-init c =
     let a = c.args in
-    (omega arith, omega arith, omega (arith, sung_first a.store.now a.place a.k), refl, begin_rows _ (λ p n. rows_out false (syllables_in a.text.now a.store.now a.sheet) a.store.now a.note a.sung p n) note_row_width a.place a.k)
+    (omega arith, omega arith, omega (arith, sung_first a.store.now a.place a.k), refl, begin_rows _ (λ p n. rows_out false (syllables_in a.words.now.text.now a.words.now.store.now a.words.now.sheet) a.store.now a.note a.sung p n) note_row_width a.place a.k)
 
 -- a row of another voice
 pub loop-row-preserved-then-not-is_of_voice : goal.loop-row-preserved-then-not-is_of_voice
@@ -33,7 +33,7 @@ loop-row-preserved-then-not-is_of_voice c =
     )
 
 pub overflow_add-i : goal.overflow_add-i
-overflow_add-i c = omega (arith, c.loop-row.invariant.0, c.loop-row-test.true, c.requires.2)
+overflow_add-i c = omega (arith, c.loop-row.invariant.0, c.loop-row-test.true, c.requires.1)
 
 -- a rest
 pub loop-row-preserved-then-is_rest : goal.loop-row-preserved-then-is_rest
@@ -63,7 +63,7 @@ returns-in_err-at c =
     let a = c.args in
     rw c.from_residual.ensures
     (record {
-      says = written_none l.invariant.4 c.in_err-at.ensures (rows_out false (syllables_in a.text.now a.store.now a.sheet) a.store.now (l.i + 1) (l.j + 1) (a.place + note_row_width * (l.row + 1)) (a.k - (l.row + 1)))
+      says = written_none l.invariant.4 c.in_err-at.ensures (rows_out false (syllables_in a.words.now.text.now a.words.now.store.now a.words.now.sheet) a.store.now (l.i + 1) (l.j + 1) (a.place + note_row_width * (l.row + 1)) (a.k - (l.row + 1)))
           (rows_sung _ _ _ _ _ _ _ _ c.loop-row-test.true (sym c.is_of_voice.ensures ∙ c.if-not-is_of_voice.false) (not_false _ (sym c.is_rest.ensures ∙ c.if-is_rest.false)));
     })
 
@@ -73,10 +73,10 @@ overflow_add-at c =
     omega (arith, w.wrote.says.1, c.well_formed)
 
 pub overflow_add-i-in-loop-row : goal.overflow_add-i-in-loop-row
-overflow_add-i-in-loop-row c = omega (arith, c.loop-row.invariant.0, c.loop-row-test.true, c.requires.2)
+overflow_add-i-in-loop-row c = omega (arith, c.loop-row.invariant.0, c.loop-row-test.true, c.requires.1)
 
 pub overflow_add-j : goal.overflow_add-j
-overflow_add-j c = omega (arith, c.loop-row.invariant.1, c.loop-row-test.true, c.requires.3)
+overflow_add-j c = omega (arith, c.loop-row.invariant.1, c.loop-row-test.true, c.requires.2)
 
 -- they are written
 pub loop-row-preserved : goal.loop-row-preserved

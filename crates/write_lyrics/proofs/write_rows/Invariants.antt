@@ -12,4 +12,4 @@ use Rattle.write_lyrics.proofs.write_rows.Given as goal
 abbrev pub invariant-loop-row : goal.invariant-loop-row
 invariant-loop-row l =
     (l.i ≤ l.note + l.row) × (l.j ≤ l.sung + l.row) × (l.j + sung_rows l.store (l.place + note_row_width * l.row) (l.k - l.row) ≡ l.sung + sung_rows l.store l.place l.k) × (length l.to ≡ length l.initial.to)
-    × Written l.initial.to (rows_out false (syllables_in l.text l.store l.sheet) l.store l.note l.sung l.place l.k) (rows_out false (syllables_in l.text l.store l.sheet) l.store l.i l.j (l.place + note_row_width * l.row) (l.k - l.row)) l.to l.at
+    × Written l.initial.to (rows_out false (syllables_in l.words.text.now l.words.store.now l.words.sheet) l.store l.note l.sung l.place l.k) (rows_out false (syllables_in l.words.text.now l.words.store.now l.words.sheet) l.store l.i l.j (l.place + note_row_width * l.row) (l.k - l.row)) l.to l.at

@@ -19,7 +19,7 @@ pub returns-in_err-m : goal.returns-in_err-m
 returns-in_err-m c =
     let a = c.args in
     let (w, e) = c.in_ok-passed.ensures.says in
-    rw c.from_residual-in_err-m.ensures (next_none w (wrote_as_lem c.in_err-m.ensures (section_texts (syllables_in a.text.now a.part.now.store.now a.sheet) a.part.now.store.now a.part.now.tables _ e)))
+    rw c.from_residual-in_err-m.ensures (next_none w (wrote_as_lem c.in_err-m.ensures (section_texts (syllables_in a.words.now.text.now a.words.now.store.now a.words.now.sheet) a.part.now.store.now a.part.now.tables _ e)))
 
 pub overflow_add-result : goal.overflow_add-result
 overflow_add-result c =
@@ -30,4 +30,4 @@ pub returns : goal.returns
 returns c =
     let a = c.args in
     let (w, e) = c.in_ok-passed.ensures.says in
-    next_to w (wrote_as_lem c.in_ok-m.ensures (section_texts (syllables_in a.text.now a.part.now.store.now a.sheet) a.part.now.store.now a.part.now.tables _ e))
+    next_to w (wrote_as_lem c.in_ok-m.ensures (section_texts (syllables_in a.words.now.text.now a.words.now.store.now a.words.now.sheet) a.part.now.store.now a.part.now.tables _ e))

@@ -21,7 +21,7 @@ pub returns-in_err-at : goal.returns-in_err-at
 returns-in_err-at c =
     let l = c.loop-j in
     let a = c.args in
-    let ws = syllables_in a.text.now a.store.now a.sheet in
+    let ws = syllables_in a.words.now.text.now a.words.now.store.now a.words.now.sheet in
     rw c.from_residual.ensures (written_none l.invariant.1 c.in_err-at.ensures (texts_out ws (l.j + 1) (a.sung - (l.j + 1))) (texts_step ws l.j a.sung c.loop-j-test.true))
 
 pub overflow_add-at : goal.overflow_add-at

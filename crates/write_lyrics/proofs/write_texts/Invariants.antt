@@ -9,4 +9,4 @@ use Rattle.write_lyrics.proofs.write_texts.Given as goal
 
 abbrev pub invariant-loop-j : goal.invariant-loop-j
 invariant-loop-j l =
-    (length l.to ≡ length l.initial.to) × Written l.initial.to (texts_out (syllables_in l.text l.store l.sheet) 0 l.sung) (texts_out (syllables_in l.text l.store l.sheet) l.j (l.sung - l.j)) l.to l.at
+    (length l.to ≡ length l.initial.to) × Written l.initial.to (texts_out (syllables_in l.words.text.now l.words.store.now l.words.sheet) 0 l.sung) (texts_out (syllables_in l.words.text.now l.words.store.now l.words.sheet) l.j (l.sung - l.j)) l.to l.at
