@@ -9,9 +9,10 @@ use Rattle.write_part.proofs.write_tables.Goals as goal
 -- no room for the measures
 pub returns-in_err-measures : goal.returns-in_err-measures
 returns-in_err-measures c =
-    let a = c.args in
+    let w = c.args.words.now in
+    let p = c.args.part.now in
     rw c.from_residual.ensures
-    (sections_say a.part.now.store.now a.part.now.tables (syllables_in a.text.now a.part.now.store.now a.sheet) (none (none (none c.in_err-measures.ensures.bytes_of_store _ {z = []}) _ {z = []}) _))
+    (sections_say p.store.now p.tables (syllables_in w.text.now w.store.now w.sheet) (none (none (none c.in_err-measures.ensures.bytes_of_store _ {z = []}) _ {z = []}) _))
 
 pub slice_bounds-write_notes-count : goal.slice_bounds-write_notes-count
 slice_bounds-write_notes-count c =
@@ -27,9 +28,10 @@ slice_bounds-write_notes-start c =
 pub returns-in_err-notes : goal.returns-in_err-notes
 returns-in_err-notes c =
     let w1 = c.in_ok-measures.ensures.bytes_of_store in
-    let a = c.args in
+    let w = c.args.words.now in
+    let p = c.args.part.now in
     rw c.from_residual-in_err-notes.ensures
-    (sections_say a.part.now.store.now a.part.now.tables (syllables_in a.text.now a.part.now.store.now a.sheet) (none (none (next_none w1 c.in_err-notes.ensures.bytes_of_store {z = []}) _ {z = []}) _))
+    (sections_say p.store.now p.tables (syllables_in w.text.now w.store.now w.sheet) (none (none (next_none w1 c.in_err-notes.ensures.bytes_of_store {z = []}) _ {z = []}) _))
 
 pub overflow_add-b : goal.overflow_add-b
 overflow_add-b c =
@@ -54,9 +56,10 @@ pub returns-in_err-pitches : goal.returns-in_err-pitches
 returns-in_err-pitches c =
     let w1 = c.in_ok-measures.ensures.bytes_of_store in
     let w2 = next_to w1 c.in_ok-notes.ensures.bytes_of_store in
-    let a = c.args in
+    let w = c.args.words.now in
+    let p = c.args.part.now in
     rw c.from_residual-in_err-pitches.ensures
-    (sections_say a.part.now.store.now a.part.now.tables (syllables_in a.text.now a.part.now.store.now a.sheet) (none (next_none w2 c.in_err-pitches.ensures.bytes_of_store {z = []}) _))
+    (sections_say p.store.now p.tables (syllables_in w.text.now w.store.now w.sheet) (none (next_none w2 c.in_err-pitches.ensures.bytes_of_store {z = []}) _))
 
 pub overflow_add-c : goal.overflow_add-c
 overflow_add-c c =
@@ -85,9 +88,10 @@ returns-in_err-lyrics c =
     let w1 = c.in_ok-measures.ensures.bytes_of_store in
     let w2 = next_to w1 c.in_ok-notes.ensures.bytes_of_store in
     let w3 = next_to w2 c.in_ok-pitches.ensures.bytes_of_store in
-    let a = c.args in
+    let w = c.args.words.now in
+    let p = c.args.part.now in
     rw c.from_residual-in_err-lyrics.ensures
-    (sections_say a.part.now.store.now a.part.now.tables (syllables_in a.text.now a.part.now.store.now a.sheet) (next_none w3 c.in_err-lyrics.ensures))
+    (sections_say p.store.now p.tables (syllables_in w.text.now w.store.now w.sheet) (next_none w3 c.in_err-lyrics.ensures))
 
 pub overflow_add-result : goal.overflow_add-result
 overflow_add-result c =
@@ -104,5 +108,6 @@ returns c =
     let w2 = next_to w1 c.in_ok-notes.ensures.bytes_of_store in
     let w3 = next_to w2 c.in_ok-pitches.ensures.bytes_of_store in
     let w4 = next_to w3 c.in_ok-lyrics.ensures in
-    let a = c.args in
-    sections_say a.part.now.store.now a.part.now.tables (syllables_in a.text.now a.part.now.store.now a.sheet) w4
+    let w = c.args.words.now in
+    let p = c.args.part.now in
+    sections_say p.store.now p.tables (syllables_in w.text.now w.store.now w.sheet) w4
