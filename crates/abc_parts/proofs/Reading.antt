@@ -40,7 +40,7 @@ use Rattle.write_notes.specs.declared.PartTables.{PartTables}
 use Rattle.write_notes.specs.Tables.{InStore, Represents}
 use Rattle.write_notes.proofs.Out.{notes_total, wrote_as_lem}
 use Rattle.write_pitches.proofs.Out.{pitches_total}
-use Rattle.write_lyrics.specs.Out.{SheetIn}
+use Rattle.write_syllables.specs.Sheets.{SheetIn}
 use Rattle.part_registers.specs.declared.Tables.{Tables}
 use Rattle.part_registers.specs.declared.Registers.{Registers}
 use Rattle.part_invariant.specs.Invariant.{pitches_in}
