@@ -76,7 +76,7 @@ pub struct Verses {
 
 // All of it, beside scratch and its tables: three arguments of each step, for scratch is the one slice that is lent for all tables, and the state goes by value.
 // How many rows there are, the key in force, for each overlay voice the place of its last note in the open measure (from 1; 0 if it has none: an index
-// into rows, read and written once for each note, with no room for a tag), what is pending, the line, the tuplet that runs, the half that waits for the next note, and
+// into rows, read and written once for each note, with no room for a tag), what is pending, the half that waits for the next note, the line, the tuplet that runs, and
 // the verses. The order was measured: it decides what the compiler copies between the fields.
 #[derive(Clone, Copy)]
 pub struct Registers {
@@ -84,9 +84,9 @@ pub struct Registers {
     pub key: AbcPartParseState,
     pub last: [u32; 4],
     pub pending: Pending,
+    pub half: Option<Half>,
     pub line: Line,
     pub tuplet: Running,
-    pub half: Option<Half>,
     pub verses: Verses,
 }
 

@@ -292,22 +292,25 @@ pub fn effect_at(edition: Edition, line: &[u8], at: usize, classes: &Classes) ->
     ensures effect { effect_as result.value ≡ effect_of (token_of edition (drop at line.now)).token }
     ensures next { result.next ≡ at + (token_of edition (drop at line.now)).used }
 {
-    match classes.class_of(line[at]) {
-        Class::Pitched => note_effect(edition, line, at),
-        Class::White => Read {
+    let class = classes.class_of(line[at]);
+    if let Class::Pitched = class {
+        return note_effect(edition, line, at);
+    }
+    if let Class::White = class {
+        return Read {
             value: Effect::NoEffect,
             next: at + 1,
-        },
-        Class::Skip => Read {
+        };
+    }
+    if let Class::Skip = class {
+        return Read {
             value: Effect::NoEffect,
             next: at + 1,
-        },
-        class => {
-            let read = lexeme_at(edition, line, at, class);
-            Read {
-                value: effect_of(read.value),
-                next: read.next,
-            }
-        }
+        };
+    }
+    let read = lexeme_at(edition, line, at, class);
+    Read {
+        value: effect_of(read.value),
+        next: read.next,
     }
 }

@@ -16,40 +16,40 @@ pub returns-in-Pitched-clause-effect : goal.returns-in-Pitched-clause-effect
 unfolding by_class token_as
 returns-in-Pitched-clause-effect c =
     let a = c.args in
-    told _ _ _ _ (c.note_effect.ensures ∙ ap (effected_for a.at) (sym (classed _ a.line.now a.at _ _ (c.type_inv.line a.at).fits c.class_of.ensures c.in-Pitched.is)))
+    told _ _ _ _ (c.note_effect.ensures ∙ ap (effected_for a.at) (sym (classed _ a.line.now a.at _ _ (c.type_inv.line a.at).fits c.class_of-class.ensures c.in-Pitched.is)))
 
 pub returns-in-Pitched-clause-next : goal.returns-in-Pitched-clause-next
 unfolding by_class token_as
 returns-in-Pitched-clause-next c =
     let a = c.args in
-    told_next _ _ _ _ (c.note_effect.ensures ∙ ap (effected_for a.at) (sym (classed _ a.line.now a.at _ _ (c.type_inv.line a.at).fits c.class_of.ensures c.in-Pitched.is)))
+    told_next _ _ _ _ (c.note_effect.ensures ∙ ap (effected_for a.at) (sym (classed _ a.line.now a.at _ _ (c.type_inv.line a.at).fits c.class_of-class.ensures c.in-Pitched.is)))
 
 pub returns-in-White-clause-effect : goal.returns-in-White-clause-effect
 unfolding by_class token_as effect_of effect_for
 returns-in-White-clause-effect c =
     let a = c.args in
-    told _ a.line.now a.at (record { value = effect.NoEffect; next = a.at + 1 }) (ap (effected_for a.at) (sym (classed _ a.line.now a.at _ _ (c.type_inv.line a.at).fits c.class_of.ensures c.in-White.is)))
+    told _ a.line.now a.at (record { value = effect.NoEffect; next = a.at + 1 }) (ap (effected_for a.at) (sym (classed _ a.line.now a.at _ _ (c.type_inv.line a.at).fits c.class_of-class.ensures c.in-White.is)))
 
 pub returns-in-White-clause-next : goal.returns-in-White-clause-next
 unfolding by_class token_as effect_of effect_for
 returns-in-White-clause-next c =
     let a = c.args in
-    told_next _ a.line.now a.at (record { value = effect.NoEffect; next = a.at + 1 }) (ap (effected_for a.at) (sym (classed _ a.line.now a.at _ _ (c.type_inv.line a.at).fits c.class_of.ensures c.in-White.is)))
+    told_next _ a.line.now a.at (record { value = effect.NoEffect; next = a.at + 1 }) (ap (effected_for a.at) (sym (classed _ a.line.now a.at _ _ (c.type_inv.line a.at).fits c.class_of-class.ensures c.in-White.is)))
 
 pub returns-in-Skip-clause-effect : goal.returns-in-Skip-clause-effect
 unfolding by_class token_as effect_of effect_for
 returns-in-Skip-clause-effect c =
     let a = c.args in
-    told _ a.line.now a.at (record { value = effect.NoEffect; next = a.at + 1 }) (ap (effected_for a.at) (sym (classed _ a.line.now a.at _ _ (c.type_inv.line a.at).fits c.class_of.ensures c.in-Skip.is)))
+    told _ a.line.now a.at (record { value = effect.NoEffect; next = a.at + 1 }) (ap (effected_for a.at) (sym (classed _ a.line.now a.at _ _ (c.type_inv.line a.at).fits c.class_of-class.ensures c.in-Skip.is)))
 
 pub returns-in-Skip-clause-next : goal.returns-in-Skip-clause-next
 unfolding by_class token_as effect_of effect_for
 returns-in-Skip-clause-next c =
     let a = c.args in
-    told_next _ a.line.now a.at (record { value = effect.NoEffect; next = a.at + 1 }) (ap (effected_for a.at) (sym (classed _ a.line.now a.at _ _ (c.type_inv.line a.at).fits c.class_of.ensures c.in-Skip.is)))
+    told_next _ a.line.now a.at (record { value = effect.NoEffect; next = a.at + 1 }) (ap (effected_for a.at) (sym (classed _ a.line.now a.at _ _ (c.type_inv.line a.at).fits c.class_of-class.ensures c.in-Skip.is)))
 
-pub returns-in_default : goal.returns-in_default
-returns-in_default c =
+pub returns : goal.returns
+returns c =
     let a = c.args in
     let t = (token_of a.edition (drop a.at a.line.now)).token in
     let r : Read Effect = record { value = c.effect_of.result; next = c.lexeme_at-read.result.next } in
