@@ -21,10 +21,10 @@ pub fn beam_before(store: &mut [u8], at: usize, place: u32, run: u8, kind: u8, v
     if part_registers::abc_note_is_beamable(kind, value) {
         let i = (place - 1) as usize;
         if run == 1 {
-            part_rows::set_note_beam(store, at, i, Beam::Begins);
+            part_rows::set_note_beam(store, at, i, u8::from(Beam::Begins));
             return;
         }
-        part_rows::set_note_beam(store, at, i, Beam::Continues);
+        part_rows::set_note_beam(store, at, i, u8::from(Beam::Continues));
     }
 }
 

@@ -25,7 +25,7 @@ fn set_empty_left(store: &mut [u8], at: usize, i: usize, b: Barline)
     match b {
         Barline::Normal | Barline::RepeatEnd | Barline::Final => {}
         Barline::RepeatStart | Barline::RepeatBoth | Barline::Double => {
-            part_measures::set_left(store, at, i, b);
+            part_measures::set_left(store, at, i, u8::from(b));
         }
     }
 }
@@ -88,9 +88,10 @@ pub fn on_barline(store: &mut [u8], t: Tables, r: Registers, bar: Bar, opens: bo
         set_empty_left(store, t.heads, i, bar.right);
         return end_measure(r);
     }
-    part_measures::set_right(store, t.heads, i, bar.right);
+    part_measures::set_right(store, t.heads, i, u8::from(bar.right));
     if opens {
-        part_measures::put_measure(store, t.heads, i + 1, bar.left, line.top, line.bottom);
+        let left = u8::from(bar.left);
+        part_measures::put_measure(store, t.heads, i + 1, left, line.top, line.bottom);
         return open_measure(r);
     }
     end_measure(r)
@@ -102,7 +103,8 @@ pub fn on_volta(store: &mut [u8], t: Tables, r: Registers, first: u8, passes: u3
     ensures { (ps : List ℕ) → first ≡ get_or ps 0 0 → passes ≡ pass_bits ps → Simulates t store.old r store.new r 0 0 0 0 (λ l. on_token l (token.volta ps)) }
 {
     let i = (r.counts.heads - 1) as usize;
-    part_measures::set_volta(store, t.heads, i, Volta::Begins, first, passes);
+    let code = u8::from(Volta::Begins);
+    part_measures::set_volta(store, t.heads, i, code, first, passes);
 }
 
 // An inline M field.

@@ -83,7 +83,8 @@ fn close_open(store: &mut [u8], at: usize, n: usize, i: usize, span: Span) -> Op
     ensures table { (a b : List Head) (m : Head) (o : Option (List ℕ)) → Stands store.old at n i a m b → SpanIs (Some span) o → Table head_row measure_width store.new at (a ++ (closed_head o m b ∷ b)) × SpanIs result (span_after o m b) }
 {
     if ends_at(store, at, n, i) {
-        part_measures::set_volta(store, at, i, Volta::Ends, span.first, span.passes);
+        let code = u8::from(Volta::Ends);
+        part_measures::set_volta(store, at, i, code, span.first, span.passes);
         return None;
     }
     Some(span)

@@ -4,14 +4,12 @@
 
 ghost use Rattle.std.specs.Prelude.{◌≡◌, not, eqb, [], ◌∷◌, ◌++◌, suc, ◌+◌, ◌*◌, ◌^◌, ◌≤◌, ◌<◌, length, get_or};
 ghost use Rattle.laws.specs.Bytes.{splice, le32, u32_at};
-ghost use Rattle.reader.specs.Codes.{barline_code, mode_code};
+ghost use Rattle.reader.specs.Codes.{mode_code};
 ghost use Rattle.reader.specs.Records.{measure_width, signed8};
-ghost use Rattle.token_symbols.specs.Bars.{as_barline};
 ghost use Rattle.part_measures.specs.Voltas.{number_of};
 ghost use Rattle.part_measures.specs.Heads.{new_row, no_notes, note_count, left_at, right_at, meter_at, key_mark_at, volta_at, first_pass_at, passes_at};
 
 use field_keys::Key;
-use token_symbols::Barline;
 
 // The bytes of a row: those of the measure record.
 pub const MEASURE: usize = reading_records::MEASURE;
@@ -62,13 +60,12 @@ fn put_no_counts(store: &mut [u8], place: usize)
     store::put_4(store, place + 12, 0, 0, 0, 0);
 }
 
-// Writes a new measure as row i: no notes, its left barline, its meter.
-pub fn put_measure(store: &mut [u8], at: usize, i: usize, left: Barline, top: u8, bottom: u8)
+// Writes a new measure as row i: no notes, its left barline by number, its meter.
+pub fn put_measure(store: &mut [u8], at: usize, i: usize, left: u8, top: u8, bottom: u8)
     requires { at + measure_width * i + measure_width ≤ length store.old }
-    ensures { store.new ≡ splice store.old (at + measure_width * i) (new_row (barline_code (as_barline left)) top bottom) }
+    ensures { store.new ≡ splice store.old (at + measure_width * i) (new_row left top bottom) }
 {
     let place = at + MEASURE * i;
-    let left = u8::from(left);
     put_no_counts(store, place);
     store::put_4(store, place + LEFT, left, 0, top, bottom);
     store::put_4(store, place + KEY_MARK, 0, 0, 0, 0);
@@ -98,20 +95,20 @@ pub fn is_empty(store: &[u8], at: usize, i: usize) -> bool
         && store::get_u32(store, place + 12) == 0
 }
 
-// Another left barline in row i.
-pub fn set_left(store: &mut [u8], at: usize, i: usize, left: Barline)
+// Another left barline, by number, in row i.
+pub fn set_left(store: &mut [u8], at: usize, i: usize, code: u8)
     requires { at + measure_width * i + measure_width ≤ length store.old }
-    ensures { store.new ≡ splice store.old (at + measure_width * i + left_at) (barline_code (as_barline left) ∷ []) }
+    ensures { store.new ≡ splice store.old (at + measure_width * i + left_at) (code ∷ []) }
 {
-    store::put_u8(store, at + MEASURE * i + LEFT, u8::from(left));
+    store::put_u8(store, at + MEASURE * i + LEFT, code);
 }
 
-// Another right barline in row i.
-pub fn set_right(store: &mut [u8], at: usize, i: usize, right: Barline)
+// Another right barline, by number, in row i.
+pub fn set_right(store: &mut [u8], at: usize, i: usize, code: u8)
     requires { at + measure_width * i + measure_width ≤ length store.old }
-    ensures { store.new ≡ splice store.old (at + measure_width * i + right_at) (barline_code (as_barline right) ∷ []) }
+    ensures { store.new ≡ splice store.old (at + measure_width * i + right_at) (code ∷ []) }
 {
-    store::put_u8(store, at + MEASURE * i + RIGHT, u8::from(right));
+    store::put_u8(store, at + MEASURE * i + RIGHT, code);
 }
 
 // Another meter in row i.
@@ -144,15 +141,23 @@ pub fn set_key_mark(store: &mut [u8], at: usize, i: usize, key: Key)
     store::put_u8(store, place + 1, fifths);
 }
 
-// A volta in row i, with its first pass, and its passes as bits.
-pub fn set_volta(store: &mut [u8], at: usize, i: usize, volta: Volta, first: u8, passes: u32)
+// A volta in row i: its number, its first pass, and its passes as bits.
+pub fn set_volta(store: &mut [u8], at: usize, i: usize, code: u8, first: u8, passes: u32)
     requires { at + measure_width * i + measure_width ≤ length store.old }
-    ensures { store.new ≡ splice store.old (at + measure_width * i + volta_at) ((number_of volta ∷ first ∷ []) ++ le32 passes) }
+    ensures { store.new ≡ splice store.old (at + measure_width * i + volta_at) ((code ∷ first ∷ []) ++ le32 passes) }
 {
     let place = at + MEASURE * i + VOLTA;
-    store::put_u8(store, place, u8::from(volta));
+    store::put_u8(store, place, code);
     store::put_u8(store, place + 1, first);
     store::put_u32(store, place + 2, passes);
+}
+
+// Another number for the volta in row i, with the same passes.
+pub fn set_volta_code(store: &mut [u8], at: usize, i: usize, code: u8)
+    requires { at + measure_width * i + measure_width ≤ length store.old }
+    ensures { store.new ≡ splice store.old (at + measure_width * i + volta_at) (code ∷ []) }
+{
+    store::put_u8(store, at + MEASURE * i + VOLTA, code);
 }
 
 // Another volta in row i, with the same passes.
@@ -160,7 +165,7 @@ pub fn set_volta_kind(store: &mut [u8], at: usize, i: usize, volta: Volta)
     requires { at + measure_width * i + measure_width ≤ length store.old }
     ensures { store.new ≡ splice store.old (at + measure_width * i + volta_at) (number_of volta ∷ []) }
 {
-    store::put_u8(store, at + MEASURE * i + VOLTA, u8::from(volta));
+    set_volta_code(store, at, i, u8::from(volta));
 }
 
 // The right barline of row i, by the number that its byte has.
@@ -171,12 +176,28 @@ pub fn get_right(store: &[u8], at: usize, i: usize) -> u8
     store[at + MEASURE * i + RIGHT]
 }
 
-// Whether row i has a key mark: the byte of its mode is 0 where it has none.
+// The mode of row i's key mark, by number; 0 where it has none.
+pub fn get_mode(store: &[u8], at: usize, i: usize) -> u8
+    requires { at + measure_width * i + measure_width ≤ length store.now }
+    ensures { result ≡ get_or store.now (at + measure_width * i + key_mark_at) 0 }
+{
+    store[at + MEASURE * i + KEY_MARK]
+}
+
+// Whether row i has a key mark.
 pub fn has_key_mark(store: &[u8], at: usize, i: usize) -> bool
     requires { at + measure_width * i + measure_width ≤ length store.now }
     ensures { result ≡ not (eqb (get_or store.now (at + measure_width * i + key_mark_at) 0) 0) }
 {
-    store[at + MEASURE * i + KEY_MARK] != 0
+    get_mode(store, at, i) != 0
+}
+
+// The volta of row i, by number; 0 where it has none.
+pub fn get_volta(store: &[u8], at: usize, i: usize) -> u8
+    requires { at + measure_width * i + measure_width ≤ length store.now }
+    ensures { result ≡ get_or store.now (at + measure_width * i + volta_at) 0 }
+{
+    store[at + MEASURE * i + VOLTA]
 }
 
 // Whether an ending begins at row i, and goes on.
@@ -184,7 +205,7 @@ pub fn begins_volta(store: &[u8], at: usize, i: usize) -> bool
     requires { at + measure_width * i + measure_width ≤ length store.now }
     ensures { result ≡ eqb (get_or store.now (at + measure_width * i + volta_at) 0) (number_of Volta.Begins) }
 {
-    store[at + MEASURE * i + VOLTA] == u8::from(Volta::Begins)
+    get_volta(store, at, i) == u8::from(Volta::Begins)
 }
 
 // The first pass of row i's volta.

@@ -92,10 +92,10 @@ fn beam_again(store: &mut [u8], at: usize, i: usize, run: u8, kind: u8, value: u
         if run == 0 {
             return;
         }
-        part_rows::set_note_beam(store, at, i, Beam::Ends);
+        part_rows::set_note_beam(store, at, i, u8::from(Beam::Ends));
         return;
     }
-    part_rows::set_note_beam(store, at, i, Beam::Unbeamed);
+    part_rows::set_note_beam(store, at, i, u8::from(Beam::Unbeamed));
 }
 
 fn run_on(r: Registers, run: u8) -> Registers

@@ -115,12 +115,12 @@ pub fn set_note_value(store: &mut [u8], at: usize, i: usize, value: u8, dots: u8
     store::put_u8(store, place + 1, dots);
 }
 
-// Another beam in row i.
-pub fn set_note_beam(store: &mut [u8], at: usize, i: usize, beam: Beam)
+// Another beam, by number, in row i.
+pub fn set_note_beam(store: &mut [u8], at: usize, i: usize, beam: u8)
     requires { at + note_row_width * i + note_row_width ≤ length store.old }
-    ensures { store.new ≡ splice store.old (at + note_row_width * i + beam_at) (number_of beam ∷ []) }
+    ensures { store.new ≡ splice store.old (at + note_row_width * i + beam_at) (beam ∷ []) }
 {
-    store::put_u8(store, at + NOTE_ROW * i + BEAM, u8::from(beam));
+    store::put_u8(store, at + NOTE_ROW * i + BEAM, beam);
 }
 
 // Kind, value and dots of row i.

@@ -176,7 +176,8 @@ pub fn begin_line(
 {
     let counts = r.counts;
     if counts.heads == 0 {
-        part_measures::put_measure(store, t.heads, 0, Barline::Normal, top, bottom);
+        let left = u8::from(Barline::Normal);
+        part_measures::put_measure(store, t.heads, 0, left, top, bottom);
         return new_line(r, 1, unit, top, bottom);
     }
     new_line(r, counts.heads, unit, top, bottom)

@@ -1,7 +1,6 @@
 -- `part_bars::on_barline` meets its contract: one law for each way.
 use Rattle.laws.proofs.Splices.{length_spliced}
 use Rattle.part_bars.proofs.Heads.{represented_heads, simulates_as, empty_simulates, opens_simulates, closed_simulates}
-use mathlib.Core.Path.{refl}
 use native.Mathlib.Omega.{arith}
 use Rattle.part_bars.proofs.on_barline.Goals as goal
 
@@ -29,11 +28,11 @@ returns-then-opens c =
     let represents = c.requires.1 in
     λ b d f.
     simulates_as c.open_measure.ensures
-    (opens_simulates room represents b a.opens _ c.is_empty.ensures c.if-is_empty.false a.bar.right d _ refl _ c.set_right.ensures c.if-opens.true a.bar.left f _ refl _ c.put_measure.ensures)
+    (opens_simulates room represents b a.opens _ c.is_empty.ensures c.if-is_empty.false a.bar.right d _ c.from.ensures _ c.set_right.ensures c.if-opens.true a.bar.left f _ c.from-left.ensures _ c.put_measure.ensures)
 
 pub returns : goal.returns
 returns c =
     let a = c.args in
     let room = c.requires.0 in
     let represents = c.requires.1 in
-    λ b d f. simulates_as c.end_measure-2.ensures (closed_simulates room represents b a.opens _ c.is_empty.ensures c.if-is_empty.false a.bar.right d _ refl _ c.set_right.ensures c.if-opens.false)
+    λ b d f. simulates_as c.end_measure-2.ensures (closed_simulates room represents b a.opens _ c.is_empty.ensures c.if-is_empty.false a.bar.right d _ c.from.ensures _ c.set_right.ensures c.if-opens.false)

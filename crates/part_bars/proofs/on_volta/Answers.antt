@@ -12,4 +12,4 @@ set_volta-requires c = let room = c.requires.0 in omega (arith, room, represente
 pub returns : goal.returns
 returns c =
     let a = c.args in
-    volta_simulates c.requires.0 c.requires.1 _ a.first a.passes c.set_volta.ensures
+    volta_simulates c.requires.0 c.requires.1 _ a.first a.passes (rw c.from-code.ensures at c.set_volta.ensures)

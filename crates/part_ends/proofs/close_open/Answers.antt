@@ -8,7 +8,7 @@ use Rattle.part_ends.proofs.close_open.Goals as goal
 
 pub returns-then-ends_at : goal.returns-then-ends_at
 returns-then-ends_at c =
-    let e = c.set_volta.ensures in
+    let e = rw c.from-code.ensures at c.set_volta.ensures in
     record { only = only_splice _ _ _ _ _ _ e (omega arith) (omega (arith, length_little 4 c.args.span.passes)); table = λ x y m o h s. open_ends h o _ _ s (sym (c.ends_at.ensures x y m h) ∙ c.if-ends_at.true) e }
 
 pub returns : goal.returns

@@ -12,9 +12,9 @@ returns-then-run-eq0 c =
 pub returns-then-abc_note_is_beamable : goal.returns-then-abc_note_is_beamable
 returns-then-abc_note_is_beamable c =
     let a = c.args in
-    again_ends a.store.now (a.at + note_row_width * a.i) a.run a.kind a.value _ c.abc_note_is_beamable.ensures c.if-abc_note_is_beamable.true c.if-run-eq0.false _ c.set_note_beam.ensures
+    again_ends a.store.now (a.at + note_row_width * a.i) a.run a.kind a.value _ c.abc_note_is_beamable.ensures c.if-abc_note_is_beamable.true c.if-run-eq0.false _ (rw c.from.ensures at c.set_note_beam.ensures)
 
 pub returns : goal.returns
 returns c =
     let a = c.args in
-    again_plain a.store.now (a.at + note_row_width * a.i) a.run a.kind a.value _ c.abc_note_is_beamable.ensures c.if-abc_note_is_beamable.false _ c.set_note_beam-2.ensures
+    again_plain a.store.now (a.at + note_row_width * a.i) a.run a.kind a.value _ c.abc_note_is_beamable.ensures c.if-abc_note_is_beamable.false _ (rw c.from-2.ensures at c.set_note_beam-2.ensures)
