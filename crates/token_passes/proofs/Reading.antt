@@ -1,7 +1,7 @@
 -- The loop of `parse_passes`.
 use Prim.Native.Nat.{ℕ, suc, ◌+◌, ◌-◌, ◌^◌, ◌≤◌, ◌<◌}
 use mathlib.Core.Path.{◌≡◌, refl, sym, ap, ap₂, ◌∙◌}
-use mathlib.Core.Bool.{Bool, true, false, cond, ◌||◌}
+use mathlib.Core.Bool.{Bool, true, false, ◌||◌}
 use mathlib.Core.Option.{Option, none, some}
 use mathlib.Core.List.{List, [], ◌++◌}
 use native.Mathlib.Nat.{add-zero, zero-add}
@@ -9,7 +9,7 @@ use native.Mathlib.Omega.{arith}
 use lib.Dec.{eqb}
 use lib.ListN.{get_or}
 use lib.Pow.{pow_mono}
-use borrow.Author.Tests.{eq-eqb, ne_eqb, eqb-true, eqb-false}
+use borrow.Author.Tests.{eq-eqb, ne_eqb, eqb-true}
 use Rattle.laws.specs.Spans.{end_of}
 use Rattle.laws.proofs.Bools.{by_test}
 use Rattle.standard.specs.Bytes.{is, is_digit}
@@ -17,7 +17,7 @@ use Rattle.standard.specs.Passes.{Item, passes_of, rising}
 use Rattle.reader.specs.PassLists.{is_pass_byte}
 use Rattle.reader.specs.PassesInTurn.{last_pass, in_turn, pass_list}
 use Rattle.reader.specs.Records.{pass_bits}
-use Rattle.token_passes.specs.Passes.{is_item_byte, item_at, passes_at, passes_read, passes_for}
+use Rattle.token_passes.specs.Passes.{is_item_byte, item_at, passes_at, passes_read, passes_for, first_for}
 use Rattle.std.specs.Prelude as code
 use Rattle.text_bytes.specs.declared.Read.{Read}
 use Rattle.token_passes.specs.declared.Passes.{Passes}
@@ -65,8 +65,6 @@ module _ (line : List ℕ) (i low e : ℕ) (k : e ≡ end_of is_item_byte line i
 
 -- WHAT IS READ SO FAR, AND THE REST
 -- the first pass, 0 where none was met before
-abbrev pub first_for : ℕ → ℕ → ℕ
-first_for first from = cond (eqb first 0) from first
 
 -- the first pass, 0 where there is none yet, and the bits; with the passes to come
 unfoldable pub joined : ℕ → ℕ → Option (List ℕ) → Option (ℕ × ℕ)
@@ -155,61 +153,3 @@ module _ (line : List ℕ) (at first bits low i : ℕ) (r : Passing line at firs
               ∙ sym (join_item first bits low (item_at low line i) from to (passes_at (last_pass low (item_at low line i)) line (next + 1)) t)
               ∙ ap (joined first bits) (sym (list_on line i low next k m)) ∙ r.all;
         }
-
--- THE LOOP OF `parse_passes`: an item that was read last, with the first pass and the bits up to it
-pub record Passed (line : List ℕ) (at first bits from to next : ℕ) : Type 0 where
-  pub first_0 : ℕ
-  pub bits_0 : ℕ
-  pub low : ℕ
-  pub i : ℕ
-  pub passing : Passing line at first_0 bits_0 low i
-  pub ends : next ≡ end_of is_item_byte line i
-  pub took : Took low (item_at low line i) from to
-  pub first_is : first ≡ first_for first_0 from
-  pub bits_is : bits ≡ bits_0 + pass_bits (rising from (suc (to - from)))
-
-pub passed_start : (line : List ℕ) (at from to next b : ℕ) → next ≡ end_of is_item_byte line at → Took 0 (item_at 0 line at) from to → b ≡ pass_bits (rising from (suc (to - from))) → Passed line at from b from to next
-passed_start line at from to next b k t e =
-    record { first_0 = 0; bits_0 = 0; low = 0; i = at; passing = passing_start line at; ends = k; took = t; first_is = refl; bits_is = omega (arith, e) }
-
-module _ (line : List ℕ) (at first bits from to next : ℕ) (r : Passed line at first bits from to next) where
-  -- the bits fit
-  pub passed_fits : bits < 2 ^ 32
-  passed_fits = rw r.bits_is (passing_fits line at r.first_0 r.bits_0 r.low r.i r.passing from to next r.ends r.took)
-
-  -- the last item
-  pub passed_last : (get_or line next 0 ≡ 44 → ⊥) → passes_read first bits next ≡ passes_for (end_of is_pass_byte line at) (passes_at 0 line at)
-  passed_last n = rw r.bits_is (passing_last line at r.first_0 r.bits_0 r.low r.i r.passing from to next r.ends r.took n first _ r.first_is refl)
-
-  -- a comma behind it
-  passed_comma : get_or line next 0 ≡ 44 → Passing line at first bits to (next + 1)
-  passed_comma n = rw r.bits_is (passing_on line at r.first_0 r.bits_0 r.low r.i r.passing from to next r.ends r.took n first _ r.first_is refl)
-
-  first_some : first ≡ 0 → ⊥
-  first_some z =
-      let a = r.took.above in
-      by_test (eqb r.first_0 0)
-      (λ e. let k : first ≡ from = rw e at r.first_is in absurd (omega (arith, k, z)))
-      (λ e. let k : first ≡ r.first_0 = rw e at r.first_is in absurd (eqb-false _ _ e (sym k ∙ z)))
-
-  module _ (n : get_or line next 0 ≡ 44) where
-    -- and no item
-    pub passed_none : (end : ℕ) → item_at to line (next + 1) ≡ none → code.None ≡ passes_for end (passes_at 0 line at)
-    passed_none end e = passing_none line at first bits to (next + 1) (passed_comma n) end e
-
-    -- or another one
-    pub passed_on : (from' to' next' b : ℕ) → next' ≡ end_of is_item_byte line (next + 1) → Took to (item_at to line (next + 1)) from' to' → b ≡ pass_bits (rising from' (suc (to' - from'))) → Passed line at first (bits + b) from' to' next'
-    passed_on from' to' next' b k t e = record {
-      first_0 = first;
-      bits_0 = bits;
-      low = to;
-      i = next + 1;
-      passing = passed_comma n;
-      ends = k;
-      took = t;
-      first_is = rw (ne_eqb first 0 first_some);
-      bits_is = omega (arith, e);
-    }
-
-    pub passed_bits : (from' to' : ℕ) → Took to (item_at to line (next + 1)) from' to' → bits + pass_bits (rising from' (suc (to' - from'))) < 2 ^ 32
-    passed_bits from' to' t = passing_fits line at first bits to (next + 1) (passed_comma n) from' to' _ refl t

@@ -47,3 +47,7 @@ passes_read first bits next = code.Some (record { value = record { first = first
 unfoldable pub passes_for : ℕ → Option (List ℕ) → code.Option (Read Passes)
 passes_for next none = code.None
 passes_for next (some ps) = passes_read (get_or ps 0 0) (pass_bits ps) next
+
+-- the first pass, 0 where none was met before
+abbrev pub first_for : ℕ → ℕ → ℕ
+first_for first from = cond (eqb first 0) from first

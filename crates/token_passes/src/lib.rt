@@ -9,7 +9,7 @@ ghost use Rattle.reader.specs.PassLists.{list_number, is_pass_byte};
 ghost use Rattle.reader.specs.PassesInTurn.{pass_number, list_fault};
 ghost use Rattle.reader.specs.Records.{pass_bits};
 ghost use Rattle.refusals.specs.Numbers.{number_of};
-ghost use Rattle.token_passes.specs.Passes.{pass_for, is_item_byte, item_at, item_for, passes_at, passes_for};
+ghost use Rattle.token_passes.specs.Passes.{pass_for, is_item_byte, item_at, item_for, passes_at, passes_for, first_for};
 ghost use Rattle.token_passes.specs.Faults.{number_shape, list_item_at, item_shape, list_items_at};
 
 use refusals::Refusal;
@@ -86,24 +86,41 @@ fn range_bits(from: u8, to: u8) -> u64
     (1u64 << to) - (1u64 << (from - 1))
 }
 
-// The pass list at `at`, behind the `[`; or none (refused as `list_fault` says).
+// The first pass, 0 where none was met before.
+fn first_of(first: u8, from: u8) -> u8
+    ensures { result ≡ first_for first from }
+{
+    if first == 0 {
+        return from;
+    }
+    first
+}
+
+// The pass list at `at`, behind the `[`; or none (refused as `list_fault` says). Items are read at one place, so that the compiler draws the reading of one into the loop.
 pub fn parse_passes(line: &[u8], at: usize) -> Option<Read<Passes>>
     ensures { result ≡ passes_for (end_of is_pass_byte line.now at) (passes_at 0 line.now at) }
 {
-    let mut item = pass_item(line, at, 0)?;
-    let first = item.value.from;
-    let mut bits = range_bits(item.value.from, item.value.to);
-    while text_bytes::byte_at(line, item.next) == b',' {
-        item = pass_item(line, item.next + 1, item.value.to)?;
+    let mut first: u8 = 0;
+    let mut bits: u64 = 0;
+    let mut low: u8 = 0;
+    let mut i = at;
+    loop {
+        let item = pass_item(line, i, low)?;
+        first = first_of(first, item.value.from);
         bits += range_bits(item.value.from, item.value.to);
+        let goes_on = text_bytes::byte_at(line, item.next) == b',';
+        if !goes_on {
+            return Some(Read {
+                value: Passes {
+                    first,
+                    bits: bits as u32,
+                },
+                next: item.next,
+            });
+        }
+        low = item.value.to;
+        i = item.next + 1;
     }
-    Some(Read {
-        value: Passes {
-            first,
-            bits: bits as u32,
-        },
-        next: item.next,
-    })
 }
 
 // Whether the number is one of 1 to 32: a number of any length without leading zero, or a 0 by itself. None where it is misshapen.
