@@ -14,8 +14,7 @@ use Rattle.laws.proofs.Bools.{by_test, both_true, cond_true, cond_false}
 use Rattle.standard.specs.Keys.{Key, key_alter}
 use Rattle.standard.specs.Pitches.{Accidental, Written, Pitch, altered}
 use Rattle.reader.specs.Pitches.{Scope, remembered, or_key, sound_by, sound_of, scope_by, scope_after}
-use Rattle.std.specs.Prelude.{None, Some}
-use Rattle.token_pitches.specs.declared.Accidental as code-accidental
+use Rattle.token_pitches.specs.declared.Sign.TheVariants as sign
 use Rattle.token_pitches.specs.declared.Pitch as code
 use Rattle.token_pitches.specs.Pitches.{sign_of}
 use Rattle.part_rows.specs.Table.{Only}
@@ -165,11 +164,11 @@ module _ (s : List ℕ) (at count voice step octave place : ℕ) (e : place ≡ 
 
 module _ (s : List ℕ) (at count : ℕ) (state : AbcPartParseState) (voice : ℕ) (p : code.Pitch) (in_four : voice < 4) (a-step : p.step < 7) (an-octave : p.octave < 256) where
   -- BY ITS OWN ACCIDENTAL
-  module _ (given : code-accidental.Accidental) (m : p.sign ≡ Some given) (room : at + scope_index_width + scope_row_width * (count + signs p.sign) ≤ length s) (small : count + signs p.sign < 2 ^ 32) where
+  module _ (alter cents : ℕ) (m : p.sign ≡ sign.Written alter cents) (room : at + scope_index_width + scope_row_width * (count + signs p.sign) ≤ length s) (small : count + signs p.sign < 2 ^ 32) where
     abbrev a : Accidental
-    a = record { alter = given.alter; cents = given.cents }
+    a = record { alter = alter; cents = cents }
 
-    marked : sign_of p.sign ≡ some (record { alter = given.alter; cents = given.cents })
+    marked : sign_of p.sign ≡ some (record { alter = alter; cents = cents })
     marked = ap sign_of m
 
     one : signs p.sign ≡ 1
@@ -178,9 +177,9 @@ module _ (s : List ℕ) (at count : ℕ) (state : AbcPartParseState) (voice : �
     pub marked_taken : (s₁ : List ℕ) (row : Row) → s₁ ≡ store_with s at count p.step p.octave → row ≡ row_with s at count p.step p.octave → Taken s at count p.step p.octave s₁ row
     marked_taken s₁ row = taken s at count p.step p.octave a-step an-octave (omega (arith, small, one)) (omega (arith, room, one)) s₁ row
 
-    pub by_own : (s₁ s' : List ℕ) (row : Row) → s₁ ≡ store_with s at count p.step p.octave → row ≡ row_with s at count p.step p.octave → s' ≡ splice s₁ (slot_at at row.place voice) (scope_slot given.alter given.cents)
+    pub by_own : (s₁ s' : List ℕ) (row : Row) → s₁ ≡ store_with s at count p.step p.octave → row ≡ row_with s at count p.step p.octave → s' ≡ splice s₁ (slot_at at row.place voice) (scope_slot alter cents)
         → (t : AbcPartParseState) → t ≡ entered state voice row.place
-        → ResolvedAs s at count state voice p s' (record { sounded = record { step = p.step; octave = p.octave; alter = given.alter; cents = given.cents }; state = t; count = row.count })
+        → ResolvedAs s at count state voice p s' (record { sounded = record { step = p.step; octave = p.octave; alter = alter; cents = cents }; state = t; count = row.count })
     unfolding altered
     by_own s₁ s' row e f g t d =
         let k = marked_taken s₁ row e f in
@@ -188,7 +187,7 @@ module _ (s : List ℕ) (at count : ℕ) (state : AbcPartParseState) (voice : �
         record {
           only =
               only_then (only_wider k.only at hi (omega arith) (omega (arith, one)))
-              (only_splice at hi s₁ s' (slot_at at row.place voice) (scope_slot given.alter given.cents) g (omega arith) (omega (arith, one, k.some_place, k.inside, k.most)));
+              (only_splice at hi s₁ s' (slot_at at row.place voice) (scope_slot alter cents) g (omega arith) (omega (arith, one, k.some_place, k.inside, k.most)));
           same_fifths = ap (λ (x : AbcPartParseState). x.fifths) d;
           same_minor = ap (λ (x : AbcPartParseState). x.minor) d;
           rows_most = omega (arith, one, k.most);
@@ -200,7 +199,7 @@ module _ (s : List ℕ) (at count : ℕ) (state : AbcPartParseState) (voice : �
         }
 
   -- WITHOUT ONE nothing is written
-  pub by_scope : p.sign ≡ None → (r : Sounded) → ((k : Key) → k.fifths ≡ state.fifths → r ≡ pitch_for (or_key k (record { step = p.step; octave = p.octave; sign = none }) (recalled s at count voice p.step p.octave)))
+  pub by_scope : p.sign ≡ sign.Nothing → (r : Sounded) → ((k : Key) → k.fifths ≡ state.fifths → r ≡ pitch_for (or_key k (record { step = p.step; octave = p.octave; sign = none }) (recalled s at count voice p.step p.octave)))
       → ResolvedAs s at count state voice p s (record { sounded = r; state = state; count = count })
   unfolding or_key
   by_scope m r e =

@@ -1,10 +1,11 @@
 -- RESOLVING A PITCH by the scopes in scratch and the key.
-use Rattle.std.specs.Prelude.{ℕ, ◌+◌, ◌*◌, ◌≤◌, ◌≡◌, cond, List, [], eqb, get_or, set, Option, None, Some}
+use Rattle.std.specs.Prelude.{ℕ, ◌+◌, ◌*◌, ◌≤◌, ◌≡◌, cond, List, [], eqb, get_or, set}
 use Rattle.laws.specs.Lists.{alter_at}
 use Rattle.standard.specs.Keys.{Key}
 use Rattle.standard.specs.Pitches.{Written}
 use Rattle.reader.specs.Pitches.{Scope, sound_of, scope_after}
-use Rattle.token_pitches.specs.declared.Accidental.{Accidental}
+use Rattle.token_pitches.specs.declared.Sign.{Sign}
+use Rattle.token_pitches.specs.declared.Sign.TheVariants as sign
 use Rattle.token_pitches.specs.declared.Pitch as code
 use Rattle.token_pitches.specs.Pitches.{sign_of}
 use Rattle.part_rows.specs.Table.{Only}
@@ -22,9 +23,9 @@ unfoldable pub row_with : List ℕ → ℕ → ℕ → ℕ → ℕ → Row
 row_with s at count step octave = cond (eqb (place_in s at count step octave) 0) (record { place = count + 1; count = count + 1 }) (record { place = place_in s at count step octave; count = count })
 
 -- the rows that an accidental may take
-abbrev pub signs : Option Accidental → ℕ
-signs None = 0
-signs (Some a) = 1
+abbrev pub signs : Sign → ℕ
+signs sign.Nothing = 0
+signs (sign.Written a c) = 1
 
 -- a pitch of the code as the definition's
 abbrev pub written_of : code.Pitch → Written

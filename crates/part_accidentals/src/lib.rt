@@ -11,7 +11,7 @@ ghost use Rattle.part_scopes.specs.Scopes.{entry_at, row_at, slot_at, place_in, 
 ghost use Rattle.part_accidentals.specs.Resolving.{ResolvedAs, signs, entered, store_with, row_with};
 
 use part_rows::Sounded;
-use token_pitches::{Accidental, Pitch};
+use token_pitches::{Accidental, Pitch, Sign};
 
 // The bytes of an entry of the index, and the entries of a step.
 const ENTRY: usize = 4;
@@ -254,7 +254,8 @@ pub fn resolve_abc_pitch(
     ensures { ResolvedAs store.old at count state voice pitch store.new result }
 {
     match pitch.sign {
-        Some(accidental) => {
+        Sign::Written { alter, cents } => {
+            let accidental = Accidental { alter, cents };
             let row = row_for(store, at, count, pitch.step, pitch.octave);
             revise(store, at, row.place, voice, accidental);
             Resolved {
@@ -268,7 +269,7 @@ pub fn resolve_abc_pitch(
                 count: row.count,
             }
         }
-        None => Resolved {
+        Sign::Nothing => Resolved {
             sounded: unmarked(
                 store,
                 at,

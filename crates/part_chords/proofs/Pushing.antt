@@ -1,11 +1,7 @@
 -- A chord's pitches, one by one, and its row.
 use Prim.Native.Nat.{ℕ, zero, suc, ◌+◌, ◌≤◌, ◌<◌}
 use mathlib.Core.Path.{◌≡◌, refl, sym, ap, subst, ◌∙◌}
-use mathlib.Core.Bool.{Bool, true, false}
-use Rattle.std.specs.Prelude as code
-use Rattle.std.specs.Prelude.{Result, Ok, Err}
-use Rattle.refusals.specs.declared.Refusal.{Refusal}
-use Rattle.laws.proofs.Bools.{both_true}
+use mathlib.Core.Bool.{Bool}
 use mathlib.Core.Option.{Option, none, some}
 use mathlib.Core.List.{List, [], ◌∷◌, ◌++◌, append_assoc, append-nil}
 use native.Mathlib.Omega.{arith}
@@ -23,9 +19,9 @@ use Rattle.part_layout.specs.Log.{LogState, set_scopes, set_pending, append, on_
 use Rattle.part_layout.specs.Lines.{Standing}
 use Rattle.token_lengths.specs.declared.Length.{Length}
 use Rattle.token_pitches.specs.declared.Pitch.{Pitch}
-use Rattle.text_bytes.specs.declared.Read.{Read}
+use Rattle.token_pitches.specs.declared.Met.TheVariants as met-as
 use Rattle.token_pitches.specs.Pitches.{sign_for, pitch_for}
-use Rattle.token_pitches.specs.Chords.{pitch_met, met_pitch, met_for}
+use Rattle.token_pitches.specs.Chords.{pitch_met, met_for}
 use Rattle.token_pitches.proofs.Walk.{mark_back, next_pitch}
 use Rattle.part_rows.proofs.Tables.{only_none, only_then}
 use Rattle.part_accidentals.specs.Resolving.{signs, written_of}
@@ -126,18 +122,6 @@ pub record Pushing (line : List ℕ) (t : Tables) (s : List ℕ) (r : Registers)
 pub pushing_start : (line : List ℕ) (t : Tables) (s : List ℕ) (r : Registers) (place count : ℕ) → ChordAt line place count → Pushing line t s r place s r place 0
 pushing_start line t s r place count c = record { done = []; rest = chord_in line place; all_are = refl; count_is = refl; to_come = c.fine; pushed = pushed_none t s r }
 
--- what the code meets: a pitch, or not
-abbrev has_pitch : Result (code.Option (Read Pitch)) Refusal → Bool
-has_pitch (Ok code.None) = false
-has_pitch (Ok (code.Some p)) = true
-has_pitch (Err x) = false
-
-pub not_refused : {o : Result (code.Option (Read Pitch)) Refusal} {x : Refusal} {q : Pitch} {next : ℕ} → o ≡ Err x → o ≡ met_pitch q next → ⊥
-not_refused {o} e f = both_true (has_pitch o) (ap has_pitch f) (ap has_pitch e)
-
-pub not_over : {o : Result (code.Option (Read Pitch)) Refusal} {q : Pitch} {next : ℕ} → o ≡ Ok code.None → o ≡ met_pitch q next → ⊥
-not_over {o} e f = both_true (has_pitch o) (ap has_pitch f) (ap has_pitch e)
-
 -- the next pitch, as the code has it, and those behind it
 pub record Turn (line : List ℕ) (rest : List Written) (p : Pitch) (next : ℕ) : Type 0 where
   pub first : Written
@@ -169,20 +153,19 @@ module _ {line : List ℕ} {t : Tables} {s s' : List ℕ} {r r' : Registers} {pl
         by (w ∷ ws) e k = f w ws e
 
     -- the code meets a pitch
-    pub meets : {P : Type 0} → ((q : Pitch) (next : ℕ) → met_for i (pitch_met 0 none (drop i line)) ≡ met_pitch q next → P) → P
+    pub meets : {P : Type 0} → ((q : Pitch) (next : ℕ) → met_for i (pitch_met 0 none (drop i line)) ≡ met-as.Pitch q next → P) → P
     meets f = some_left (λ w ws e. let x = next_pitch line i w ws (p.to_come ∙ ap some e) in f (pitch_for w) x.next x.answer)
 
     -- it is the chord's next one
-    pub turn : {q : Pitch} {next : ℕ} → met_for i (pitch_met 0 none (drop i line)) ≡ met_pitch q next → Turn line p.rest q next
+    pub turn : {q : Pitch} {next : ℕ} → met_for i (pitch_met 0 none (drop i line)) ≡ met-as.Pitch q next → Turn line p.rest q next
     turn {q} {next} m = some_left by
       where
         by : (w : Written) (ws : List Written) → p.rest ≡ w ∷ ws → Turn line p.rest q next
         by w ws e =
             let x = next_pitch line i w ws (p.to_come ∙ ap some e) in
-            let y : met_pitch q next ≡ met_pitch (pitch_for w) x.next = sym m ∙ x.answer in
-            let read : ◌≡◌ {A = Read Pitch} (record { value = q; next = next }) (record { value = pitch_for w; next = x.next }) = cc in
-            let z : q ≡ pitch_for w = ap (λ (y : Read Pitch). y.value) read in
-            let n' : next ≡ x.next = ap (λ (y : Read Pitch). y.next) read in
+            let y : met-as.Pitch q next ≡ met-as.Pitch (pitch_for w) x.next = sym m ∙ x.answer in
+            let z : q ≡ pitch_for w = cc in
+            let n' : next ≡ x.next = cc in
             record {
               first = w;
               behind = ws;

@@ -10,6 +10,7 @@ ghost use Rattle.part_chords.specs.Chords.{chord_in, ChordAt, SimulatesPitches, 
 use part_registers::{Registers, Tables};
 use part_sounds::Deferred;
 use token_lengths::Length;
+use token_pitches::Met;
 
 // The pitches of the chord whose `[` stands before `place`, each resolved after the ones before it, go to the end of the pitches.
 fn push_pitches(
@@ -26,14 +27,11 @@ fn push_pitches(
     let mut x = r;
     let mut i = place;
     for n in 0..count {
-        let Ok(met) = token_pitches::next_chord_pitch(line, i) else {
+        let Met::Pitch { pitch, next } = token_pitches::next_chord_pitch(line, i) else {
             return x;
         };
-        let Some(pitch) = met else {
-            return x;
-        };
-        x = part_sounds::push_pitch(store, t, x, pitch.value);
-        i = pitch.next;
+        x = part_sounds::push_pitch(store, t, x, pitch);
+        i = next;
     }
     x
 }

@@ -21,7 +21,6 @@ use Rattle.reader.specs.Lengths.{Length, length_of, many_slashes}
 use Rattle.reader.specs.Pitches.{octave_from, octave_of, Before, accidental_of}
 use Rattle.reader.specs.Sounds.{behind, note_as, note_after, note_of}
 use Rattle.reader.proofs.LengthLaws.{with_many, with_few}
-use Rattle.std.specs.Prelude as code
 use Rattle.std.specs.Prelude.{Ok}
 use Rattle.refusals.specs.declared.Refusal.{Refusal}
 use Rattle.text_bytes.specs.declared.Read.{Read}
@@ -31,7 +30,7 @@ use Rattle.token_suffixes.proofs.Suffixes.{was_refused, was_read}
 use Rattle.text_runs.specs.declared.Behind as runs
 use Rattle.text_runs.specs.Behind.{behind_for}
 use Rattle.token_pitches.specs.Pitches.{note_char, sign_for, sign_of, before_for, octave_at, octave_for}
-use Rattle.token_pitches.specs.declared.Accidental.{Accidental}
+use Rattle.token_pitches.specs.declared.Sign.{Sign}
 use Rattle.token_pitches.specs.declared.NoteChar.{NoteChar}
 use Rattle.token_pitches.proofs.Octaves.{fine, refused}
 use Rattle.token_pitches.proofs.Walk.{mark_back}
@@ -92,7 +91,7 @@ module _ (ed : Edition) (a : Before) (c : ℕ) (s : List ℕ) where
   unfolding note_as lexeme_for
   note_fine f m at = rw (f, note_as) (ap (cut_for at) (sym (with_few ed (a.used + 1 + length s) after_octave _ m)))
 
-module _ (ed : Edition) (line : List ℕ) (at : ℕ) (h : at < length line) (sign : code.Option Accidental) (l : NoteChar) (e : l ≡ note_char (get_or line at 0)) where
+module _ (ed : Edition) (line : List ℕ) (at : ℕ) (h : at < length line) (sign : Sign) (l : NoteChar) (e : l ≡ note_char (get_or line at 0)) where
   marks : octave_from l.octave (drop (at + 1) line) ≡ octave_of (get_or line at 0) (drop (at + 1) line)
   unfolding octave_of
   marks = rw e
@@ -214,12 +213,12 @@ module _ (ed : Edition) (a : Before) where
   unfolding note_after
   after_letter s at c t e f = rw (e, f, note_after) (shift c t at)
 
-module _ (ed : Edition) (line : List ℕ) (at : ℕ) (b : Read (code.Option Accidental)) (e : b ≡ before_for at (accidental_of (drop at line))) where
+module _ (ed : Edition) (line : List ℕ) (at : ℕ) (b : Read (Sign)) (e : b ≡ before_for at (accidental_of (drop at line))) where
   there : drop (accidental_of (drop at line)).used (drop at line) ≡ drop b.next line
-  there = drop-drop (accidental_of (drop at line)).used at line ∙ ap (λ i. drop i line) (sym (ap (λ (x : Read (code.Option Accidental)). x.next) e))
+  there = drop-drop (accidental_of (drop at line)).used at line ∙ ap (λ i. drop i line) (sym (ap (λ (x : Read (Sign)). x.next) e))
 
   place : b.next ≡ at + (accidental_of (drop at line)).used
-  place = ap (λ (x : Read (code.Option Accidental)). x.next) e
+  place = ap (λ (x : Read (Sign)). x.next) e
 
   pub note_ends : length line ≤ b.next → record { value = Nothing; next = b.next } ≡ cut_for at (note_of ed (drop at line))
   unfolding note_of
@@ -238,6 +237,6 @@ module _ (ed : Edition) (line : List ℕ) (at : ℕ) (b : Read (code.Option Acci
         → cut_for b.next (note_as ed (record { sign = sign_of b.value; used = 0 }) (get_or line b.next 0) (drop (b.next + 1) line)) ≡ cut_for at (note_of ed (drop at line))
     unfolding note_of
     note_letter f =
-        let m : sign_of b.value ≡ (accidental_of (drop at line)).sign = ap (λ (x : Read (code.Option Accidental)). sign_of x.value) e ∙ mark_back (accidental_of (drop at line)).sign in
+        let m : sign_of b.value ≡ (accidental_of (drop at line)).sign = ap (λ (x : Read (Sign)). sign_of x.value) e ∙ mark_back (accidental_of (drop at line)).sign in
         (λ j. cut_for (place j) (note_as ed (record { sign = m j; used = 0 }) (get_or line b.next 0) (drop (b.next + 1) line)))
         ∙ after_letter ed (accidental_of (drop at line)) (drop (accidental_of (drop at line)).used (drop at line)) at (get_or line b.next 0) (drop (b.next + 1) line) (there ∙ drop_next line b.next 0 h) f

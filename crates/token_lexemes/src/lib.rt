@@ -16,7 +16,7 @@ ghost use Rattle.token_lexemes.specs.Lexemes.{as_kind, is_plain, is_short, cut_f
 use editions::Edition;
 use refusals::Refusal;
 use text_bytes::Read;
-use token_pitches::{Accidental, Pitch};
+use token_pitches::{Pitch, Sign};
 use token_suffixes::Fraction;
 use token_symbols::Barline;
 
@@ -266,12 +266,7 @@ pub fn is_short(b: u8, next: u8) -> bool
 }
 
 // A note from its letter on, which stands at `at`, with the accidental before it; or refusal 12 or 22. Most are a letter alone.
-fn note_from_letter(
-    edition: Edition,
-    line: &[u8],
-    at: usize,
-    sign: Option<Accidental>,
-) -> Read<Token<Fraction>>
+fn note_from_letter(edition: Edition, line: &[u8], at: usize, sign: Sign) -> Read<Token<Fraction>>
     requires { at < length line.now }
     ensures { result ≡ cut_for at (note_as edition (record { sign = sign_of sign; used = 0 }) (get_or line.now at 0) (drop (at + 1) line.now)) }
 {

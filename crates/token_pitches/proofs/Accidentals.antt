@@ -14,8 +14,8 @@ use Rattle.laws.proofs.Bools.{and_no_left, and_no_right}
 use Rattle.laws.proofs.Lists.{first_at, first_on}
 use Rattle.standard.specs.Bytes.{is, first}
 use Rattle.reader.specs.Pitches.{natural, quarter_tone, moved, signs, accidental_of}
-use Rattle.token_pitches.specs.Pitches.{accidental_for, before_for, quarter_for}
-use Rattle.std.specs.Prelude as code
+use Rattle.token_pitches.specs.Pitches.{before_for, quarter_for}
+use Rattle.token_pitches.specs.declared.Sign.TheVariants as sign
 
 -- A RUN OF SIGNS
 quarter : (up : Bool) (n : ℕ) (s : List ℕ) → n ≡ 1 → first (drop n s) ≡ 47 → signs up n s ≡ record { sign = some (quarter_tone up); used = 2 }
@@ -36,21 +36,21 @@ module _ (line : List ℕ) (at : ℕ) (up : Bool) (b end : ℕ) (e : end ≡ end
   behind = ap (λ k. get_or line k 0) e ∙ sym (first_on line at (count_while (λ c. eqb c b) (drop at line)))
 
   pub signs_quarter : end - at ≡ 1 → get_or line end 0 ≡ 47
-      → record { value = code.Some (quarter_for up); next = end + 1 } ≡ before_for at (signs up (count_while (λ c. eqb c b) (drop at line)) (drop at line))
+      → record { value = quarter_for up; next = end + 1 } ≡ before_for at (signs up (count_while (λ c. eqb c b) (drop at line)) (drop at line))
   signs_quarter h k =
       let n : end + 1 ≡ at + 2 = omega (arith, e) in
       rw (quarter up (count_while (λ c. eqb c b) (drop at line)) (drop at line) (sym count ∙ h) (sym behind ∙ k), n)
 
   signs_other : (eqb (count_while (λ c. eqb c b) (drop at line)) 1 && is "/" (first (drop (count_while (λ c. eqb c b) (drop at line)) (drop at line)))) ≡ false
-      → record { value = code.Some (accidental_for (record { alter = moved up (end - at) 128; cents = 128 })); next = end } ≡ before_for at (signs up (count_while (λ c. eqb c b) (drop at line)) (drop at line))
+      → record { value = sign.Written (moved up (end - at) 128) 128; next = end } ≡ before_for at (signs up (count_while (λ c. eqb c b) (drop at line)) (drop at line))
   signs_other f =
       let n : at + (end - at) ≡ end = omega (arith, e) in
       rw (plain up (count_while (λ c. eqb c b) (drop at line)) (drop at line) f, ← count, n)
 
-  pub signs_many : (end - at ≡ 1 → ⊥) → record { value = code.Some (accidental_for (record { alter = moved up (end - at) 128; cents = 128 })); next = end } ≡ before_for at (signs up (count_while (λ c. eqb c b) (drop at line)) (drop at line))
+  pub signs_many : (end - at ≡ 1 → ⊥) → record { value = sign.Written (moved up (end - at) 128) 128; next = end } ≡ before_for at (signs up (count_while (λ c. eqb c b) (drop at line)) (drop at line))
   signs_many h = signs_other (and_no_left _ _ (ne_eqb _ 1 (λ k. h (count ∙ k))))
 
-  pub signs_plain : (get_or line end 0 ≡ 47 → ⊥) → record { value = code.Some (accidental_for (record { alter = moved up (end - at) 128; cents = 128 })); next = end } ≡ before_for at (signs up (count_while (λ c. eqb c b) (drop at line)) (drop at line))
+  pub signs_plain : (get_or line end 0 ≡ 47 → ⊥) → record { value = sign.Written (moved up (end - at) 128) 128; next = end } ≡ before_for at (signs up (count_while (λ c. eqb c b) (drop at line)) (drop at line))
   signs_plain h = signs_other (and_no_right (eqb (count_while (λ c. eqb c b) (drop at line)) 1) _ (ne_eqb _ 47 (λ k. h (behind ∙ k))))
 
 -- THE FIRST BYTE TELLS

@@ -16,8 +16,9 @@ use Rattle.standard.specs.Bytes.{is}
 use Rattle.standard.specs.Pitches.{Accidental, Written, is_letter, step_of}
 use Rattle.reader.specs.Pitches.{natural, quarter_tone, added, is_quarter, Octave, octave_of, cons_pitch, chord_of}
 use Rattle.token_pitches.specs.Pitches.{sign_for, sign_of, pitch_for}
-use Rattle.token_pitches.specs.Chords.{Met, over, out, met, further, sign_in, letter_met, pitch_met, met_over, met_pitch, met_for, chord_read, chord_for}
+use Rattle.token_pitches.specs.Chords.{Met, over, out, met, further, sign_in, letter_met, pitch_met, met_for, chord_read, chord_for}
 use Rattle.token_pitches.specs.declared.Pitch.{Pitch}
+use Rattle.token_pitches.specs.declared.Met.TheVariants as met-as
 use Rattle.std.specs.Prelude.{Result, Err}
 use Rattle.refusals.specs.declared.Refusal.{Refusal}
 use Rattle.text_bytes.specs.declared.Read.{Read}
@@ -116,7 +117,7 @@ further_at : (i n : ℕ) (m : Met) → met_for i (further n m) ≡ met_for (i + 
 unfolding further met_for
 further_at i n over = refl
 further_at i n out = refl
-further_at i n (met w k) = ap (met_pitch (pitch_for w)) (sym (add_assoc i n k))
+further_at i n (met w k) = ap (met-as.Pitch (pitch_for w)) (sym (add_assoc i n k))
 
 pitch_drop : (k : ℕ) (a : Option Accidental) (s : List ℕ) → pitch_met k a s ≡ further k (pitch_met 0 a (drop k s))
 unfolding pitch_met further
@@ -148,12 +149,12 @@ sign_step up c a s e f u =
 
 module _ (line : List ℕ) (i : ℕ) (a : Option Accidental) where
   -- the chord is closed
-  pub met_close : i < length line → get_or line i 0 ≡ 93 → met_for i (pitch_met 0 a (drop i line)) ≡ met_over
+  pub met_close : i < length line → get_or line i 0 ≡ 93 → met_for i (pitch_met 0 a (drop i line)) ≡ met-as.Over
   unfolding pitch_met met_for
   met_close h e = rw (drop_next line i 0 h, e)
 
   -- the line is over
-  pub met_end : length line ≤ i → met_for i (pitch_met 0 a (drop i line)) ≡ met_over
+  pub met_end : length line ≤ i → met_for i (pitch_met 0 a (drop i line)) ≡ met-as.Over
   unfolding pitch_met met_for
   met_end h = rw (drop_of_length-le line h)
 
@@ -240,7 +241,7 @@ takes a (c ∷ s) =
 -- FOR A READER OF THE PITCHES: what `next_chord_pitch` answers at i, where the chord's pitches from i on are known
 pub record Next (line : List ℕ) (i : ℕ) (p : Written) (ps : List Written) : Type 0 where
   pub next : ℕ
-  pub answer : met_for i (pitch_met 0 none (drop i line)) ≡ met_pitch (pitch_for p) next
+  pub answer : met_for i (pitch_met 0 none (drop i line)) ≡ met-as.Pitch (pitch_for p) next
   pub past : i < next
   pub rest : chord_of 0 none (drop next line) ≡ some ps
 
@@ -257,7 +258,7 @@ next_by line i p ps (met w n) e t k =
     let q = before_some w (chord_of 0 none (drop n (drop i line))) p ps k in
     record {
       next = i + n;
-      answer = ap (met_for i) e ∙ ap (λ x. met_pitch (pitch_for x) (i + n)) q.0;
+      answer = ap (met_for i) e ∙ ap (λ x. met-as.Pitch (pitch_for x) (i + n)) q.0;
       past = omega arith;
       rest = ap (chord_of 0 none) (sym (drop-drop n i line)) ∙ q.1;
     }
@@ -266,25 +267,19 @@ next_by line i p ps (met w n) e t k =
 pub next_pitch : (line : List ℕ) (i : ℕ) (p : Written) (ps : List Written) → chord_of 0 none (drop i line) ≡ some (p ∷ ps) → Next line i p ps
 next_pitch line i p ps e = next_by line i p ps (pitch_met 0 none (drop i line)) refl (takes none (drop i line)) (sym (chord_walk 0 none (drop i line)) ∙ e)
 
-over_by_list : (line : List ℕ) (i : ℕ) (m : Met) → walked m (drop i line) ≡ some [] → met_for i m ≡ met_over
+over_by_list : (line : List ℕ) (i : ℕ) (m : Met) → walked m (drop i line) ≡ some [] → met_for i m ≡ met-as.Over
 unfolding walked met_for before
 over_by_list line i over k = refl
 over_by_list line i out k = let z : ◌≡◌ {A = ℕ} 0 1 = cc in absurd (omega arith)
 over_by_list line i (met w n) k = no (chord_of 0 none (drop n (drop i line))) k
   where
-    no : (o : Option (List Written)) → before w o ≡ some [] → met_for i (met w n) ≡ met_over
+    no : (o : Option (List Written)) → before w o ≡ some [] → met_for i (met w n) ≡ met-as.Over
     no none q = let z : ◌≡◌ {A = ℕ} 0 1 = cc in absurd (omega arith)
     no (some qs) q = let z : ◌≡◌ {A = ℕ} 0 1 = cc in absurd (omega arith)
 
 -- none
-pub no_pitch : (line : List ℕ) (i : ℕ) → chord_of 0 none (drop i line) ≡ some [] → met_for i (pitch_met 0 none (drop i line)) ≡ met_over
+pub no_pitch : (line : List ℕ) (i : ℕ) → chord_of 0 none (drop i line) ≡ some [] → met_for i (pitch_met 0 none (drop i line)) ≡ met-as.Over
 no_pitch line i e = over_by_list line i (pitch_met 0 none (drop i line)) (sym (chord_walk 0 none (drop i line)) ∙ e)
-
--- the position of one pitch is that of the other, where they are answered alike
-read_next : (p q : Pitch) (m n : ℕ) → met_pitch p m ≡ met_pitch q n → m ≡ n
-read_next p q m n e =
-    let r : ◌≡◌ {A = Read Pitch} (record { value = p; next = m }) (record { value = q; next = n }) = cc in
-    ap (λ (x : Read Pitch). x.next) r
 
 -- the loop of `parse_abc_chord` at i, with `count` so far: each took a byte, and with those from i on they are the chord's
 pub record Counting (line : List ℕ) (at count i : ℕ) : Type 0 where
@@ -309,32 +304,32 @@ module _ (line : List ℕ) (at count i : ℕ) (r : Counting line at count i) whe
   met_here m e = ap (λ x. plus count (walked x (drop i line))) (sym e) ∙ ap (plus count) (sym (chord_walk 0 none (drop i line))) ∙ r.all
 
   -- it is over
-  over_by : (next : ℕ) (m : Met) → pitch_met 0 none (drop i line) ≡ m → met_for i m ≡ met_over → chord_read count next ≡ chord_for next (chord_of 0 none (drop at line))
+  over_by : (next : ℕ) (m : Met) → pitch_met 0 none (drop i line) ≡ m → met_for i m ≡ met-as.Over → chord_read count next ≡ chord_for next (chord_of 0 none (drop at line))
   unfolding walked plus read met_for
   over_by next over e k = ap (λ n. chord_read n next) (sym (add-zero count)) ∙ ap (read next) (met_here over e) ∙ read_plus next (chord_of 0 none (drop at line))
   over_by next out e k = let z : ◌≡◌ {A = ℕ} 0 1 = cc in absurd (omega arith)
   over_by next (met w n) e k = let z : ◌≡◌ {A = ℕ} 0 1 = cc in absurd (omega arith)
 
-  pub counting_over : (next : ℕ) → met_for i (pitch_met 0 none (drop i line)) ≡ met_over → chord_read count next ≡ chord_for next (chord_of 0 none (drop at line))
+  pub counting_over : (next : ℕ) → met_for i (pitch_met 0 none (drop i line)) ≡ met-as.Over → chord_read count next ≡ chord_for next (chord_of 0 none (drop at line))
   counting_over next k = over_by next (pitch_met 0 none (drop i line)) refl k
 
   -- a pitch is refused
-  out_by : (next : ℕ) (x : Refusal) (m : Met) → pitch_met 0 none (drop i line) ≡ m → met_for i m ≡ Err x → ◌≡◌ {A = Result (Read ℕ) Refusal} (Err x) (chord_for next (chord_of 0 none (drop at line)))
+  out_by : (next : ℕ) (m : Met) → pitch_met 0 none (drop i line) ≡ m → met_for i m ≡ met-as.Out → ◌≡◌ {A = Result (Read ℕ) Refusal} (Err Refusal.Octave) (chord_for next (chord_of 0 none (drop at line)))
   unfolding walked plus read met_for
-  out_by next x over e k = let z : ◌≡◌ {A = ℕ} 0 1 = cc in absurd (omega arith)
-  out_by next x out e k = let z : x ≡ Refusal.Octave = cc in ap Err z ∙ ap (read next) (met_here out e) ∙ read_plus next (chord_of 0 none (drop at line))
-  out_by next x (met w n) e k = let z : ◌≡◌ {A = ℕ} 0 1 = cc in absurd (omega arith)
+  out_by next over e k = let z : ◌≡◌ {A = ℕ} 0 1 = cc in absurd (omega arith)
+  out_by next out e k = ap (read next) (met_here out e) ∙ read_plus next (chord_of 0 none (drop at line))
+  out_by next (met w n) e k = let z : ◌≡◌ {A = ℕ} 0 1 = cc in absurd (omega arith)
 
-  pub counting_out : (next : ℕ) (x : Refusal) → met_for i (pitch_met 0 none (drop i line)) ≡ Err x → ◌≡◌ {A = Result (Read ℕ) Refusal} (Err x) (chord_for next (chord_of 0 none (drop at line)))
-  counting_out next x k = out_by next x (pitch_met 0 none (drop i line)) refl k
+  pub counting_out : (next : ℕ) → met_for i (pitch_met 0 none (drop i line)) ≡ met-as.Out → ◌≡◌ {A = Result (Read ℕ) Refusal} (Err Refusal.Octave) (chord_for next (chord_of 0 none (drop at line)))
+  counting_out next k = out_by next (pitch_met 0 none (drop i line)) refl k
 
   -- a pitch
-  one_by : (p : Pitch) (next : ℕ) (m : Met) → pitch_met 0 none (drop i line) ≡ m → Takes m → met_for i m ≡ met_pitch p next → (i < next) × Counting line at (count + 1) next
+  one_by : (p : Pitch) (next : ℕ) (m : Met) → pitch_met 0 none (drop i line) ≡ m → Takes m → met_for i m ≡ met-as.Pitch p next → (i < next) × Counting line at (count + 1) next
   unfolding walked met_for Takes
   one_by p next over e t k = let z : ◌≡◌ {A = ℕ} 0 1 = cc in absurd (omega arith)
   one_by p next out e t k = let z : ◌≡◌ {A = ℕ} 0 1 = cc in absurd (omega arith)
   one_by p next (met w n) e t k =
-      let q : i + n ≡ next = read_next _ _ _ _ k in
+      let q : i + n ≡ next = cc in
       let f = r.few in (
         omega arith,
         record {
@@ -344,11 +339,11 @@ module _ (line : List ℕ) (at count i : ℕ) (r : Counting line at count i) whe
         },
       )
 
-  pub counting_one : (p : Pitch) (next : ℕ) → met_for i (pitch_met 0 none (drop i line)) ≡ met_pitch p next → (i < next) × Counting line at (count + 1) next
+  pub counting_one : (p : Pitch) (next : ℕ) → met_for i (pitch_met 0 none (drop i line)) ≡ met-as.Pitch p next → (i < next) × Counting line at (count + 1) next
   counting_one p next k = one_by p next (pitch_met 0 none (drop i line)) refl (takes none (drop i line)) k
 
   -- it stands in the line
-  pub counting_within : (p : Pitch) (next : ℕ) → met_for i (pitch_met 0 none (drop i line)) ≡ met_pitch p next → i < length line
+  pub counting_within : (p : Pitch) (next : ℕ) → met_for i (pitch_met 0 none (drop i line)) ≡ met-as.Pitch p next → i < length line
   counting_within p next k = go (dec_le (length line) i)
     where
       go : Dec (length line ≤ i) → i < length line

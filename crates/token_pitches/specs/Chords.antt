@@ -6,11 +6,11 @@ use Rattle.standard.specs.Pitches.{Accidental, Written, is_letter, step_of}
 use Rattle.reader.specs.Pitches as reader
 use Rattle.reader.specs.Pitches.{natural, quarter_tone, added, is_quarter, Octave, octave_of}
 use Rattle.token_pitches.specs.Pitches.{pitch_for}
-use Rattle.std.specs.Prelude as code
 use Rattle.std.specs.Prelude.{Result, Ok, Err}
 use Rattle.refusals.specs.declared.Refusal.{Refusal}
 use Rattle.text_bytes.specs.declared.Read.{Read}
-use Rattle.token_pitches.specs.declared.Pitch.{Pitch}
+use Rattle.token_pitches.specs.declared.Met as code
+use Rattle.token_pitches.specs.declared.Met.TheVariants as met-as
 
 -- the chord's end; a pitch that is refused; a pitch and how many bytes were passed up to its last octave mark
 pub data Met : Type 0 where
@@ -50,21 +50,11 @@ pitch_met zero a (c ∷ s) =
     ]
 pitch_met (suc k) a (c ∷ s) = further 1 (pitch_met k a s)
 
--- what the code answers: the chord's end; a refusal; a pitch and the position after it
-abbrev pub met_over : Result (code.Option (Read Pitch)) Refusal
-met_over = Ok code.None
-
-abbrev pub met_out : Result (code.Option (Read Pitch)) Refusal
-met_out = Err Refusal.Octave
-
-abbrev pub met_pitch : Pitch → ℕ → Result (code.Option (Read Pitch)) Refusal
-met_pitch pitch next = Ok (code.Some (record { value = pitch; next = next }))
-
 -- what is met, in the code's type, from a position on
-unfoldable pub met_for : ℕ → Met → Result (code.Option (Read Pitch)) Refusal
-met_for at over = met_over
-met_for at out = met_out
-met_for at (met w n) = met_pitch (pitch_for w) (at + n)
+unfoldable pub met_for : ℕ → Met → code.Met
+met_for at over = met-as.Over
+met_for at out = met-as.Out
+met_for at (met w n) = met-as.Pitch (pitch_for w) (at + n)
 
 -- the position after a closing byte; the line's end if there is none
 unfoldable pub closed_at : List ℕ → ℕ → ℕ

@@ -4,11 +4,11 @@ use Rattle.std.proofs.Math.Option.{Option, none, some}
 use Rattle.standard.specs.Pitches.{Accidental, Written, step_of, letter_octave}
 use Rattle.reader.specs.Pitches as reader
 use Rattle.reader.specs.Pitches.{quarter_tone}
-use Rattle.std.specs.Prelude as code
 use Rattle.std.specs.Prelude.{Result, Ok, Err}
 use Rattle.refusals.specs.declared.Refusal.{Refusal}
 use Rattle.text_bytes.specs.declared.Read.{Read}
-use Rattle.token_pitches.specs.declared.Accidental as code-accidental
+use Rattle.token_pitches.specs.declared.Sign.{Sign}
+use Rattle.token_pitches.specs.declared.Sign.TheVariants as sign
 use Rattle.token_pitches.specs.declared.Pitch.{Pitch}
 use Rattle.token_pitches.specs.declared.NoteChar.{NoteChar}
 
@@ -16,27 +16,24 @@ use Rattle.token_pitches.specs.declared.NoteChar.{NoteChar}
 abbrev pub note_char : ℕ → NoteChar
 note_char c = record { step = step_of c; octave = letter_octave c }
 
--- an accidental in the code's type, and back
-abbrev pub accidental_for : Accidental → code-accidental.Accidental
-accidental_for a = record { alter = a.alter; cents = a.cents }
+-- an accidental, or none, in the code's type, and back
+abbrev pub sign_for : Option Accidental → Sign
+sign_for none = sign.Nothing
+sign_for (some a) = sign.Written a.alter a.cents
 
-abbrev pub sign_for : Option Accidental → code.Option code-accidental.Accidental
-sign_for none = code.None
-sign_for (some a) = code.Some (accidental_for a)
+abbrev pub sign_of : Sign → Option Accidental
+sign_of sign.Nothing = none
+sign_of (sign.Written a c) = some (record { alter = a; cents = c })
 
-abbrev pub sign_of : code.Option code-accidental.Accidental → Option Accidental
-sign_of code.None = none
-sign_of (code.Some a) = some (record { alter = a.alter; cents = a.cents })
-
-abbrev pub quarter_for : Bool → code-accidental.Accidental
-quarter_for up = accidental_for (quarter_tone up)
+abbrev pub quarter_for : Bool → Sign
+quarter_for up = sign_for (some (quarter_tone up))
 
 -- a pitch
 abbrev pub pitch_for : Written → Pitch
 pitch_for w = record { step = w.step; octave = w.octave; sign = sign_for w.sign }
 
 -- an accidental before a note, with the position after it
-abbrev pub before_for : ℕ → reader.Before → Read (code.Option code-accidental.Accidental)
+abbrev pub before_for : ℕ → reader.Before → Read Sign
 before_for at b = record { value = sign_for b.sign; next = at + b.used }
 
 -- an octave with the position after its marks

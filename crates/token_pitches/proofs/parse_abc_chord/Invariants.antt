@@ -4,8 +4,8 @@ use lib.ListN.{length}
 use Rattle.token_pitches.proofs.Walk.{Counting}
 use Rattle.token_pitches.proofs.parse_abc_chord.Given as goal
 
-abbrev pub invariant-loop-pitch : goal.invariant-loop-pitch
-invariant-loop-pitch l = Counting l.line l.at l.count l.i
+abbrev pub invariant-loop-next : goal.invariant-loop-next
+invariant-loop-next l = Counting l.line l.at l.count l.i
 
-abbrev pub decreases-loop-pitch : goal.decreases-loop-pitch
-decreases-loop-pitch l = length l.line - l.i
+abbrev pub decreases-loop-next : goal.decreases-loop-next
+decreases-loop-next l = length l.line - l.i
