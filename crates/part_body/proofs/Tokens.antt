@@ -25,7 +25,6 @@ use Rattle.part_registers.specs.declared.Tables.{Tables}
 use Rattle.part_registers.specs.declared.Registers.{Registers}
 use Rattle.part_invariant.specs.Invariant.{Room, Represents, RepresentedInLine, Grows, Simulates}
 use Rattle.part_sounds.specs.Sounds.{rest_row}
-use Rattle.token_lexemes.specs.Lexemes.{kind_for, as_kind}
 use Rattle.tokens.specs.Tokens.{rest_length, token_for}
 use Rattle.part_chords.specs.Chords.{pitches_or, chord_in, SimulatesChord}
 use Rattle.part_chords.proofs.Pushing.{written_back, signs_are}
@@ -49,7 +48,7 @@ abbrev pub ChordStands : List ℕ → ℕ → Token → Type 0
 ChordStands line at tok = (ws : List Written) (l : Length) (b : Behind) → tok ≡ chord ws l b → chord_of 0 none (drop (at + 1) line) ≡ some ws
 
 -- A REST has the row of the definition's
-rest_row_is : (k : Notes.NoteKind) (u : ℕ) (l : Length) → rest_row (kind_code (as_kind (kind_for k))) (rest_length u k l) ≡ row_for (rest_note k (value_of u l))
+rest_row_is : (k : Notes.NoteKind) (u : ℕ) (l : Length) → rest_row (kind_code k) (rest_length u k l) ≡ row_for (rest_note k (value_of u l))
 unfolding rest_length rest_note flags_byte beam_code bit
 rest_row_is Notes.sounded u l = refl
 rest_row_is Notes.rest u l = refl

@@ -1,7 +1,6 @@
 -- ONE TOKEN OF A MUSIC LINE, by the code's token: what must hold before it, and what it does to every part that is represented.
 use Rattle.std.specs.Prelude.{ℕ, ◌<◌, ◌≡◌, List, length, get_or}
 use Rattle.standard.specs.Bars as standard
-use Rattle.reader.specs.Codes.{kind_code}
 use Rattle.reader.specs.Records.{pass_bits}
 use Rattle.reader.specs.Barlines.{left_of}
 use Rattle.reader.specs.Token as token
@@ -11,7 +10,6 @@ use Rattle.part_accidentals.specs.Resolving.{signs}
 use Rattle.token_lengths.specs.declared.Length.{Length}
 use Rattle.token_lexemes.specs.declared.Token.{Token}
 use Rattle.token_lexemes.specs.declared.Token.TheVariants as as-token
-use Rattle.token_lexemes.specs.Lexemes.{as_kind}
 use Rattle.part_registers.specs.declared.Tables.{Tables}
 use Rattle.part_registers.specs.declared.Registers.{Registers}
 use Rattle.part_invariant.specs.Invariant.{Room, RepresentedInLine, Simulates}
@@ -41,7 +39,7 @@ Ready line t s r (as-token.Key fifths minor) = RepresentedWith t s r 0 0 0 0
 Ready line t s r as-token.Field = RepresentedWith t s r 0 0 0 0
 Ready line t s r (as-token.Chord place count written tie slur) =
     Room t r.counts (length s) 0 1 (length (chord_in line place)) (signs_in (chord_in line place)) × RepresentedInLine t s r × ChordAt line place count
-Ready line t s r (as-token.Rest kind written) = Room t r.counts (length s) 0 1 0 0 × Restable t s r (kind_code (as_kind kind)) written
+Ready line t s r (as-token.Rest kind written) = Room t r.counts (length s) 0 1 0 0 × Restable t s r kind written
 Ready line t s r (as-token.Note pitch written tie slur) = Room t r.counts (length s) 0 1 1 (signs pitch.sign) × RepresentedInLine t s r × (pitch.step < 7)
 Ready line t s r as-token.Nothing = RepresentedWith t s r 0 0 0 0
 Ready line t s r as-token.Skipped = RepresentedWith t s r 0 0 0 0
@@ -66,7 +64,7 @@ SimulatesToken line t s r s' x (as-token.Meter top bottom) = Simulates t s r s' 
 SimulatesToken line t s r s' x (as-token.Key fifths minor) = Simulates t s r s' x 0 0 0 0 (λ l. on_token l (token.key (record { fifths = fifths; minor = minor })))
 SimulatesToken line t s r s' x as-token.Field = Simulates t s r s' x 0 0 0 0 (λ l. l)
 SimulatesToken line t s r s' x (as-token.Chord place count written tie slur) = SimulatesChord t s r s' x (chord_in line place) written tie slur
-SimulatesToken line t s r s' x (as-token.Rest kind written) = SimulatesRest t s r s' x (kind_code (as_kind kind)) written
+SimulatesToken line t s r s' x (as-token.Rest kind written) = SimulatesRest t s r s' x kind written
 SimulatesToken line t s r s' x (as-token.Note pitch written tie slur) = SimulatesNote t s r s' x pitch written tie slur
 SimulatesToken line t s r s' x as-token.Nothing = Simulates t s r s' x 0 0 0 0 (λ l. on_token l token.nothing)
 SimulatesToken line t s r s' x as-token.Skipped = Simulates t s r s' x 0 0 0 0 (λ l. l)

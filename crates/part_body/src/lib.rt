@@ -78,9 +78,7 @@ fn on_token(
             tie,
             slur,
         } => part_chords::append_abc_chord_note(line, store, t, r, place, count, length, tie, slur),
-        Token::Rest { kind, length } => {
-            part_sounds::append_abc_rest_note(r, u8::from(kind), length)
-        }
+        Token::Rest { kind, length } => part_sounds::append_abc_rest_note(r, kind, length),
         Token::Note {
             pitch,
             length,

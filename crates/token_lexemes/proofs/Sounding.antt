@@ -35,7 +35,6 @@ use Rattle.token_pitches.specs.declared.NoteChar.{NoteChar}
 use Rattle.token_pitches.proofs.Octaves.{fine, refused}
 use Rattle.token_pitches.proofs.Walk.{mark_back}
 use Rattle.token_pitches.proofs.InChord.{mark_forth}
-use Rattle.token_lexemes.specs.declared.NoteKind.{NoteKind}
 use Rattle.token_lexemes.specs.Lexemes.{fraction, rest_for, is_plain, is_short, lexeme_for, cut_for}
 use Rattle.token_lexemes.specs.declared.Token.TheVariants.{Rest, Note, Nothing, Refused}
 use Rattle.token_lexemes.proofs.Plain.{plain_note, short_note}
@@ -48,8 +47,8 @@ inside_line line i h = go (dec_lt i (length line))
     go (yes l) = l
     go (no l) = let z : get_or line i 0 ≡ 0 = get_or-eq_default line 0 (omega arith) in absurd (omega (arith, h, z))
 
--- A REST
-module _ (ed : Edition) (line : List ℕ) (at : ℕ) (kind : NoteKind) (h : at < length line) where
+-- A REST by the number of its kind
+module _ (ed : Edition) (line : List ℕ) (at kind : ℕ) (h : at < length line) where
   pub rest_many : ((x : Read Fraction) → suffix_at ed line (at + 1) ≡ Ok x → ⊥) → record { value = Refused Refusal.ManySlashes; next = length line } ≡ rest_for ed at kind (drop (at + 1) line)
   unfolding rest_for
   rest_many e =

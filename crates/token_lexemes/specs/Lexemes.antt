@@ -5,6 +5,7 @@ use Rattle.editions.specs.declared.Edition.{Edition}
 use Rattle.reader.specs.Lengths.{length_of, many_slashes}
 use Rattle.reader.specs.Token.{Token, space, overlay, quoted, broken, tuplet, slur, grace_open, grace_close, decoration, barline, volta, unit, meter, key, field, chord, rest, note, nothing, skipped, refused, Taken}
 use Rattle.reader.specs.Barlines.{left_of}
+use Rattle.reader.specs.Codes.{kind_code}
 use Rattle.standard.specs.Notes as Notes
 use Rattle.standard.specs.Notes.{NoteKind, sounded, invisible_rest, bar_rest, invisible_bar_rest}
 use Rattle.refusals.specs.declared.Refusal.{Refusal}
@@ -18,14 +19,7 @@ use Rattle.token_lexemes.specs.declared.NoteKind.TheVariants as kind
 use Rattle.token_lexemes.specs.declared.Token as code
 use Rattle.token_lexemes.specs.declared.Token.TheVariants.{Space, Overlay, Quoted, Broken, Tuplet, Slur, GraceOpen, GraceClose, Decoration, Barline, Volta, Unit, Meter, Key, Field, Chord, Rest, Note, Nothing, Skipped, Refused}
 
--- the kind of a note in the code's type, and back
-abbrev pub kind_for : NoteKind → kinds.NoteKind
-kind_for sounded = kind.Sounded
-kind_for Notes.rest = kind.Rest
-kind_for invisible_rest = kind.InvisibleRest
-kind_for bar_rest = kind.BarRest
-kind_for invisible_bar_rest = kind.InvisibleBarRest
-
+-- the kind of a note, for the code's
 abbrev pub as_kind : kinds.NoteKind → NoteKind
 as_kind kind.Sounded = sounded
 as_kind kind.Rest = Notes.rest
@@ -40,7 +34,7 @@ numbered =
     ∷ Refusal.TooManyVoices ∷ Refusal.Middle ∷ Refusal.TooManyNotes ∷ Refusal.Octave ∷ Refusal.BrokenRhythm ∷ Refusal.Passes ∷ Refusal.ScratchShort ∷ Refusal.ReadingShort
     ∷ Refusal.PassRange ∷ Refusal.PassOrder ∷ Refusal.NoSuchPart ∷ Refusal.ListShort ∷ Refusal.KeyBeyond ∷ Refusal.ManySlashes ∷ []
 
--- the refusal of a number from 1 to 22 (`refusal_back`: `number_of` gives the number again); no token is refused by another
+-- the refusal of a number from 1 to 22: of the number that `number_of` gives a refusal it is that refusal (`refusal_back`); no token is refused by another number
 abbrev pub refusal_with : ℕ → Refusal
 refusal_with n = get_or numbered n Refusal.NoMusic
 
@@ -74,7 +68,7 @@ lexeme_for at (meter m) = Meter m.0 m.1
 lexeme_for at (key k) = Key k.fifths k.minor
 lexeme_for at field = Field
 lexeme_for at (chord ps l b) = Chord (at + 1) (length ps) (fraction l.num l.den) b.tie b.slur
-lexeme_for at (rest k l) = Rest (kind_for k) (fraction l.num l.den)
+lexeme_for at (rest k l) = Rest (kind_code k) (fraction l.num l.den)
 lexeme_for at (note w l b) = Note (pitch_for w) (fraction l.num l.den) b.tie b.slur
 lexeme_for at nothing = Nothing
 lexeme_for at skipped = Skipped
@@ -84,10 +78,10 @@ lexeme_for at (refused n) = Refused (refusal_with n)
 abbrev pub cut_for : ℕ → Taken → Read (code.Token Fraction)
 cut_for at t = record { value = lexeme_for at t.token; next = at + t.used }
 
--- a rest of a kind, with the length at the front of s; or refusal 22
-unfoldable pub rest_for : Edition → ℕ → kinds.NoteKind → List ℕ → Read (code.Token Fraction)
-rest_for ed at k s =
+-- a rest by the number of its kind, with the length at the front of s; or refusal 22
+unfoldable pub rest_for : Edition → ℕ → ℕ → List ℕ → Read (code.Token Fraction)
+rest_for ed at kind s =
     elim (many_slashes ed s) [
       | true ↦ record { value = Refused Refusal.ManySlashes; next = at + suc (length s) }
-      | false ↦ record { value = Rest k (fraction (length_of ed s).num (length_of ed s).den); next = at + suc (length_of ed s).used }
+      | false ↦ record { value = Rest kind (fraction (length_of ed s).num (length_of ed s).den); next = at + suc (length_of ed s).used }
     ]

@@ -93,7 +93,7 @@ pub enum Token<L> {
         slur: bool,
     },
     Rest {
-        kind: NoteKind,
+        kind: u8,
         length: L,
     },
     Note {
@@ -228,8 +228,8 @@ pub fn volta(line: &[u8], at: usize) -> Read<Token<Fraction>>
     }
 }
 
-// A rest and its length, or refusal 22.
-pub fn rest(edition: Edition, line: &[u8], at: usize, kind: NoteKind) -> Read<Token<Fraction>>
+// A rest by the number of its kind and its length, or refusal 22.
+pub fn rest(edition: Edition, line: &[u8], at: usize, kind: u8) -> Read<Token<Fraction>>
     requires { at < length line.now }
     ensures { result ≡ rest_for edition at kind (drop (at + 1) line.now) }
 {

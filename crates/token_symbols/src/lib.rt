@@ -72,7 +72,7 @@ pub const BY_METER: u8 = 0;
 #[derive(Clone, Copy)]
 pub struct Classes {
     pub table: [Class; 128],
-    ghost is_table: { table ≡ class_table },
+    pub ghost is_table: { table ≡ class_table },
 }
 
 // Every entry "skipped", then notes, marks and bars set. Made once, and lent to each reader of a token.

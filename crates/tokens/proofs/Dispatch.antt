@@ -13,6 +13,7 @@ use Rattle.standard.specs.Notes as Notes
 use Rattle.standard.specs.Pitches.{Accidental}
 use Rattle.editions.specs.declared.Edition.{Edition}
 use Rattle.reader.specs.Lengths.{many_slashes, value_of}
+use Rattle.reader.specs.Codes.{kind_code}
 use Rattle.reader.specs.Pitches.{octave_of}
 use Rattle.reader.specs.Sounds.{rest_as, note_as}
 use Rattle.reader.specs.Token.{Token, space, overlay, quoted, broken, tuplet, slur, grace_open, grace_close, decoration, barline, volta, unit, meter, key, field, chord, rest, note, nothing, skipped, refused, Taken, taken}
@@ -21,11 +22,10 @@ use Rattle.reader.proofs.LengthLaws.{with_many, with_few}
 use Rattle.token_symbols.specs.declared.Class as code
 use Rattle.token_symbols.specs.declared.Class.TheVariants as class
 use Rattle.token_symbols.specs.Classes.{class_for}
-use Rattle.token_lexemes.specs.Lexemes.{kind_for, lexeme_for, cut_for, rest_for}
+use Rattle.token_lexemes.specs.Lexemes.{lexeme_for, cut_for, rest_for}
 use Rattle.refusals.specs.declared.Refusal.{Refusal}
 use Rattle.token_suffixes.specs.declared.Fraction.{Fraction}
 use Rattle.token_pitches.specs.declared.Pitch.{Pitch}
-use Rattle.token_lexemes.specs.declared.NoteKind.{NoteKind}
 use Rattle.token_lexemes.specs.declared.Token as lexemes
 use Rattle.token_lexemes.specs.declared.Token.TheVariants as lexeme
 use Rattle.tokens.specs.declared.Effect.TheVariants as effect
@@ -111,7 +111,7 @@ classed ed line at k n h e f =
     ap (λ c. token_as ed (class_of c) (drop at line)) (first_at line at) ∙ read_by_class ed (class_of (get_or line at 0)) (drop at line) (seen (get_or line at 0) h) ∙ ap (λ m. by_class ed m (drop at line)) (sym e ∙ f)
 
 -- a rest
-pub rest_cut : (ed : Edition) (line : List ℕ) (at : ℕ) (k : Notes.NoteKind) → rest_for ed at (kind_for k) (drop (at + 1) line) ≡ cut_for at (rest_as ed k (drop 1 (drop at line)))
+pub rest_cut : (ed : Edition) (line : List ℕ) (at : ℕ) (k : Notes.NoteKind) → rest_for ed at (kind_code k) (drop (at + 1) line) ≡ cut_for at (rest_as ed k (drop 1 (drop at line)))
 unfolding rest_for rest_as lexeme_for
 rest_cut ed line at k =
     let s = drop (at + 1) line in
@@ -121,7 +121,7 @@ rest_cut ed line at k =
 
 -- THE TWO VIEWS
 pub valued_token : (at u : ℕ) (t : Token) → valued_for u (lexeme_for at t) ≡ token_for at u t
-unfolding valued_for lexeme_for token_for rest_length value_of
+unfolding valued_for lexeme_for token_for rest_length value_of kind_code
 valued_token at u space = refl
 valued_token at u overlay = refl
 valued_token at u quoted = refl
@@ -192,7 +192,7 @@ marked ed at a b c s =
 
 -- a token that is none of those that have an effect
 pub no_effect : (t : lexemes.Token Fraction) → ((d : ℕ) → t ≡ lexeme.Unit d → ⊥) → ((x y : ℕ) → t ≡ lexeme.Meter x y → ⊥) → ((p n : ℕ) (l : Fraction) (a b : Bool) → t ≡ lexeme.Chord p n l a b → ⊥)
-    → ((k : NoteKind) (l : Fraction) → t ≡ lexeme.Rest k l → ⊥) → ((p : Pitch) (l : Fraction) (a b : Bool) → t ≡ lexeme.Note p l a b → ⊥) → ((r : Refusal) → t ≡ lexeme.Refused r → ⊥) → effect.NoEffect ≡ effect_in t
+    → ((k : ℕ) (l : Fraction) → t ≡ lexeme.Rest k l → ⊥) → ((p : Pitch) (l : Fraction) (a b : Bool) → t ≡ lexeme.Note p l a b → ⊥) → ((r : Refusal) → t ≡ lexeme.Refused r → ⊥) → effect.NoEffect ≡ effect_in t
 unfolding effect_in
 no_effect lexeme.Space u m c r n f = refl
 no_effect lexeme.Overlay u m c r n f = refl

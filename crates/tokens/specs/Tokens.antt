@@ -1,5 +1,5 @@
 -- The definitions' tokens, with their written values, and effects, as the code has them.
-use Rattle.std.specs.Prelude.{ℕ, ◌+◌, ◌≡◌, length, get_or}
+use Rattle.std.specs.Prelude.{ℕ, ◌+◌, ◌≡◌, cond, ltb, length, get_or}
 use Rattle.standard.specs.Lengths.{length_fraction}
 use Rattle.standard.specs.Notes as Notes
 use Rattle.reader.specs.Lengths.{Length, written_as, value_of}
@@ -7,6 +7,7 @@ use Rattle.reader.specs.Token.{Token, space, overlay, quoted, broken, tuplet, sl
 use Rattle.reader.specs.Tokens as tokens
 use Rattle.reader.specs.Tokens.{effect_of}
 use Rattle.reader.specs.Barlines.{left_of}
+use Rattle.reader.specs.Codes.{kind_code}
 use Rattle.reader.specs.Records.{pass_bits}
 use Rattle.token_lengths.specs.declared.Length as lengths
 use Rattle.token_lengths.specs.declared.Length.TheVariants.{WholeBar}
@@ -16,11 +17,9 @@ use Rattle.token_pitches.specs.Pitches.{pitch_for}
 use Rattle.refusals.specs.Numbers.{number_of}
 use Rattle.text_bytes.specs.declared.Read.{Read}
 use Rattle.token_suffixes.specs.declared.Fraction.{Fraction}
-use Rattle.token_lexemes.specs.declared.NoteKind as kinds
-use Rattle.token_lexemes.specs.declared.NoteKind.TheVariants as kind
 use Rattle.token_lexemes.specs.declared.Token as code
 use Rattle.token_lexemes.specs.declared.Token.TheVariants as as-token
-use Rattle.token_lexemes.specs.Lexemes.{kind_for, refusal_with}
+use Rattle.token_lexemes.specs.Lexemes.{refusal_with}
 use Rattle.tokens.specs.declared.Effect.{Effect}
 use Rattle.tokens.specs.declared.Effect.TheVariants as effect
 
@@ -50,7 +49,7 @@ token_for at unit_length (meter m) = as-token.Meter m.0 m.1
 token_for at unit_length (key k) = as-token.Key k.fifths k.minor
 token_for at unit_length field = as-token.Field
 token_for at unit_length (chord ps l b) = as-token.Chord (at + 1) (length ps) (length_as (value_of unit_length l)) b.tie b.slur
-token_for at unit_length (rest k l) = as-token.Rest (kind_for k) (rest_length unit_length k l)
+token_for at unit_length (rest k l) = as-token.Rest (kind_code k) (rest_length unit_length k l)
 token_for at unit_length (note w l b) = as-token.Note (pitch_for w) (length_as (value_of unit_length l)) b.tie b.slur
 token_for at unit_length nothing = as-token.Nothing
 token_for at unit_length skipped = as-token.Skipped
@@ -86,13 +85,9 @@ effected_for at t = record { value = effect_for (effect_of t.token); next = at +
 abbrev pub value_for : ℕ → Fraction → lengths.Length
 value_for unit_length l = length_as (written_as (length_fraction unit_length l.num l.den))
 
--- Z and X are a whole bar
-abbrev pub kind_length : ℕ → kinds.NoteKind → Fraction → lengths.Length
-kind_length unit_length kind.Sounded l = value_for unit_length l
-kind_length unit_length kind.Rest l = value_for unit_length l
-kind_length unit_length kind.InvisibleRest l = value_for unit_length l
-kind_length unit_length kind.BarRest l = WholeBar 0
-kind_length unit_length kind.InvisibleBarRest l = WholeBar 0
+-- the length of a rest by the number of its kind: Z and X, 3 and 4, are a whole bar
+abbrev pub kind_length : ℕ → ℕ → Fraction → lengths.Length
+kind_length unit_length kind l = cond (ltb kind 3) (value_for unit_length l) (WholeBar 0)
 
 unfoldable pub valued_for : ℕ → code.Token Fraction → code.Token lengths.Length
 valued_for unit_length as-token.Space = as-token.Space
@@ -111,7 +106,7 @@ valued_for unit_length (as-token.Meter x0 x1) = as-token.Meter x0 x1
 valued_for unit_length (as-token.Key x0 x1) = as-token.Key x0 x1
 valued_for unit_length as-token.Field = as-token.Field
 valued_for unit_length (as-token.Chord place count l tied slurred) = as-token.Chord place count (value_for unit_length l) tied slurred
-valued_for unit_length (as-token.Rest k l) = as-token.Rest k (kind_length unit_length k l)
+valued_for unit_length (as-token.Rest kind l) = as-token.Rest kind (kind_length unit_length kind l)
 valued_for unit_length (as-token.Note pitch l tied slurred) = as-token.Note pitch (value_for unit_length l) tied slurred
 valued_for unit_length as-token.Nothing = as-token.Nothing
 valued_for unit_length as-token.Skipped = as-token.Skipped

@@ -64,14 +64,19 @@ fn lexeme_at(edition: Edition, line: &[u8], at: usize, class: Class) -> Read<Tok
         Class::Plus => token_lexemes::decoration(line, at, b'+'),
         Class::Bars => token_lexemes::bar_line(line, at),
         Class::Bracket => token_brackets::bracket(edition, line, at),
-        Class::Rest => token_lexemes::rest(edition, line, at, NoteKind::Rest),
-        Class::InvisibleRest => token_lexemes::rest(edition, line, at, NoteKind::InvisibleRest),
-        Class::BarRest => token_lexemes::rest(edition, line, at, NoteKind::BarRest),
+        Class::Rest => token_lexemes::rest(edition, line, at, u8::from(NoteKind::Rest)),
+        Class::InvisibleRest => token_lexemes::rest(
+            edition,
+            line,
+            at,
+            u8::from(NoteKind::InvisibleRest),
+        ),
+        Class::BarRest => token_lexemes::rest(edition, line, at, u8::from(NoteKind::BarRest)),
         Class::InvisibleBarRest => token_lexemes::rest(
             edition,
             line,
             at,
-            NoteKind::InvisibleBarRest,
+            u8::from(NoteKind::InvisibleBarRest),
         ),
         Class::Pitched => unreachable!(),
     }
@@ -84,15 +89,14 @@ fn written(length: Fraction, unit: u32) -> Length
     token_values::abc_note_value(unit, length.num, length.den)
 }
 
-// The length of a rest: Z and X are a whole bar.
-fn rest_length(kind: NoteKind, length: Fraction, unit: u32) -> Length
+// The length of a rest by the number of its kind: Z and X are a whole bar.
+fn rest_length(kind: u8, length: Fraction, unit: u32) -> Length
     ensures { result ≡ kind_length unit kind length }
 {
-    match kind {
-        NoteKind::BarRest => Length::WholeBar(0),
-        NoteKind::InvisibleBarRest => Length::WholeBar(0),
-        _ => written(length, unit),
+    if kind < 3 {
+        return written(length, unit);
     }
+    Length::WholeBar(0)
 }
 
 // A token with the written value of its length.

@@ -1,7 +1,4 @@
 -- `part_body::on_token` meets its contract: an arm for each token.
-use Prim.Native.Nat.{ℕ}
-use mathlib.Core.Path.{ap, ◌∙◌}
-use Rattle.part_sounds.specs.Sounds.{deferred_rest}
 use Rattle.part_sounds.proofs.Deferring.{once_appended_none, once_appended_rest}
 use Rattle.part_body.specs.Body.{Ready, SimulatesToken}
 use Rattle.part_body.proofs.Tokens.{simulates_nothing}
@@ -108,7 +105,7 @@ unfolding Ready SimulatesToken
 returns-in-Rest c =
     let e = c.in-Rest.is in
     let ready = rw e at c.requires in
-    rw e (once_appended_rest (c.append_abc_rest_note.ensures ∙ ap (λ (k : ℕ). deferred_rest c.args.r k c.in-Rest.length) c.from.ensures) ready.0 ready.1)
+    rw e (once_appended_rest c.append_abc_rest_note.ensures ready.0 ready.1)
 
 pub returns-in-Note : goal.returns-in-Note
 unfolding SimulatesToken

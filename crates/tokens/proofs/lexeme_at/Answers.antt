@@ -60,16 +60,16 @@ returns-in-Bracket c = c.bracket.ensures ∙ ap (cut_for c.args.at) (sym (classe
 
 pub returns-in-Rest : goal.returns-in-Rest
 unfolding by_class token_as lexeme_for
-returns-in-Rest c = c.rest.ensures ∙ rest_cut _ c.args.line.now c.args.at Notes.rest ∙ ap (cut_for c.args.at) (sym (classed _ c.args.line.now c.args.at _ _ (c.type_inv.line c.args.at).fits c.requires.1 c.in-Rest.is))
+returns-in-Rest c = rw c.from.ensures at c.rest.ensures ∙ rest_cut _ c.args.line.now c.args.at Notes.rest ∙ ap (cut_for c.args.at) (sym (classed _ c.args.line.now c.args.at _ _ (c.type_inv.line c.args.at).fits c.requires.1 c.in-Rest.is))
 
 pub returns-in-InvisibleRest : goal.returns-in-InvisibleRest
 unfolding by_class token_as lexeme_for
-returns-in-InvisibleRest c = c.rest-in-InvisibleRest.ensures ∙ rest_cut _ c.args.line.now c.args.at Notes.invisible_rest ∙ ap (cut_for c.args.at) (sym (classed _ c.args.line.now c.args.at _ _ (c.type_inv.line c.args.at).fits c.requires.1 c.in-InvisibleRest.is))
+returns-in-InvisibleRest c = rw c.from-in-InvisibleRest.ensures at c.rest-in-InvisibleRest.ensures ∙ rest_cut _ c.args.line.now c.args.at Notes.invisible_rest ∙ ap (cut_for c.args.at) (sym (classed _ c.args.line.now c.args.at _ _ (c.type_inv.line c.args.at).fits c.requires.1 c.in-InvisibleRest.is))
 
 pub returns-in-BarRest : goal.returns-in-BarRest
 unfolding by_class token_as lexeme_for
-returns-in-BarRest c = c.rest-in-BarRest.ensures ∙ rest_cut _ c.args.line.now c.args.at Notes.bar_rest ∙ ap (cut_for c.args.at) (sym (classed _ c.args.line.now c.args.at _ _ (c.type_inv.line c.args.at).fits c.requires.1 c.in-BarRest.is))
+returns-in-BarRest c = rw c.from-in-BarRest.ensures at c.rest-in-BarRest.ensures ∙ rest_cut _ c.args.line.now c.args.at Notes.bar_rest ∙ ap (cut_for c.args.at) (sym (classed _ c.args.line.now c.args.at _ _ (c.type_inv.line c.args.at).fits c.requires.1 c.in-BarRest.is))
 
 pub returns-in-InvisibleBarRest : goal.returns-in-InvisibleBarRest
 unfolding by_class token_as lexeme_for
-returns-in-InvisibleBarRest c = c.rest-in-InvisibleBarRest.ensures ∙ rest_cut _ c.args.line.now c.args.at Notes.invisible_bar_rest ∙ ap (cut_for c.args.at) (sym (classed _ c.args.line.now c.args.at _ _ (c.type_inv.line c.args.at).fits c.requires.1 c.in-InvisibleBarRest.is))
+returns-in-InvisibleBarRest c = rw c.from-in-InvisibleBarRest.ensures at c.rest-in-InvisibleBarRest.ensures ∙ rest_cut _ c.args.line.now c.args.at Notes.invisible_bar_rest ∙ ap (cut_for c.args.at) (sym (classed _ c.args.line.now c.args.at _ _ (c.type_inv.line c.args.at).fits c.requires.1 c.in-InvisibleBarRest.is))
