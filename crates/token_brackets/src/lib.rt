@@ -10,7 +10,7 @@ ghost use Rattle.reader.specs.Tokens.{bracket, token_as};
 ghost use Rattle.laws.specs.Bytes.{between};
 ghost use Rattle.reader.specs.Token.{taken};
 ghost use Rattle.field_values.specs.Values as fields;
-ghost use Rattle.token_lexemes.specs.Lexemes.{lexeme_for, cut_for};
+ghost use Rattle.token_lexemes.specs.Lexemes.{IsNumbered, lexeme_for, cut_for};
 
 use editions::Edition;
 use field_values::Field;
@@ -107,7 +107,8 @@ fn inline_field(edition: Edition, line: &[u8], at: usize, close: usize) -> Read<
 // The token whose `[` stands at `at`.
 pub fn bracket(edition: Edition, line: &[u8], at: usize) -> Read<Token<Fraction>>
     requires { at < length line.now }
-    ensures { result ≡ cut_for at (token_as edition bracket (drop at line.now)) }
+    ensures token { result ≡ cut_for at (token_as edition bracket (drop at line.now)) }
+    ensures number { IsNumbered (token_as edition bracket (drop at line.now)).token }
 {
     let from = at + 1;
     if text_bytes::is_digit(text_bytes::byte_at(line, from)) {

@@ -1,4 +1,5 @@
 pub mod Refusals
+pub mod Numbered
 pub mod Closed
 pub mod Ratio
 mod Bar

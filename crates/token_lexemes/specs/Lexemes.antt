@@ -1,5 +1,5 @@
 -- The definitions' tokens as the code has them.
-use Rattle.std.specs.Prelude.{ℕ, suc, ◌+◌, Bool, true, false, ◌&&◌, ◌||◌, List, [], ◌∷◌, ltb, length, get_or}
+use Rattle.std.specs.Prelude.{ℕ, suc, ◌+◌, ◌≡◌, Bool, true, false, ◌&&◌, ◌||◌, List, [], ◌∷◌, ltb, length, get_or}
 use Rattle.reader.specs.Text.{within}
 use Rattle.editions.specs.declared.Edition.{Edition}
 use Rattle.reader.specs.Lengths.{length_of, many_slashes}
@@ -9,6 +9,7 @@ use Rattle.reader.specs.Codes.{kind_code}
 use Rattle.standard.specs.Notes as Notes
 use Rattle.standard.specs.Notes.{NoteKind, sounded, invisible_rest, bar_rest, invisible_bar_rest}
 use Rattle.refusals.specs.declared.Refusal.{Refusal}
+use Rattle.refusals.specs.Numbers.{number_of}
 use Rattle.reader.specs.Records.{pass_bits}
 use Rattle.token_symbols.specs.Bars.{barline_for}
 use Rattle.token_pitches.specs.Pitches.{pitch_for}
@@ -37,6 +38,10 @@ numbered =
 -- the refusal of a number from 1 to 22: of the number that `number_of` gives a refusal it is that refusal (`refusal_back`); no token is refused by another number
 abbrev pub refusal_with : ℕ → Refusal
 refusal_with n = get_or numbered n Refusal.NoMusic
+
+-- a token that is refused is refused by the number of one of the refusals
+abbrev pub IsNumbered : Token → Type 0
+IsNumbered t = (n : ℕ) → t ≡ refused n → number_of (refusal_with n) ≡ n
 
 -- a length as written
 abbrev pub fraction : ℕ → ℕ → Fraction

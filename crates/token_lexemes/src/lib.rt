@@ -11,7 +11,7 @@ ghost use Rattle.reader.specs.Barlines.{barline_of};
 ghost use Rattle.reader.specs.Codes.{kind_code};
 ghost use Rattle.reader.specs.Tokens.{closed_by, quoted_of, broken_of, paren, token_as};
 ghost use Rattle.token_pitches.specs.Pitches.{sign_of};
-ghost use Rattle.token_lexemes.specs.Lexemes.{as_kind, is_plain, is_short, cut_for, rest_for};
+ghost use Rattle.token_lexemes.specs.Lexemes.{IsNumbered, as_kind, is_plain, is_short, cut_for, rest_for};
 
 use editions::Edition;
 use refusals::Refusal;
@@ -146,7 +146,8 @@ pub fn decoration(line: &[u8], at: usize, b: u8) -> Read<Token<Fraction>>
 // Broken rhythm: the equal signs `b` from `at` on, 255 at most (refusal 13).
 pub fn broken(line: &[u8], at: usize, b: u8, up: bool) -> Read<Token<Fraction>>
     requires { at < length line.now }
-    ensures { result ≡ cut_for at (broken_of up (suc (count_while (λ c. eqb c b) (drop 1 (drop at line.now)))) (drop at line.now)) }
+    ensures token { result ≡ cut_for at (broken_of up (suc (count_while (λ c. eqb c b) (drop 1 (drop at line.now)))) (drop at line.now)) }
+    ensures number { IsNumbered (broken_of up (suc (count_while (λ c. eqb c b) (drop 1 (drop at line.now)))) (drop at line.now)).token }
 {
     let end = text_runs::run_end(line, at + 1, b);
     let count = end - at;
@@ -211,7 +212,8 @@ pub fn bar_line(line: &[u8], at: usize) -> Read<Token<Fraction>>
 // An ending with its passes, or refusal 14, 17 or 18.
 pub fn volta(line: &[u8], at: usize) -> Read<Token<Fraction>>
     requires { at < length line.now }
-    ensures { result ≡ cut_for at (volta_of (drop (at + 1) line.now)) }
+    ensures token { result ≡ cut_for at (volta_of (drop (at + 1) line.now)) }
+    ensures number { IsNumbered (volta_of (drop (at + 1) line.now)).token }
 {
     let Some(passes) = token_passes::parse_passes(line, at + 1) else {
         return Read {
@@ -317,7 +319,8 @@ fn note_from_letter(edition: Edition, line: &[u8], at: usize, sign: Sign) -> Rea
 // A note with its accidentals, which take the byte behind them even if that is no letter.
 pub fn note(edition: Edition, line: &[u8], at: usize) -> Read<Token<Fraction>>
     requires { at < length line.now }
-    ensures { result ≡ cut_for at (note_of edition (drop at line.now)) }
+    ensures token { result ≡ cut_for at (note_of edition (drop at line.now)) }
+    ensures number { IsNumbered (note_of edition (drop at line.now)).token }
 {
     let before = token_pitches::accidental_before(line, at);
     let sign = before.value;

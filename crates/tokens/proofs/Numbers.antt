@@ -9,9 +9,9 @@ use Rattle.promises.specs.Refusals.{KeyMeets, middle, beyond, TokenMeets, key_in
 use Rattle.promises.proofs.TokenRefusals.{token_why}
 use Rattle.refusals.specs.Numbers.{number_of}
 use Rattle.text_bytes.specs.declared.Read.{Read}
-use Rattle.token_lexemes.specs.Lexemes.{refusal_with}
+use Rattle.token_lexemes.specs.Lexemes.{IsNumbered, refusal_with}
 use Rattle.tokens.specs.declared.Effect as code
-use Rattle.tokens.specs.Tokens.{IsNumbered, effect_for, effect_as, effected_for}
+use Rattle.tokens.specs.Tokens.{effect_for, effect_as, effected_for}
 
 key_number : (ed : Edition) (s : List ℕ) (n : ℕ) → KeyMeets ed s n → number_of (refusal_with n) ≡ n
 key_number ed s n (middle ws w us a b c) = refl

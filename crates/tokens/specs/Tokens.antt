@@ -1,5 +1,5 @@
 -- The definitions' tokens, with their written values, and effects, as the code has them.
-use Rattle.std.specs.Prelude.{ℕ, ◌+◌, ◌≡◌, cond, ltb, length, get_or}
+use Rattle.std.specs.Prelude.{ℕ, ◌+◌, cond, ltb, length, get_or}
 use Rattle.standard.specs.Lengths.{length_fraction}
 use Rattle.standard.specs.Notes as Notes
 use Rattle.reader.specs.Lengths.{Length, written_as, value_of}
@@ -58,10 +58,6 @@ token_for at unit_length (refused n) = as-token.Refused (refusal_with n)
 -- with the position after it
 abbrev pub tokenised_for : ℕ → ℕ → Taken → Read (code.Token lengths.Length)
 tokenised_for at unit_length t = record { value = token_for at unit_length t.token; next = at + t.used }
-
--- a token that is refused is refused by the number of one of the refusals
-abbrev pub IsNumbered : Token → Type 0
-IsNumbered t = (n : ℕ) → t ≡ refused n → number_of (refusal_with n) ≡ n
 
 -- what the scan wants, and back
 unfoldable pub effect_for : tokens.Effect → Effect

@@ -8,8 +8,8 @@ ghost use Rattle.reader.specs.Sounds.{note_as, note_of};
 ghost use Rattle.reader.specs.Tokens.{class_of, token_of, effect_of};
 ghost use Rattle.token_symbols.specs.Classes.{class_for};
 ghost use Rattle.token_symbols.specs.declared.Class.{Class};
-ghost use Rattle.token_lexemes.specs.Lexemes.{cut_for};
-ghost use Rattle.tokens.specs.Tokens.{tokenised_for, IsNumbered, value_for, kind_length, valued_for, tokenised_in, effect_in, effect_as, effected_for};
+ghost use Rattle.token_lexemes.specs.Lexemes.{IsNumbered, cut_for};
+ghost use Rattle.tokens.specs.Tokens.{tokenised_for, value_for, kind_length, valued_for, tokenised_in, effect_in, effect_as, effected_for};
 
 use editions::Edition;
 use refusals::Refusal;

@@ -24,11 +24,11 @@ returns-in-Quote c = c.quoted_text.ensures ∙ ap (cut_for c.args.at) (sym (clas
 
 pub returns-in-More : goal.returns-in-More
 unfolding by_class token_as lexeme_for
-returns-in-More c = c.broken.ensures ∙ ap (cut_for c.args.at) (sym (classed _ c.args.line.now c.args.at _ _ (c.type_inv.line c.args.at).fits c.requires.1 c.in-More.is))
+returns-in-More c = c.broken.ensures.token ∙ ap (cut_for c.args.at) (sym (classed _ c.args.line.now c.args.at _ _ (c.type_inv.line c.args.at).fits c.requires.1 c.in-More.is))
 
 pub returns-in-Less : goal.returns-in-Less
 unfolding by_class token_as lexeme_for
-returns-in-Less c = c.broken-in-Less.ensures ∙ ap (cut_for c.args.at) (sym (classed _ c.args.line.now c.args.at _ _ (c.type_inv.line c.args.at).fits c.requires.1 c.in-Less.is))
+returns-in-Less c = c.broken-in-Less.ensures.token ∙ ap (cut_for c.args.at) (sym (classed _ c.args.line.now c.args.at _ _ (c.type_inv.line c.args.at).fits c.requires.1 c.in-Less.is))
 
 pub returns-in-Paren : goal.returns-in-Paren
 unfolding by_class token_as lexeme_for
@@ -56,7 +56,7 @@ returns-in-Bars c = c.bar_line.ensures ∙ ap (cut_for c.args.at) (sym (classed 
 
 pub returns-in-Bracket : goal.returns-in-Bracket
 unfolding by_class token_as lexeme_for
-returns-in-Bracket c = c.bracket.ensures ∙ ap (cut_for c.args.at) (sym (classed _ c.args.line.now c.args.at _ _ (c.type_inv.line c.args.at).fits c.requires.1 c.in-Bracket.is))
+returns-in-Bracket c = c.bracket.ensures.token ∙ ap (cut_for c.args.at) (sym (classed _ c.args.line.now c.args.at _ _ (c.type_inv.line c.args.at).fits c.requires.1 c.in-Bracket.is))
 
 pub returns-in-Rest : goal.returns-in-Rest
 unfolding by_class token_as lexeme_for

@@ -13,7 +13,7 @@ unfolding by_class token_as
 returns-in-Pitched-clause-token c =
     let a = c.args in
     let e = classed _ a.line.now a.at _ _ (c.type_inv.line a.at).fits c.class_of-class.ensures c.in-Pitched.is in
-    c.tokenise.ensures ∙ ap (tokenised_in a.unit) (c.note.ensures ∙ ap (cut_for a.at) (sym e)) ∙ valued_cut a.at a.unit (token_of _ (drop a.at a.line.now))
+    c.tokenise.ensures ∙ ap (tokenised_in a.unit) (c.note.ensures.token ∙ ap (cut_for a.at) (sym e)) ∙ valued_cut a.at a.unit (token_of _ (drop a.at a.line.now))
 
 pub returns-in-Pitched-clause-number : goal.returns-in-Pitched-clause-number
 returns-in-Pitched-clause-number c = numbered _ _
