@@ -1,11 +1,11 @@
 -- The greatest pass, by halving.
 use Prim.Native.Nat.{ℕ, zero, suc, ◌+◌, ◌-◌, ◌/◌, ◌%◌, ◌^◌, ◌≤◌, ◌<◌}
-use mathlib.Core.Path.{◌≡◌, sym, ap, ◌∙◌}
+use mathlib.Core.Path.{◌≡◌, refl, sym, ap, ◌∙◌}
 use mathlib.Core.Bool.{true, false}
 use native.Mathlib.Omega.{arith}
 use native.Mathlib.Nat.{zero-div, div-lt_iff_lt-mul}
-use lib.Dec.{ltb}
-use lib.Pow.{pow_pos, pow_mono, shr-shr}
+use lib.Dec.{eqb, ltb}
+use lib.Pow.{pow_pos, pow_mono, shr-shr, field, mod-mod-pow}
 use borrow.Author.Tests.{eq-eqb, ne_eqb, ltb-true, ltb-false}
 use Rattle.laws.proofs.Bools.{by_test}
 use Rattle.reading_walk.specs.Walk.{has_pass, greatest}
@@ -20,6 +20,24 @@ greatest_is (suc k) p ps h y n =
     (λ l. let e : p ≡ suc k = omega (arith, ltb-false p (suc k) l, h) in
     let t : has_pass ps (suc k) ≡ true = rw e at (y (omega (arith, e))) in
     rw (t, greatest) (sym e))
+
+-- it depends on the lowest 32 bits alone
+low_pass : (ps p : ℕ) → p < 32 → has_pass (ps % 2 ^ 32) (suc p) ≡ has_pass ps (suc p)
+unfolding has_pass
+low_pass ps p h =
+    let n : ℕ = 31 - p in
+    let e : (n + 1) + p ≡ 32 = omega (arith, h) in
+    let f : ps % 2 ^ 32 / 2 ^ p ≡ ps / 2 ^ p % 2 ^ (n + 1) = rw e at (field ps (n + 1) p) in
+    let g : suc p - 1 ≡ p = omega arith in
+    rw (g, f) (ap (λ (b : ℕ). eqb b 1) (mod-mod-pow (ps / 2 ^ p) n 1))
+
+greatest_low : (k ps : ℕ) → k ≤ 32 → greatest k (ps % 2 ^ 32) ≡ greatest k ps
+unfolding greatest
+greatest_low zero ps h = refl
+greatest_low (suc k) ps h = rw (low_pass ps k h, greatest_low k ps (omega arith))
+
+pub greatest_of_low : (ps : ℕ) → greatest 32 (ps % 2 ^ 32) ≡ greatest 32 ps
+greatest_of_low ps = greatest_low 32 ps (omega arith)
 
 -- how far the halving has come: passes were halved `pass` times, the last time not from 0
 pub record Halved (passes rest pass : ℕ) : Type 0 where

@@ -9,13 +9,16 @@ ghost use Rattle.reading_walk.specs.Spans.{span_at, span_after, open_before};
 ghost use Rattle.reading_bars.specs.Bars.{span_of, BarIs, LimitIs};
 ghost use Rattle.reading_bars.specs.Parts.{Here};
 
+// How many sets of the 32 passes there are.
+const PASS_SETS: u64 = 4294967296;
+
 // A part of a reading: where it begins, and how many measures it has. They lie within the reading's bytes.
 #[derive(Clone, Copy)]
 pub struct Part<'r> {
     pub reading: &'r [u8],
     pub at: usize,
     pub measures: usize,
-    ghost here: { Here reading.now at measures },
+    pub ghost here: { Here reading.now at measures },
 }
 
 // A measure: its barlines, the span that it lies in, and the span that is open behind it.
@@ -23,8 +26,8 @@ pub struct Part<'r> {
 pub struct Bar {
     pub left: u8,
     pub right: u8,
-    pub span: Option<u32>,
-    pub after: Option<u32>,
+    pub span: Option<u64>,
+    pub after: Option<u64>,
 }
 
 // The limit of sections; it is known for those that start below `end`.
@@ -35,7 +38,7 @@ pub struct Limit {
 }
 
 // The span of a measure, before which another is open.
-fn span_at(before: Option<u32>, volta: u8, passes: u32) -> Option<u32>
+fn span_at(before: Option<u64>, volta: u8, passes: u64) -> Option<u64>
     ensures { span_of result ≡ span_at (span_of before) volta passes }
 {
     if volta == 1 {
@@ -48,7 +51,7 @@ fn span_at(before: Option<u32>, volta: u8, passes: u32) -> Option<u32>
 }
 
 // The span that is open behind it.
-fn span_after(before: Option<u32>, volta: u8, passes: u32) -> Option<u32>
+fn span_after(before: Option<u64>, volta: u8, passes: u64) -> Option<u64>
     ensures { span_of result ≡ span_after (span_of before) volta passes }
 {
     if volta == 1 {
@@ -70,13 +73,13 @@ impl Part<'_> {
     }
 
     // Measure i, before which `before` is open.
-    pub fn bar_at(&self, i: usize, before: Option<u32>) -> Bar
+    pub fn bar_at(&self, i: usize, before: Option<u64>) -> Bar
         requires { i < self.now.measures }
         ensures { BarIs self.now.reading.now (record_at measure_width self.now.at i) before result }
     {
         let at = self.record_at(i);
         let volta = store::get_u8(self.reading, at + reading_records::VOLTA);
-        let passes = store::get_u32(self.reading, at + reading_records::PASSES);
+        let passes = u64::from(store::get_u32(self.reading, at + reading_records::PASSES));
         Bar {
             left: store::get_u8(self.reading, at + reading_records::LEFT),
             right: store::get_u8(self.reading, at + reading_records::RIGHT),
@@ -86,7 +89,7 @@ impl Part<'_> {
     }
 
     // The limit of the section that starts at measure `start`, before which `before` is open.
-    pub fn limit_from(&self, start: usize, before: Option<u32>) -> Limit
+    pub fn limit_from(&self, start: usize, before: Option<u64>) -> Limit
         requires start_in_part { start < self.now.measures }
         requires before_value { span_of before ≡ open_before self.now.reading.now self.now.at start }
         ensures start_lt_end { start < result.end }
@@ -123,7 +126,7 @@ pub fn closes(right: u8) -> bool
     right == 2 || right == 3
 }
 
-fn has_pass(passes: u32, pass: usize) -> bool
+fn has_pass(passes: u64, pass: usize) -> bool
     requires { (1 ≤ pass) × (pass ≤ 32) }
     ensures { result ≡ walk.has_pass passes pass }
 {
@@ -131,7 +134,7 @@ fn has_pass(passes: u32, pass: usize) -> bool
 }
 
 // A measure of this span is left out in this pass.
-pub fn is_skipped(span: Option<u32>, pass: usize) -> bool
+pub fn is_skipped(span: Option<u64>, pass: usize) -> bool
     requires { (1 ≤ pass) × (pass ≤ 32) }
     ensures { result ≡ walk.is_skipped (span_of span) pass }
 {
@@ -142,7 +145,8 @@ pub fn is_skipped(span: Option<u32>, pass: usize) -> bool
 }
 
 // The greatest of some passes, 0 if there is none: as often as they can be halved.
-fn greatest_of(passes: u32) -> usize
+fn greatest_of(passes: u64) -> usize
+    requires { passes < 2 ^ 32 }
     ensures { result ≡ walk.greatest 32 passes }
 {
     let mut rest = passes;
@@ -155,11 +159,11 @@ fn greatest_of(passes: u32) -> usize
 }
 
 // The greatest pass of a span, 0 if there is none.
-fn greatest_pass(span: Option<u32>) -> usize
+fn greatest_pass(span: Option<u64>) -> usize
     ensures { result ≡ walk.top_of (span_of span) }
 {
     match span {
-        Some(passes) => greatest_of(passes),
+        Some(passes) => greatest_of(passes % PASS_SETS),
         None => 0,
     }
 }

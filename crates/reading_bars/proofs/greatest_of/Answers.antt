@@ -14,7 +14,7 @@ pub loop-rest-smaller : goal.loop-rest-smaller
 loop-rest-smaller c = omega (arith, c.loop-rest-test.true)
 
 pub loop-rest-preserved : goal.loop-rest-preserved
-loop-rest-preserved c = let l = c.loop-rest in halved_more _ l.rest l.pass (omega (arith, c.ranges.passes)) c.loop-rest-test.true l.invariant
+loop-rest-preserved c = let l = c.loop-rest in halved_more _ l.rest l.pass c.requires c.loop-rest-test.true l.invariant
 
 pub returns : goal.returns
 returns c =
