@@ -82,8 +82,8 @@ unfolding answer_of verdict_text text_of
 refusal_of (refusal k m) n l e = ap text_of e
 refusal_of (reading ps) n l e = absurd (read≢refused _ n l (sym e))
 
-pub refused_text_lem : (v : Verdict) (x : Refused) → answer_as (Err x) ≡ answer_of v → refused_text (number_of x.refusal) x.line ≡ verdict_text v
-refused_text_lem v x e = refusal_of v (number_of x.refusal) x.line e
+pub refused_text_lem : (v : Verdict) (x : Refused) (n : ℕ) → n ≡ number_of x.refusal → answer_as (Err x) ≡ answer_of v → refused_text n x.line ≡ verdict_text v
+refused_text_lem v x n q e = ap (λ (m : ℕ). refused_text m x.line) q ∙ refusal_of v (number_of x.refusal) x.line e
 
 -- a reading
 read_of : (v : Verdict) (n : ℕ) → read n ≡ answer_of v → (ps : List Part) × (v ≡ reading ps)

@@ -30,7 +30,7 @@ pub fn tally(input: &[u8], reading: &mut [u8], scratch: &mut [u8], out: &mut [u8
     }
     match abc_text::parse_abc(input, reading, scratch, Edition::First) {
         Ok(_) => tally_text::append_reading(reading, out),
-        Err(refused) => tally_text::append_refusal(out, refused),
+        Err(refused) => { tally_text::append_refusal(out, u8::from(refused.refusal), refused.line) }
     }
 }
 

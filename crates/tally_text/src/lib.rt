@@ -4,13 +4,11 @@
 ghost use Rattle.std.specs.Prelude.{◌≡◌, ◌+◌, ◌*◌, ◌≤◌, length};
 ghost use Rattle.laws.specs.Bytes.{u32_at};
 ghost use Rattle.reader.specs.Tally as tally;
-ghost use Rattle.refusals.specs.Numbers.{number_of};
 ghost use Rattle.reading_records.specs.Widths.{first_part};
 ghost use Rattle.reading_sections.specs.Sections.{PartsWithin};
 ghost use Rattle.tally_counts.specs.Counted.{counts_from};
 ghost use Rattle.tally_text.specs.Printed.{decimal, field, line, lines, parts_text, refused_text, out_bytes, Adds};
 
-use refusals::Refused;
 use tally_counts::Counts;
 
 // Puts the bytes of src at `at`; where they end.
@@ -86,12 +84,11 @@ pub fn append_reading(reading: &[u8], out: &mut [u8]) -> usize
 }
 
 // Puts a refusal.
-pub fn append_refusal(out: &mut [u8], refused: Refused) -> usize
+pub fn append_refusal(out: &mut [u8], n: u8, l: u32) -> usize
     requires { out_bytes ≤ length out.old }
-    ensures { Adds out.old 0 (refused_text (number_of refused.refusal) refused.line) out.new result }
+    ensures { Adds out.old 0 (refused_text n l) out.new result }
 {
-    let number = u8::from(refused.refusal);
-    let a = append_field(out, 0, b"refused ", u64::from(number));
-    let b = append_field(out, a, b" ", u64::from(refused.line));
+    let a = append_field(out, 0, b"refused ", u64::from(n));
+    let b = append_field(out, a, b" ", u64::from(l));
     append_bytes(out, b, b"\n")
 }

@@ -35,7 +35,7 @@ returns-in-Err c =
     let p = c.in-Err.ensures in
     let q = c.requires in
     let l = c.if-input-gt-MOST_INPUT.false in
-    let t = refused_text_lem _ _ p.result_value in
+    let t = refused_text_lem _ _ _ c.from.ensures p.result_value in
     let h = whole _ c.append_refusal.ensures (t ∙ short _ _ _ l q.0 q.1) in
     record {
       prefix_len = h.counts;
