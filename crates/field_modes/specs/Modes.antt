@@ -1,5 +1,5 @@
 -- MODES as the code finds them: by the words of the key text, in the value from left to right.
-use Rattle.std.specs.Prelude.{ℕ, Bool, cond, not, ◌&&◌, List, [], ◌∷◌, map, drop, Option, Some, None}
+use Rattle.std.specs.Prelude.{ℕ, ◌<◌, ◌≡◌, Bool, cond, not, ◌&&◌, List, [], ◌∷◌, ◌++◌, length, map, drop, Option, Some, None}
 use Rattle.laws.specs.Lists.{filter, starts_with}
 use Rattle.standard.specs.Bytes.{is, first, lower}
 use Rattle.standard.specs.Keys as standard
@@ -37,6 +37,12 @@ mode_at w = let t = map lower w in or_lone_m t (mode_in mode_names t)
 -- the words of the key text
 abbrev pub key_words : List ℕ → List (List ℕ)
 key_words value = filter is_key_word (field_words value)
+
+-- the first word of the key text in v, with a byte at least, and what stands behind it in v
+pub record KeyWord (v word behind : List ℕ) : Type 0 where
+  pub bytes : 0 < length word
+  pub place : (gap : List ℕ) × (v ≡ gap ++ (word ++ behind))
+  pub words : key_words v ≡ word ∷ key_words behind
 
 -- the mode behind the name: in what is left of the name's word, else in the next word
 unfoldable pub mode_from : List ℕ → List (List ℕ) → standard.Mode

@@ -2,10 +2,10 @@
 // mode behind that or, where the word ends there, at the front of the second.
 #![tactic(auto)]
 
-ghost use Rattle.std.specs.Prelude.{◌≡◌, ◌<◌, ◌∷◌, [], map, length, MatchOption};
+ghost use Rattle.std.specs.Prelude.{◌≡◌, [], map, MatchOption};
 ghost use Rattle.standard.specs.Bytes.{lower};
 ghost use Rattle.standard.specs.Keys.{flatter};
-ghost use Rattle.field_modes.specs.Modes.{mode_as, lone_m, named_in, mode_at, key_words, mode_from};
+ghost use Rattle.field_modes.specs.Modes.{mode_as, lone_m, named_in, mode_at, key_words, KeyWord, mode_from};
 
 // The modes in the order of the line of fifths: on one tonic lydian has a sharp more than major, which is ionian, and each next one a sharp fewer.
 #[derive(Clone, Copy, Debug, PartialEq, Eq)]
@@ -115,7 +115,7 @@ fn mode_at(word: &[u8]) -> Mode
 
 // The first word of the key text in the value, and what stands behind it.
 pub fn key_word(value: &[u8]) -> Option<(&[u8], &[u8])>
-    ensures { MatchOption result (key_words value.now ≡ []) (λ word. (0 < length word.0.now) × (key_words value.now ≡ word.0.now ∷ key_words word.1.now)) }
+    ensures { MatchOption result (key_words value.now ≡ []) (λ word. KeyWord value.now word.0.now word.1.now) }
 {
     let mut rest = value;
     while let Some((word, behind)) = text_words::split_word(rest) {

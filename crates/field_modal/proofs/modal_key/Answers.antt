@@ -9,4 +9,4 @@ unfolding plain_key
 returns-in-None c = sym (modal_none _ c.in-None.ensures)
 
 pub returns-in-Some : goal.returns-in-Some
-returns-in-Some c = c.word_key.ensures ∙ sym (modal_value _ _ _ c.in-Some.ensures.1)
+returns-in-Some c = c.word_key.ensures ∙ sym (modal_value _ _ _ c.in-Some.ensures.words)

@@ -15,7 +15,7 @@ pub returns-in-Some : goal.returns-in-Some
 unfolding mode_from
 returns-in-Some c =
     let empty = eqb-true _ _ (sym c.is_empty.ensures ∙ c.if-not-is_empty.false) in
-    c.mode_at-in-Some.ensures ∙ sym (from_next _ _ empty ∙ ap (mode_from []) c.in-Some.ensures.1)
+    c.mode_at-in-Some.ensures ∙ sym (from_next _ _ empty ∙ ap (mode_from []) c.in-Some.ensures.words)
 
 pub returns-in-None : goal.returns-in-None
 unfolding mode_from mode_at or_lone_m mode_in mode_names
