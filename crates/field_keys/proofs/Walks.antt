@@ -6,7 +6,6 @@ use native.Mathlib.Omega.{arith}
 use mathlib.Core.Path.{◌≡◌, refl, ap}
 use mathlib.Core.Bool.{Bool, true, false, ◌||◌}
 use Rattle.std.specs.Prelude.{Option, Some, None, unwrap_or}
-use Rattle.std.specs.Option.{option_or}
 use Rattle.std.specs.Bool.{then_some}
 use Rattle.reader.specs.Pieces.{field_words}
 use Rattle.reader.specs.Keys.{is_key_word}
@@ -43,12 +42,6 @@ pub first_here : (here : Bool) (n : Name) → then_some here n ≡ first_found N
 unfolding first_found
 first_here true n = refl
 first_here false n = refl
-
-pub first_or : (o : Option Name) (here : Bool) (n : Name) → option_or o (then_some here n) ≡ first_found o here n
-unfolding first_found
-first_or (Some m) here n = refl
-first_or None true n = refl
-first_or None false n = refl
 
 pub major_or : (o : Option Name) (n : Name) → key_named false (unwrap_or o n) ≡ major_else o n
 unfolding major_else

@@ -8,7 +8,7 @@ ghost use Rattle.laws.specs.Lists.{elem};
 ghost use Rattle.standard.specs.Bytes.{lower};
 ghost use Rattle.editions.specs.declared.Edition.TheVariants.{First};
 ghost use Rattle.reader.specs.Keys.{is_key_word, key_of};
-ghost use Rattle.field_keys.specs.Passed.{key_as, pass_byte, pass_word, texts, key_named, key_by};
+ghost use Rattle.field_keys.specs.Passed.{key_as, first_found, pass_byte, pass_word, texts, key_named, key_by};
 
 use field_tonics::Name;
 
@@ -22,11 +22,23 @@ pub struct Key {
 // What was met in the part of the key text that was passed: its name; the name before its last byte, if that is an m; the name before the
 // first `min` and before the first `maj`.
 #[derive(Clone, Copy, Debug, PartialEq, Eq)]
-struct Passed {
-    name: Name,
-    ended: Option<Name>,
-    minor: Option<Name>,
-    major: Option<Name>,
+pub struct Passed {
+    pub name: Name,
+    pub ended: Option<Name>,
+    pub minor: Option<Name>,
+    pub major: Option<Name>,
+}
+
+// The first of what was met before and what stands here.
+#[tactic(auto, unfolding(crate::specs::Passed::first_found))]
+fn first_found(found: Option<Name>, here: bool, name: Name) -> Option<Name>
+    ensures { result ≡ first_found found here name }
+{
+    match found {
+        Some(before) => Some(before),
+        None if here => Some(name),
+        None => None,
+    }
 }
 
 // One byte more; `min` and `maj`: the text says so from this byte on.
@@ -36,8 +48,8 @@ fn pass_byte(p: Passed, c: u8, min: bool, maj: bool) -> Passed
     Passed {
         name: field_tonics::with_byte(p.name, c),
         ended: (c == b'm').then_some(p.name),
-        minor: p.minor.or(min.then_some(p.name)),
-        major: p.major.or(maj.then_some(p.name)),
+        minor: first_found(p.minor, min, p.name),
+        major: first_found(p.major, maj, p.name),
     }
 }
 

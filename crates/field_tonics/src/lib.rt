@@ -166,16 +166,21 @@ pub fn with_byte(name: Name, c: u8) -> Name
     }
 }
 
+// Its first byte, 0 if there is none.
+pub fn first_of(name: Name) -> u8
+    ensures { result ≡ first_of name }
+{
+    match name {
+        Name::Empty => 0,
+        Name::One(first) | Name::Gap(first) | Name::Two(first, _) | Name::Long(first) => first,
+    }
+}
+
 // Its first byte is a capital.
 pub fn begins_with_capital(name: Name) -> bool
     ensures { result ≡ is_capital (first_of name) }
 {
-    match name {
-        Name::Empty => false,
-        Name::One(first) | Name::Gap(first) | Name::Two(first, _) | Name::Long(first) => {
-            text_bytes::is_within(b'A', b'Z', first)
-        }
-    }
+    text_bytes::is_within(b'A', b'Z', first_of(name))
 }
 
 // The fifths of a name in a table of fifteen.

@@ -49,7 +49,7 @@ pub fn trim(text: &[u8]) -> &[u8]
 }
 
 // Where the word at the front of the text ends.
-fn word_end(text: &[u8]) -> usize
+pub fn word_end(text: &[u8]) -> usize
     ensures within { result ≤ length text.now }
     ensures end { result ≡ count_while not_space text.now }
 {

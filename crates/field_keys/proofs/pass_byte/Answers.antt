@@ -1,11 +1,11 @@
 -- `field_keys::pass_byte` meets its contract: each field is a callee's answer.
 use lib.Dec.{eqb}
 use Rattle.field_keys.specs.Passed.{pass_byte}
-use Rattle.field_keys.proofs.Walks.{first_here, first_or}
+use Rattle.field_keys.proofs.Walks.{first_here}
 use Rattle.field_keys.proofs.pass_byte.Goals as goal
 
 pub returns : goal.returns
 unfolding pass_byte
 returns c =
-    rw (c.with_byte.ensures, c.then_some.ensures, c.or.ensures, c.then_some-2.ensures, c.or-2.ensures, c.then_some-3.ensures)
-    (rw (first_here (eqb c.args.c 109) c.args.p.name, first_or c.args.p.minor c.args.min c.args.p.name, first_or c.args.p.major c.args.maj c.args.p.name))
+    rw (c.with_byte.ensures, c.then_some.ensures, c.first_found.ensures, c.first_found-2.ensures)
+    (rw (first_here (eqb c.args.c 109) c.args.p.name))
