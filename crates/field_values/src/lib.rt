@@ -166,6 +166,22 @@ pub fn read_key(edition: Edition, value: &[u8]) -> Result<Key, Refusal>
     }
 }
 
+// An inline K by its value.
+#[tactic(auto, unfolding(reader::specs::Fields::key_refusal))]
+fn inline_key(edition: Edition, value: &[u8]) -> Result<Key, Refusal>
+    ensures { KeyIs edition value.now result }
+{
+    match edition {
+        Edition::First => {
+            if has_middle(value) {
+                return Err(Refusal::Middle);
+            }
+            Ok(field_keys::parse_key(value))
+        }
+        Edition::Second => field_modal::modal_field(value),
+    }
+}
+
 // An inline field, the bytes between its brackets: its name is one letter, and the value stands behind the colon.
 pub fn parse_inline_field(edition: Edition, field: &[u8]) -> Result<Field, Refusal>
     ensures { token_as result ≡ field_token edition field.now }
@@ -180,7 +196,7 @@ pub fn parse_inline_field(edition: Edition, field: &[u8]) -> Result<Field, Refus
             None => Ok(Field::Other),
         },
         b'M' => Ok(Field::Meter(parse_meter(value))),
-        b'K' => Ok(Field::Key(read_key(edition, value)?)),
+        b'K' => Ok(Field::Key(inline_key(edition, value)?)),
         _ => Ok(Field::Other),
     }
 }

@@ -28,16 +28,16 @@ returns-in-77 c =
     let colon = sym c.byte_at.ensures ∙ c.if-byte_at-ne58.false in
     ap meter (rw take_rest at c.parse_meter.ensures) ∙ sym (field_meter c.args.edition c.args.field.now colon c.in-77.is)
 
-pub returns-in_err-read_key-in-75 : goal.returns-in_err-read_key-in-75
-returns-in_err-read_key-in-75 c =
+pub returns-in_err-inline_key-in-75 : goal.returns-in_err-inline_key-in-75
+returns-in_err-inline_key-in-75 c =
     let colon = sym c.byte_at.ensures ∙ c.if-byte_at-ne58.false in
-    key_refused _ _ _ _ c.from_residual.ensures (rw take_rest at c.in_err-read_key-in-75.ensures) ∙ sym (field_key c.args.edition c.args.field.now colon c.in-75.is)
+    key_refused _ _ _ _ c.from_residual.ensures (rw take_rest at c.in_err-inline_key-in-75.ensures) ∙ sym (field_key c.args.edition c.args.field.now colon c.in-75.is)
 
-pub returns-in_ok-read_key-in-75 : goal.returns-in_ok-read_key-in-75
+pub returns-in_ok-inline_key-in-75 : goal.returns-in_ok-inline_key-in-75
 unfolding key_token token_unless
-returns-in_ok-read_key-in-75 c =
+returns-in_ok-inline_key-in-75 c =
     let colon = sym c.byte_at.ensures ∙ c.if-byte_at-ne58.false in
-    let k = rw take_rest at c.in_ok-read_key-in-75.ensures in
+    let k = rw take_rest at c.in_ok-inline_key-in-75.ensures in
     rw (field_key c.args.edition c.args.field.now colon c.in-75.is, key_token, k.0, k.1)
 
 pub returns-in_default : goal.returns-in_default
