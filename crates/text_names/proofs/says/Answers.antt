@@ -3,6 +3,7 @@ use Prim.Native.Nat.{◌≤◌}
 use mathlib.Core.Path.{refl, sym, ◌∙◌}
 use mathlib.Core.List.{map}
 use native.Mathlib.Omega.{arith}
+use borrow.Author.Rules.{rules}
 use lib.ListN.{length, length-map}
 use Rattle.laws.proofs.Lists.{starts_with_end}
 use Rattle.standard.specs.Bytes.{lower}
@@ -18,12 +19,12 @@ loop-i-init c = refl
 pub returns-then-name-i : goal.returns-then-name-i
 returns-then-name-i c =
     let h : length c.args.name.now ≤ length (map lower c.args.text.now) = omega (arith, length-map c.args.text.now lower) in
-    sym (starts_off _ _ _ h c.loop-i-test.true (λ e. c.if-name-i.true (e ∙ lower_at c.args.text.now c.loop-i.i ∙ sym c.to_ascii_lowercase.ensures.value))) ∙ c.loop-i.invariant
+    sym (starts_off _ _ _ h c.loop-i-test.true (λ e. c.if-name-i.true (e ∙ lower_at c.args.text.now c.loop-i.i ∙ search rules))) ∙ c.loop-i.invariant
 
 pub loop-i-preserved : goal.loop-i-preserved
 loop-i-preserved c =
     let h : length c.args.name.now ≤ length (map lower c.args.text.now) = omega (arith, length-map c.args.text.now lower) in
-    sym (starts_on _ _ _ h c.loop-i-test.true (c.if-name-i.false ∙ c.to_ascii_lowercase.ensures.value ∙ sym (lower_at c.args.text.now c.loop-i.i))) ∙ c.loop-i.invariant
+    sym (starts_on _ _ _ h c.loop-i-test.true (c.if-name-i.false ∙ search rules ∙ sym (lower_at c.args.text.now c.loop-i.i))) ∙ c.loop-i.invariant
 
 pub returns : goal.returns
 returns c =
