@@ -42,6 +42,7 @@ fn trim_end(text: &[u8]) -> &[u8]
 }
 
 // The text without white space at either end.
+#[tactic(auto, unfolding(reader::specs::Pieces::trimmed))]
 pub fn trim(text: &[u8]) -> &[u8]
     ensures { result.now ≡ trimmed text.now }
 {
