@@ -3,6 +3,7 @@ use Prim.Native.Nat.{◌<◌}
 use mathlib.Core.Path.{◌∙◌}
 use mathlib.Core.Logic.{inl, inr}
 use native.Mathlib.Omega.{arith}
+use borrow.Author.Rules.{rules}
 use Rattle.reader.specs.Keys.{fifths_of}
 use Rattle.field_tonics.specs.Names.{tonic_in}
 use Rattle.field_tonics.proofs.Tables.{one_byte, two_bytes}
@@ -24,7 +25,7 @@ pub returns-in-Two : goal.returns-in-Two
 unfolding tonic_in
 returns-in-Two c =
     let h : c.in-Two.first < 256 = omega arith in
-    rw c.in-Two.is (c.looked_up-in-Two.ensures ∙ two_bytes _ _ _ h)
+    rw c.in-Two.is (search rules ∙ two_bytes c.args.minor c.in-Two.first c.in-Two.second h)
 
 pub returns-in-Empty : goal.returns-in-Empty
 unfolding tonic_in fifths_of
