@@ -30,29 +30,42 @@ pub struct Count {
     pub bottom: u8,
 }
 
-// A token more: refusal 11 at the 100,001st note.
+// A token more: refusal 11 at the 100,001st note. Each field of what it makes is named: `..count` moves neighbouring fields as one word, which the next token wants in pieces.
 fn after_effect(count: Count, effect: Effect) -> Result<Count, Refusal>
     ensures { (es : List tokens.Effect) → counted_on (by_number result) es ≡ counted_for count (effect_as effect ∷ es) }
 {
     match effect {
         Effect::Counts if count.notes < 100000 => Ok(Count {
             notes: count.notes + 1,
-            ..count
+            unit: count.unit,
+            top: count.top,
+            bottom: count.bottom,
         }),
         Effect::Counts => Err(Refusal::TooManyNotes),
         Effect::Refuses(refusal) => Err(refusal),
-        Effect::SetsUnit(unit) => Ok(Count { unit, ..count }),
+        Effect::SetsUnit(unit) => Ok(Count {
+            notes: count.notes,
+            unit,
+            top: count.top,
+            bottom: count.bottom,
+        }),
         Effect::SetsMeter { top, bottom } => Ok(Count {
+            notes: count.notes,
+            unit: count.unit,
             top,
             bottom,
-            ..count
         }),
-        Effect::NoEffect => Ok(count),
+        Effect::NoEffect => Ok(Count {
+            notes: count.notes,
+            unit: count.unit,
+            top: count.top,
+            bottom: count.bottom,
+        }),
     }
 }
 
 // The tokens of a line from left to right, to the first refusal: the cursor is lent for each and moved on.
-fn count_line(edition: Edition, line: &[u8], start: Count) -> Result<Count, Refusal>
+pub fn count_line(edition: Edition, line: &[u8], start: Count) -> Result<Count, Refusal>
     ensures { by_number result ≡ counted_for start (effects edition line.now) }
 {
     let classes = token_symbols::letter_classes();

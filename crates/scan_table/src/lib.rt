@@ -128,7 +128,7 @@ pub fn cut_place(len: usize, at: usize, end: usize) -> Place
 // VOICES
 
 // The identifier of voice i.
-fn get_voice<'t>(text: &'t [u8], scratch: &[u8], i: usize) -> &'t [u8]
+pub fn get_voice<'t>(text: &'t [u8], scratch: &[u8], i: usize) -> &'t [u8]
     requires { voice_row_width * i + voice_row_width ≤ length scratch.now }
     ensures { result.now ≡ voice_in text.now (dec_voice (part scratch.now (voice_row_width * i) voice_row_width)) }
 {
