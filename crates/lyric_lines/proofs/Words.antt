@@ -19,7 +19,7 @@ use Rattle.lyric_stops.specs.Stops.{Inside, farthest, note_at}
 use Rattle.lyric_stops.proofs.Table.{how_many, stops_same}
 use Rattle.lyrics.specs.declared.Row.{Row}
 use Rattle.lyrics.specs.declared.Sheet.{Sheet}
-use Rattle.lyrics.specs.Sheet.{lyric_row_width, syllable_of, apply_as, apply_row, syllables_in, Kept, RowAppended}
+use Rattle.lyrics.specs.Sheet.{lyric_row_width, code_of, row_read, syllable_of, apply_as, apply_row, syllables_in, Kept, RowAppended}
 use Rattle.reader.specs.Lyrics as Lyrics
 use Rattle.lyrics.proofs.Rows.{happens_put}
 use Rattle.lyrics.proofs.Sheets as sheets
@@ -56,7 +56,7 @@ held_none s h v place k e =
     }
 
 abbrev pub row : ℕ → Option code.Syllabic → ℕ → ℕ → Row
-row verse syllabic at end = record { verse = verse; syllabic = syllabic; at = at; end = end }
+row verse syllabic at end = record { verse = verse; code = code_of syllabic; at = at; end = end }
 
 pub held_row : (s t : List ℕ) (h : Sheet) (v place n : ℕ) → (place ≡ 0 → ⊥) → RowAppended s t h (place - 1) (row v None 0 0) n → Held s t h v place n
 unfolding note_at held_at apply_as
@@ -65,7 +65,7 @@ held_row s t h v (suc j) n some m =
     let e : suc j - 1 ≡ j = omega arith in
     record {
       kept = m.kept;
-      sung = λ text. m.sung text ∙ ap (λ (k : ℕ). alter_at k (apply_row text (row v None 0 0)) (syllables_in text s h)) e;
+      sung = λ text. m.sung text ∙ ap (λ (k : ℕ). alter_at k (apply_row text (row_read (row v None 0 0))) (syllables_in text s h)) e;
       more = m.more;
       one = m.one;
       stops = stops_same s t (stops_of h) m.stops;
@@ -141,7 +141,7 @@ module _ (ed : Edition) (s : List ℕ) (h : Sheet) (v : ℕ) (p q : Place) where
         kept = m.kept;
         stands = λ start. stands_next ed start xs p q t;
         sung = λ start hints st text ws.
-            ap (sing_at ed start v xs q ws) (m.sung text ∙ ap (λ (f : List Lyrics.Syllable → List Lyrics.Syllable). alter_at p.note f (syllables_in text s h)) (happens_put text (row v (Some y.syllabic) y.at y.end) y.syllabic refl))
+            ap (sing_at ed start v xs q ws) (m.sung text ∙ ap (λ (f : List Lyrics.Syllable → List Lyrics.Syllable). alter_at p.note f (syllables_in text s h)) (happens_put text (row_read (row v (Some y.syllabic) y.at y.end)) y.syllabic (sheets.syllabic_back (Some y.syllabic))))
             ∙ place_put ed start xs p q v ws t st hints (as_syllabic y.syllabic) (syllable_text (between text y.at y.end)) (syllables_in text s h) (lists text);
         near = taken_near t;
         more = m.more;

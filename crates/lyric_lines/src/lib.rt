@@ -114,7 +114,7 @@ fn put_hold(scratch: &mut [u8], sheet: Sheet, verse: u8, place: usize) -> usize
     }
     let row = Row {
         verse,
-        syllabic: None,
+        code: lyrics::code_of(None),
         at: 0,
         end: 0,
     };
@@ -147,7 +147,7 @@ fn sing_syllable(
 {
     let row = Row {
         verse,
-        syllabic: Some(syllable.syllabic),
+        code: lyrics::code_of(Some(syllable.syllabic)),
         at: syllable.at as u32,
         end: syllable.end as u32,
     };

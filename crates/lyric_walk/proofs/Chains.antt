@@ -19,8 +19,7 @@ use Rattle.reader.specs.Lyrics.{Syllable, put, held}
 use Rattle.std.specs.Prelude.{Option}
 use Rattle.lyric_words.specs.declared.Syllabic.{Syllabic}
 use Rattle.lyrics.specs.declared.Sheet.{Sheet}
-use Rattle.lyrics.specs.declared.Row.{Row}
-use Rattle.lyrics.specs.Sheet.{lyric_head_width, lyric_row_width, verse_at, code_at, start_at, end_at, next_at, syllabic_in, row_of, next_of, row_at, syllable_of, apply_as, apply_row, sung_from, head_of, heads_in, syllables_in}
+use Rattle.lyrics.specs.Sheet.{lyric_head_width, lyric_row_width, verse_at, code_at, start_at, end_at, next_at, syllabic_in, RowRead, row_of, next_of, row_at, syllable_of, apply_as, apply_row, sung_from, head_of, heads_in, syllables_in}
 use Rattle.lyric_walk.specs.Walks.{chain, HeadIs, LinkIs}
 use Rattle.lyric_walk.proofs.Verses.{held_verse, by_syllabic}
 
@@ -113,7 +112,7 @@ link_is s log k low o at end place next b a e p n =
     record {
       low = capped k place next n (omega arith);
       row = sym (row_is s (log + lyric_row_width * (k - 1)) o at end b a e);
-      sung = λ text. chain_row text s log (k - 1) k next one c ∙ ap (λ (r : Row). apply_row text r (chain text s log next)) (row_is s (log + lyric_row_width * (k - 1)) o at end b a e);
+      sung = λ text. chain_row text s log (k - 1) k next one c ∙ ap (λ (r : RowRead). apply_row text r (chain text s log next)) (row_is s (log + lyric_row_width * (k - 1)) o at end b a e);
     }
 
 -- THE HEAD of a note
@@ -150,7 +149,7 @@ module _ (Q : ℕ → Type 0) where
   held_all v [] a = tt
   held_all v (y ∷ ys) a = (subst Q (sym (held_verse v y)) a.0, held_all v ys a.1)
 
-  pub row_all : (text : List ℕ) (r : Row) (ys : List Syllable) → Q r.verse → All (λ (y : Syllable). Q y.verse) ys → All (λ (y : Syllable). Q y.verse) (apply_row text r ys)
+  pub row_all : (text : List ℕ) (r : RowRead) (ys : List Syllable) → Q r.verse → All (λ (y : Syllable). Q y.verse) ys → All (λ (y : Syllable). Q y.verse) (apply_row text r ys)
   unfolding apply_as syllable_of
   row_all text r ys h a =
       by_syllabic r.syllabic (λ e. rw (e, apply_as) (held_all r.verse ys a)) (λ c e. rw (e, apply_as) (put_all (λ (y : Syllable). Q y.verse) (syllable_of text r c) ys h a))

@@ -13,8 +13,7 @@ use Rattle.laws.proofs.Bools.{by_test}
 use Rattle.reader.specs.Lyrics.{Syllable, held}
 use Rattle.std.specs.Prelude.{Option, Some}
 use Rattle.lyric_words.specs.declared.Syllabic.{Syllabic}
-use Rattle.lyrics.specs.declared.Row.{Row}
-use Rattle.lyrics.specs.Sheet.{syllable_of, apply_row}
+use Rattle.lyrics.specs.Sheet.{RowRead, syllable_of, apply_row}
 use Rattle.lyric_walk.specs.declared.Link.{Link}
 use Rattle.lyric_walk.specs.Walks.{chain, row_of_link, LinkIs, of_verse, syllable_is, found_of, found_at, first_place, held_since, window, Wide, Clear, TakesRow, InSpan, Gathered}
 use Rattle.lyric_walk.proofs.Chains.{chain_none, row_all}
@@ -32,7 +31,7 @@ noting_start : (s : List ℕ) (log k v p : ℕ) (x : Bool) → p ≡ 0 → x ≡
 noting_start s log k v p x e f = record { low = omega (arith, e); ahead = λ text. rw (e, f) }
 
 -- the syllable of a row
-found_is : (text : List ℕ) (r : Row) (c : Syllabic) (v : ℕ) (x : Bool) → r.syllabic ≡ Some c → r.verse ≡ v → held_by v x (syllable_of text r c ∷ []) ≡ syllable_is text (found_of r x) ∷ []
+found_is : (text : List ℕ) (r : RowRead) (c : Syllabic) (v : ℕ) (x : Bool) → r.syllabic ≡ Some c → r.verse ≡ v → held_by v x (syllable_of text r c ∷ []) ≡ syllable_is text (found_of r x) ∷ []
 unfolding syllable_of syllable_is held
 found_is text r c v true f e = rw (f, eq-eqb r.verse v e)
 found_is text r c v false f e = rw f
@@ -65,7 +64,7 @@ module _ (s : List ℕ) (log k v p : ℕ) (x : Bool) (place : ℕ) (w : Noting s
       sung text c f =
           ap (held_by v x) (of_found text (row_of_link r) v (chain text s log r.next) c d f (rising_chain text s log r.next r.next))
           ∙ found_is text (row_of_link r) c v x f d
-          ∙ ap (λ (q : Row). syllable_is text (found_of q x) ∷ []) i.row
+          ∙ ap (λ (q : RowRead). syllable_is text (found_of q x) ∷ []) i.row
           ∙ sym (rw (ne_eqb place 0 (λ z. absurd (omega (arith, z)))))
 
 -- THE LEAST AND THE GREATEST VERSE

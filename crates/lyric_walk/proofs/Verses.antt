@@ -10,10 +10,9 @@ use borrow.Author.Tests.{eq-eqb, ne_eqb, eqb-true, eqb-false, le-leb, lt-leb, lt
 use Rattle.laws.specs.Lists.{All}
 use Rattle.laws.proofs.Bools.{by_test}
 use Rattle.reader.specs.Lyrics.{Syllable, put, held}
-use Rattle.lyrics.specs.declared.Row.{Row}
 use Rattle.std.specs.Prelude.{Option, Some, None}
 use Rattle.lyric_words.specs.declared.Syllabic.{Syllabic}
-use Rattle.lyrics.specs.Sheet.{syllable_of, apply_as, apply_row, sung_from, row_of, row_at, next_of}
+use Rattle.lyrics.specs.Sheet.{syllable_of, apply_as, apply_row, sung_from, RowRead, row_of, row_at, next_of}
 use Rattle.lyric_walk.specs.Walks.{of_verse, within, InSpan}
 
 -- RISING VERSES
@@ -45,7 +44,7 @@ pub by_syllabic : {P : Type 0} (o : Option Syllabic) → (o ≡ None → P) → 
 by_syllabic None f g = f refl
 by_syllabic (Some c) f g = g c refl
 
-pub rising_row : (text : List ℕ) (r : Row) (ys : List Syllable) → Rising 0 ys → Rising 0 (apply_row text r ys)
+pub rising_row : (text : List ℕ) (r : RowRead) (ys : List Syllable) → Rising 0 ys → Rising 0 (apply_row text r ys)
 unfolding apply_as syllable_of
 rising_row text r ys h = by_syllabic r.syllabic (λ e. rw (e, apply_as) (rising_held 0 r.verse ys h)) (λ c e. rw (e, apply_as) (rising_put 0 (syllable_of text r c) ys (omega arith) h))
 
@@ -135,7 +134,7 @@ held_by_lem v true ys = held_again v ys
 held_by_lem v false ys = refl
 
 -- A ROW of another verse; a hold of this verse; its syllable
-module _ (text : List ℕ) (r : Row) (v : ℕ) (ys : List Syllable) where
+module _ (text : List ℕ) (r : RowRead) (v : ℕ) (ys : List Syllable) where
   pub of_other : (r.verse ≡ v → ⊥) → of_verse v (apply_row text r ys) ≡ of_verse v ys
   unfolding apply_as syllable_of
   of_other d =

@@ -9,8 +9,7 @@ use Rattle.reader.specs.Lyrics.{Syllable}
 use Rattle.lyric_words.specs.declared.Syllabic.{Syllabic}
 use Rattle.lyric_words.specs.Words.{as_syllabic}
 use Rattle.lyrics.specs.declared.Sheet.{Sheet}
-use Rattle.lyrics.specs.declared.Row.{Row}
-use Rattle.lyrics.specs.Sheet.{lyric_head_width, lyric_row_width, row_of, row_at, apply_row, sung_from, syllables_in}
+use Rattle.lyrics.specs.Sheet.{lyric_head_width, lyric_row_width, RowRead, row_of, row_at, apply_row, sung_from, syllables_in}
 use Rattle.lyric_walk.specs.declared.Found.{Found}
 use Rattle.lyric_walk.specs.declared.Span.{Span}
 use Rattle.lyric_walk.specs.declared.Sole.{Sole}
@@ -31,7 +30,7 @@ pub record HeadIs (s : List ℕ) (h : Sheet) (note k : ℕ) : Type 0 where
   pub low : k ≤ h.count
   pub sung : (text : List ℕ) → get_or (syllables_in text s h) note [] ≡ chain text s h.log k
 
-abbrev pub row_of_link : Link → Row
+abbrev pub row_of_link : Link → RowRead
 row_of_link r = record { verse = r.verse; syllabic = r.syllabic; at = r.at; end = r.end }
 
 -- r is row k, and the chain goes on below it
@@ -53,7 +52,7 @@ abbrev pub within : ℕ → ℕ → List Syllable → List Syllable
 within a b ys = filter (λ (y : Syllable). leb a y.verse && ltb y.verse b) ys
 
 -- row p of the log, from 1, as a syllable, which no hold is; held, or not
-abbrev pub found_of : Row → Bool → Found
+abbrev pub found_of : RowRead → Bool → Found
 found_of r x = record { verse = r.verse; syllabic = unwrap_or r.syllabic Syllabic.Middle; extend = x; at = r.at; end = r.end }
 
 abbrev pub found_at : List ℕ → ℕ → ℕ → Bool → Found

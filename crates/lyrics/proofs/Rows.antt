@@ -5,11 +5,10 @@ use mathlib.Core.List.{List}
 use Rattle.std.specs.Prelude.{Some}
 use Rattle.reader.specs.Lyrics.{Syllable, put}
 use Rattle.lyric_words.specs.declared.Syllabic as code
-use Rattle.lyrics.specs.declared.Row.{Row}
-use Rattle.lyrics.specs.Sheet.{syllable_of, apply_as, apply_row}
+use Rattle.lyrics.specs.Sheet.{RowRead, syllable_of, apply_as, apply_row}
 
 -- one that is no hold
-pub happens_put : (text : List ℕ) (r : Row) (c : code.Syllabic) → r.syllabic ≡ Some c → apply_row text r ≡ put (syllable_of text r c)
+pub happens_put : (text : List ℕ) (r : RowRead) (c : code.Syllabic) → r.syllabic ≡ Some c → apply_row text r ≡ put (syllable_of text r c)
 unfolding apply_as
 happens_put text r c e = λ i ys. at ys i
   where

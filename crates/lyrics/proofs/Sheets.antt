@@ -23,15 +23,15 @@ use Rattle.lyric_words.specs.declared.Syllabic as code
 use Rattle.lyric_words.specs.declared.Syllabic.TheVariants as S
 use Rattle.lyrics.specs.declared.Sheet.{Sheet}
 use Rattle.lyrics.specs.declared.Row.{Row}
-use Rattle.lyrics.specs.Sheet.{lyric_head_width, lyric_stop_width, lyric_row_width, stops_from, with_count, row_bytes, code_of, syllabic_in, row_of, next_of, row_at, apply_row, sung_from, head_of, heads_in, syllables_in, Kept, Room, Outside, RowAppended}
+use Rattle.lyrics.specs.Sheet.{lyric_head_width, lyric_stop_width, lyric_row_width, stops_from, with_count, row_bytes, code_of, syllabic_in, RowRead, row_read, row_of, next_of, row_at, apply_row, sung_from, head_of, heads_in, syllables_in, Kept, Room, Outside, RowAppended}
 
 -- A ROW
 pub length_row : (r : Row) (next : ℕ) → length (row_bytes r next) ≡ lyric_row_width
 unfolding row_bytes little
 length_row r next = refl
 
--- it is read back
-syllabic_back : (o : Option code.Syllabic) → syllabic_in (code_of o) ≡ o
+-- the number of a syllabic is read back
+pub syllabic_back : (o : Option code.Syllabic) → syllabic_in (code_of o) ≡ o
 unfolding syllabic_code
 syllabic_back (Some S.Single) = refl
 syllabic_back (Some S.Begins) = refl
@@ -39,9 +39,10 @@ syllabic_back (Some S.Ends) = refl
 syllabic_back (Some S.Middle) = refl
 syllabic_back None = refl
 
-pub row_back : (r : Row) (next : ℕ) → r.at < 2 ^ 32 → r.end < 2 ^ 32 → row_of (row_bytes r next) ≡ r
-unfolding row_bytes row_of little little_at syllabic_code
-row_back r next h k = λ i. record { verse = r.verse; syllabic = syllabic_back r.syllabic i; at = little_at_little 4 r.at h i; end = little_at_little 4 r.end k i }
+-- and a row
+pub row_back : (r : Row) (next : ℕ) → r.at < 2 ^ 32 → r.end < 2 ^ 32 → row_of (row_bytes r next) ≡ row_read r
+unfolding row_bytes row_of little little_at
+row_back r next h k = λ i. record { verse = r.verse; syllabic = syllabic_in r.code; at = little_at_little 4 r.at h i; end = little_at_little 4 r.end k i }
 
 pub next_back : (r : Row) (next : ℕ) → next < 2 ^ 32 → next_of (row_bytes r next) ≡ next
 unfolding row_bytes next_of little little_at
@@ -166,18 +167,18 @@ module _ (s t u : List ℕ) (h : Sheet) (note : ℕ) (r : Row) (next : ℕ) (roo
   unfolding heads_in
   many = length_rows head_of lyric_head_width s h.heads h.sounded
 
-  row_sung : (text : List ℕ) → syllables_in text u (with_count h (h.count + 1)) ≡ alter_at note (apply_row text r) (syllables_in text s h)
+  row_sung : (text : List ℕ) → syllables_in text u (with_count h (h.count + 1)) ≡ alter_at note (apply_row text (row_read r)) (syllables_in text s h)
   unfolding syllables_in
   row_sung text =
       let f = sung_from text s h.log h.count in
       let g = sung_from text u h.log (h.count + 1) in
       let same : (k : ℕ) → k ≤ h.count → g k ≡ f k = λ k x. chain_other text h.log u h.count k x ∙ chain_same text h.log s u h.count k old in
-      let new : g (h.count + 1) ≡ apply_row text r (f (get_or (heads_in s h.heads h.sounded) note 0)) =
+      let new : g (h.count + 1) ≡ apply_row text (row_read r) (f (get_or (heads_in s h.heads h.sounded) note 0)) =
       chain_new text h.log u h.count
       ∙ ap (λ (b : List ℕ). apply_row text (row_of b) (sung_from text u h.log h.count (next_of b))) fresh
-      ∙ ap₂ (λ (x : Row) (k : ℕ). apply_row text x (sung_from text u h.log h.count k)) (row_back r next low high) (next_back r next few ∙ sym head_then)
-      ∙ ap (apply_row text r) (chain_same text h.log s u h.count (get_or (heads_in s h.heads h.sounded) note 0) old) in
-      ap (map g) heads_now ∙ map_new f g (apply_row text r) h.count (h.count + 1) same (heads_in s h.heads h.sounded) note (rw many l) kept.firsts new
+      ∙ ap₂ (λ (x : RowRead) (k : ℕ). apply_row text x (sung_from text u h.log h.count k)) (row_back r next low high) (next_back r next few ∙ sym head_then)
+      ∙ ap (apply_row text (row_read r)) (chain_same text h.log s u h.count (get_or (heads_in s h.heads h.sounded) note 0) old) in
+      ap (map g) heads_now ∙ map_new f g (apply_row text (row_read r)) h.count (h.count + 1) same (heads_in s h.heads h.sounded) note (rw many l) kept.firsts new
 
   same_stops : part u (stops_from h) (lyric_stop_width * h.sounded) ≡ part s (stops_from h) (lyric_stop_width * h.sounded)
   same_stops =
@@ -223,7 +224,7 @@ pub none_appended : (s : List ℕ) (h : Sheet) (note : ℕ) (r : Row) → Kept s
 none_appended s h note r kept l =
     record {
       kept = record { apart = kept.apart; inside = kept.inside; firsts = kept.firsts };
-      sung = λ text. sym (alter_past note (apply_row text r) (syllables_in text s h) (rw (how_many text s h) l));
+      sung = λ text. sym (alter_past note (apply_row text (row_read r)) (syllables_in text s h) (rw (how_many text s h) l));
       more = omega arith;
       one = omega arith;
       stops = refl;

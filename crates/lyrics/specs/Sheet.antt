@@ -59,9 +59,19 @@ syllabic_in n =
 
 -- A ROW: verse, number, two zeros, the text's place, and the place, from 1, of the row before it in its chain
 unfoldable pub row_bytes : Row → ℕ → List ℕ
-row_bytes r next = r.verse ∷ code_of r.syllabic ∷ 0 ∷ 0 ∷ (le32 r.at ++ (le32 r.end ++ le32 next))
+row_bytes r next = r.verse ∷ r.code ∷ 0 ∷ 0 ∷ (le32 r.at ++ (le32 r.end ++ le32 next))
 
-unfoldable pub row_of : List ℕ → Row
+-- a row as it is read: the syllabic for which its number stands
+pub record RowRead : Type 0 where
+  pub verse : ℕ
+  pub syllabic : Option code.Syllabic
+  pub at : ℕ
+  pub end : ℕ
+
+abbrev pub row_read : Row → RowRead
+row_read r = record { verse = r.verse; syllabic = syllabic_in r.code; at = r.at; end = r.end }
+
+unfoldable pub row_of : List ℕ → RowRead
 row_of b = record { verse = get_or b verse_at 0; syllabic = syllabic_in (get_or b code_at 0); at = u32_at b start_at; end = u32_at b end_at }
 
 unfoldable pub next_of : List ℕ → ℕ
@@ -72,15 +82,15 @@ abbrev pub row_at : List ℕ → ℕ → ℕ → List ℕ
 row_at s log m = part s (log + lyric_row_width * m) lyric_row_width
 
 -- the syllable of a row that is no hold
-unfoldable pub syllable_of : List ℕ → Row → code.Syllabic → Syllable
+unfoldable pub syllable_of : List ℕ → RowRead → code.Syllabic → Syllable
 syllable_of text r c = record { verse = r.verse; syllabic = as_syllabic c; extend = false; text = syllable_text (between text r.at r.end) }
 
 -- what a row does to what was sung to its note before
-unfoldable pub apply_as : Option code.Syllabic → List ℕ → Row → List Syllable → List Syllable
+unfoldable pub apply_as : Option code.Syllabic → List ℕ → RowRead → List Syllable → List Syllable
 apply_as None text r ys = map (held r.verse) ys
 apply_as (Some c) text r ys = put (syllable_of text r c) ys
 
-abbrev pub apply_row : List ℕ → Row → List Syllable → List Syllable
+abbrev pub apply_row : List ℕ → RowRead → List Syllable → List Syllable
 apply_row text r ys = apply_as r.syllabic text r ys
 
 -- what the chain from row k on (from 1; 0 for none) says, if k is among the first n rows: a chain goes down
@@ -128,7 +138,7 @@ pub record Outside (s t : List ℕ) (lo hi : ℕ) : Type 0 where
 -- a row was added to the chain of note `note`, if there is such a note; n rows are now written
 pub record RowAppended (s t : List ℕ) (h : Sheet) (note : ℕ) (r : Row) (n : ℕ) : Type 0 where
   pub kept : Kept t (with_count h n)
-  pub sung : (text : List ℕ) → syllables_in text t (with_count h n) ≡ alter_at note (apply_row text r) (syllables_in text s h)
+  pub sung : (text : List ℕ) → syllables_in text t (with_count h n) ≡ alter_at note (apply_row text (row_read r)) (syllables_in text s h)
   pub more : h.count ≤ n
   pub one : n ≤ h.count + 1
   pub stops : part t (stops_from h) (lyric_stop_width * h.sounded) ≡ part s (stops_from h) (lyric_stop_width * h.sounded)

@@ -35,11 +35,11 @@ pub struct Sheet {
     pub count: usize,
 }
 
-// A row: its verse, where its syllable stands in its word, and the place of the syllable in the text. A row with no syllabic is a hold.
+// A row: its verse, the number of its syllabic or HOLD (`code_of`, `syllabic_in`), and the place of the syllable in the text.
 #[derive(Clone, Copy, Debug, PartialEq, Eq)]
 pub struct Row {
     pub verse: u8,
-    pub syllabic: Option<Syllabic>,
+    pub code: u8,
     pub at: u32,
     pub end: u32,
 }
@@ -54,7 +54,7 @@ pub struct Line {
 }
 
 // The byte of a row for its syllabic: the syllabic's number, or HOLD.
-fn code_of(syllabic: Option<Syllabic>) -> u8
+pub fn code_of(syllabic: Option<Syllabic>) -> u8
     ensures { result ≡ code_of syllabic }
 {
     match syllabic {
@@ -81,7 +81,7 @@ fn put_row(scratch: &mut [u8], at: usize, row: Row, next: u32)
     requires { at + lyric_row_width ≤ length scratch.old }
     ensures { scratch.new ≡ splice scratch.old at (row_bytes row next) }
 {
-    store::put_4(scratch, at, row.verse, code_of(row.syllabic), 0, 0);
+    store::put_4(scratch, at, row.verse, row.code, 0, 0);
     store::put_u32(scratch, at + AT, row.at);
     store::put_u32(scratch, at + END, row.end);
     store::put_u32(scratch, at + NEXT, next);

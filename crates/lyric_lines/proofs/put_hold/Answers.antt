@@ -14,4 +14,4 @@ append_row-requires c = (c.requires, omega arith, omega arith)
 pub returns : goal.returns
 returns c =
     let a = c.args in
-    held_row a.scratch.now _ a.sheet a.verse a.place _ c.if-place-eq0.false c.append_row.ensures
+    held_row a.scratch.now _ a.sheet a.verse a.place _ c.if-place-eq0.false (rw c.code_of.ensures at c.append_row.ensures)

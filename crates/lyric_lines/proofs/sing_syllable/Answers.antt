@@ -15,4 +15,4 @@ taken-requires c =
 pub returns : goal.returns
 returns c =
     let a = c.args in
-    sung_syllable a.edition a.scratch.now a.sheet a.verse a.place _ _ _ a.syllable c.append_row-count.ensures c.taken.ensures
+    sung_syllable a.edition a.scratch.now a.sheet a.verse a.place _ _ _ a.syllable (rw c.code_of.ensures at c.append_row-count.ensures) c.taken.ensures

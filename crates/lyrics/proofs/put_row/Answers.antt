@@ -8,8 +8,7 @@ use Rattle.lyrics.proofs.put_row.Goals as goal
 pub returns : goal.returns
 unfolding row_bytes little
 returns c =
-    rw (← c.code_of.ensures) (
     let one = c.put_4.ensures in
     let two = spliced_next _ _ _ _ _ _ _ one c.put_u32.ensures refl in
     let three = spliced_next _ _ _ _ _ _ _ two c.put_u32-2.ensures refl in
-    spliced_next _ _ _ _ _ _ _ three c.put_u32-3.ensures refl)
+    spliced_next _ _ _ _ _ _ _ three c.put_u32-3.ensures refl
