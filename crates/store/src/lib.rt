@@ -102,12 +102,13 @@ pub fn clear(store: &mut [u8], from: usize)
 
 // COPYING
 
-// Copies n bytes of src from `from` on into dst from `at` on.
-#[tactic(auto, using(laws::proofs::Splices::lent_whole), unfolding(laws::specs::Bytes::part))]
+// Copies n bytes of src from `from` on into dst from `at` on: byte by byte, since `copy_from_slice` would make the static library need `memmove` from its caller.
 pub fn copy(src: &[u8], from: usize, dst: &mut [u8], at: usize, n: usize)
     requires source { from + n ≤ length src.now }
     requires target { at + n ≤ length dst.old }
     ensures { dst.new ≡ splice dst.old at (part src.now from n) }
 {
-    dst[at..at + n].copy_from_slice(&src[from..from + n]);
+    for i in 0..n {
+        dst[at + i] = src[from + i];
+    }
 }
