@@ -1,12 +1,11 @@
--- A measure that the code reads lies within the reading, and is the one of its index.
-use Prim.Native.Nat.{ℕ, suc, ◌+◌, ◌*◌, ◌≤◌, ◌<◌}
-use mathlib.Core.Path.{◌≡◌, sym, ap, ◌∙◌}
+-- Spans as numbers; a measure that the code reads lies within the reading, and is the one of its index.
+use Prim.Native.Nat.{ℕ, zero, suc, ◌+◌, ◌-◌, ◌*◌, ◌≤◌, ◌<◌}
+use mathlib.Core.Path.{◌≡◌, refl, sym, ap, ◌∙◌}
 use mathlib.Core.Bool.{Bool}
-use mathlib.Core.Option.{Option}
+use mathlib.Core.Option.{Option, none, some}
 use mathlib.Core.List.{List}
 use native.Mathlib.Omega.{arith}
 use lib.ListN.{length}
-use Rattle.std.specs.Prelude as code
 use Rattle.reader.specs.Records.{measure_width}
 use Rattle.reading_sections.specs.Sections.{behind, record_at, volta_of, passes_of}
 use Rattle.reading_walk.specs.Walk.{opens}
@@ -15,13 +14,27 @@ use Rattle.reading_bars.specs.Bars.{span_of, BarIs}
 use Rattle.reading_bars.specs.Parts.{Here}
 use Rattle.reading_bars.specs.declared.Bar.{Bar}
 
+-- a span's number
+pub span_some : (ps : ℕ) → span_of (ps + 1) ≡ some ps
+unfolding span_of
+span_some ps = let e : ps + 1 ≡ suc ps = omega arith in rw e
+
+pub span_none : (n : ℕ) → n ≡ 0 → span_of n ≡ none
+unfolding span_of
+span_none n e = rw e
+
+pub span_there : (n : ℕ) → (n ≡ 0 → ⊥) → span_of n ≡ some (n - 1)
+unfolding span_of
+span_there zero h = absurd (h refl)
+span_there (suc n) h = ap some (omega arith)
+
 -- its record lies within the reading
 pub record_in : (s : List ℕ) (at n i : ℕ) → Here s at n → i < n → at + 4 + measure_width * i + measure_width ≤ length s
 unfolding behind
 record_in s at n i h l = omega (arith, h.inside, h.count_is, l)
 
 -- measure i, before which the code keeps the span that is open there
-module _ (s : List ℕ) (at i : ℕ) (before : code.Option ℕ) (b : Bar) (h : BarIs s (record_at measure_width at i) before b) (e : span_of before ≡ open_before s at i) where
+module _ (s : List ℕ) (at i before : ℕ) (b : Bar) (h : BarIs s (record_at measure_width at i) before b) (e : span_of before ≡ open_before s at i) where
   pub bar_left_lem : b.left ≡ (bar_at s at i).left
   unfolding bar_at
   bar_left_lem = h.left_is

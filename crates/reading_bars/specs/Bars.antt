@@ -1,6 +1,5 @@
 -- What the code keeps of a player's measures.
-use Rattle.std.specs.Prelude.{ℕ, ◌≤◌, ◌<◌, ◌≡◌, List}
-use Rattle.std.specs.Prelude as code
+use Rattle.std.specs.Prelude.{ℕ, zero, suc, ◌≤◌, ◌<◌, ◌≡◌, List}
 use Rattle.std.proofs.Math.Option.{Option, none, some}
 use Rattle.reading_sections.specs.Sections.{left_of, right_of, volta_of, passes_of}
 use Rattle.reading_walk.specs.Walk.{limit}
@@ -8,13 +7,13 @@ use Rattle.reading_walk.specs.Spans.{span_at, span_after, bars_of}
 use Rattle.reading_bars.specs.declared.Bar.{Bar}
 use Rattle.reading_bars.specs.declared.Limit.{Limit}
 
--- a span as the walk has it
-abbrev pub span_of : code.Option ℕ → Option ℕ
-span_of code.None = none
-span_of (code.Some ps) = some ps
+-- a span as a number: 0 is none, else its passes and 1
+unfoldable pub span_of : ℕ → Option ℕ
+span_of zero = none
+span_of (suc ps) = some ps
 
 -- b is the measure whose record stands at r, before which the span `before` is open
-pub record BarIs (s : List ℕ) (r : ℕ) (before : code.Option ℕ) (b : Bar) : Type 0 where
+pub record BarIs (s : List ℕ) (r before : ℕ) (b : Bar) : Type 0 where
   pub left_is : b.left ≡ left_of s r
   pub right_is : b.right ≡ right_of s r
   pub span_is : span_of b.span ≡ span_at (span_of before) (volta_of s r) (passes_of s r)

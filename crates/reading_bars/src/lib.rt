@@ -1,4 +1,4 @@
-// Measures as a player sees them, read off a part's records, and the limit of a section. A span is kept by its passes.
+// Measures as a player sees them, read off a part's records, and the limit of a section. A span is kept as a number: 0 is none, else its passes and 1.
 #![tactic(auto)]
 
 ghost use Rattle.std.specs.Prelude.{◌≡◌, cond, suc, ◌+◌, ◌≤◌, ◌<◌, ◌^◌, max, leb, length};
@@ -26,8 +26,8 @@ pub struct Part<'r> {
 pub struct Bar {
     pub left: u8,
     pub right: u8,
-    pub span: Option<u64>,
-    pub after: Option<u64>,
+    pub span: u64,
+    pub after: u64,
 }
 
 // The limit of sections; it is known for those that start below `end`.
@@ -38,29 +38,31 @@ pub struct Limit {
 }
 
 // The span of a measure, before which another is open.
-fn span_at(before: Option<u64>, volta: u8, passes: u64) -> Option<u64>
+fn span_at(before: u64, volta: u8, passes: u64) -> u64
+    requires { passes < 2 ^ 32 }
     ensures { span_of result ≡ span_at (span_of before) volta passes }
 {
     if volta == 1 {
-        return Some(passes);
+        return passes + 1;
     }
     if volta == 3 {
-        return Some(passes);
+        return passes + 1;
     }
     before
 }
 
 // The span that is open behind it.
-fn span_after(before: Option<u64>, volta: u8, passes: u64) -> Option<u64>
+fn span_after(before: u64, volta: u8, passes: u64) -> u64
+    requires { passes < 2 ^ 32 }
     ensures { span_of result ≡ span_after (span_of before) volta passes }
 {
     if volta == 1 {
-        return Some(passes);
+        return passes + 1;
     }
     if volta == 0 {
         return before;
     }
-    None
+    0
 }
 
 impl Part<'_> {
@@ -73,7 +75,7 @@ impl Part<'_> {
     }
 
     // Measure i, before which `before` is open.
-    pub fn bar_at(&self, i: usize, before: Option<u64>) -> Bar
+    pub fn bar_at(&self, i: usize, before: u64) -> Bar
         requires { i < self.now.measures }
         ensures { BarIs self.now.reading.now (record_at measure_width self.now.at i) before result }
     {
@@ -89,7 +91,7 @@ impl Part<'_> {
     }
 
     // The limit of the section that starts at measure `start`, before which `before` is open.
-    pub fn limit_from(&self, start: usize, before: Option<u64>) -> Limit
+    pub fn limit_from(&self, start: usize, before: u64) -> Limit
         requires start_in_part { start < self.now.measures }
         requires before_value { span_of before ≡ open_before self.now.reading.now self.now.at start }
         ensures start_lt_end { start < result.end }
@@ -134,14 +136,14 @@ fn has_pass(passes: u64, pass: usize) -> bool
 }
 
 // A measure of this span is left out in this pass.
-pub fn is_skipped(span: Option<u64>, pass: usize) -> bool
+pub fn is_skipped(span: u64, pass: usize) -> bool
     requires { (1 ≤ pass) × (pass ≤ 32) }
     ensures { result ≡ walk.is_skipped (span_of span) pass }
 {
-    match span {
-        Some(passes) => !has_pass(passes, pass),
-        None => false,
+    if span == 0 {
+        return false;
     }
+    !has_pass(span - 1, pass)
 }
 
 // The greatest of some passes, 0 if there is none: as often as they can be halved.
@@ -159,13 +161,13 @@ fn greatest_of(passes: u64) -> usize
 }
 
 // The greatest pass of a span, 0 if there is none.
-fn greatest_pass(span: Option<u64>) -> usize
+fn greatest_pass(span: u64) -> usize
     ensures { result ≡ walk.top_of (span_of span) }
 {
-    match span {
-        Some(passes) => greatest_of(passes % PASS_SETS),
-        None => 0,
+    if span == 0 {
+        return 0;
     }
+    greatest_of((span - 1) % PASS_SETS)
 }
 
 // The limit of a section of one measure, whose greatest pass is `top`.

@@ -128,7 +128,7 @@ pub kept_later : (s : List ℕ) (at n c d q : ℕ) (k : Kept) → c ≤ d → Ke
 kept_later s at n c d q k h x = record { order = x.order; listed = omega (arith, h, x.listed); in_part = x.in_part; span_is = x.span_is; again = x.again }
 
 -- nothing is kept at first
-pub kept_none : (s : List ℕ) (at n c q : ℕ) → KeptIs s at n c q (record { least = 0; end = 0; from = 0; to = 0; span = None })
+pub kept_none : (s : List ℕ) (at n c q : ℕ) → KeptIs s at n c q (record { least = 0; end = 0; from = 0; to = 0; span = 0 })
 kept_none s at n c q =
     record { order = omega arith; listed = omega arith; in_part = omega arith; span_is = λ x. absurd (omega (arith, x)); again = λ t u v w o. absurd (omega (arith, w)) }
 

@@ -7,7 +7,7 @@ use lib.Dec.{eqb}
 use lib.ListN.{length, take, get_or, set, length-set}
 use lib.Seq.{take_all, length-take-le, get_or-set_same, get_or-set_other}
 use borrow.Author.Tests.{eqb-true, eqb-false}
-use Rattle.std.specs.Prelude.{Some, None}
+use Rattle.std.specs.Prelude.{Some}
 use Rattle.laws.specs.Lists.{All}
 use Rattle.laws.specs.Bytes.{le32, splice, enc_all}
 use Rattle.laws.proofs.Bools.{by_test}
@@ -21,7 +21,7 @@ use Rattle.reading_walk.specs.Passes.{standing, played_at, segment}
 use Rattle.reading_walk.proofs.Bars.{length_bars, bar_none}
 use Rattle.reading_walk.proofs.Bound.{played_own}
 use Rattle.reading_walk.proofs.Passes.{played_end}
-use Rattle.reading_bars.specs.Bars.{LimitIs}
+use Rattle.reading_bars.specs.Bars.{span_of, LimitIs}
 use Rattle.reading_passes.specs.declared.Pass.{Pass}
 use Rattle.reading_passes.specs.declared.Walked.{Walked}
 use Rattle.reading_passes.specs.declared.Kept.{Kept}
@@ -83,9 +83,9 @@ module _ (s : List ℕ) (at n room : ℕ) (l : List ℕ) where
     pub store : m ≡ splice l (number_at 0) (enc_all le32 (take c (all_of s at)))
 
   -- at the first measure
-  pub playing_start : (ks : List Kept) → length ks ≡ 33 → ((d : Kept) (q : ℕ) → q < 33 → get_or ks q d ≡ record { least = 0; end = 0; from = 0; to = 0; span = None })
-      → Playing l ks (record { section = 0; pass = 1; before = None; at = 0; span = None; most = 2; end = 0 }) 0
-  unfolding open_before played_at standing played begin
+  pub playing_start : (ks : List Kept) → length ks ≡ 33 → ((d : Kept) (q : ℕ) → q < 33 → get_or ks q d ≡ record { least = 0; end = 0; from = 0; to = 0; span = 0 })
+      → Playing l ks (record { section = 0; pass = 1; before = 0; at = 0; span = 0; most = 2; end = 0 }) 0
+  unfolding span_of open_before played_at standing played begin
   playing_start ks e f =
       record {
         stands = record { in_part = omega arith; low = omega arith; high = omega arith; pass_least = omega arith; pass_most = omega arith; before_is = refl; span_is = refl; rest = refl };

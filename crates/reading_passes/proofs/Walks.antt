@@ -37,7 +37,7 @@ pub record Seen (s : List ℕ) (at i : ℕ) (b : code.Bar) : Type 0 where
   pub span_is : span_of b.span ≡ (bar_at s at i).span
   pub after_is : span_of b.after ≡ open_before s at (suc i)
 
-pub seen : (s : List ℕ) (at i : ℕ) (span : rust.Option ℕ) (b : code.Bar) → span_of span ≡ open_before s at i → BarIs s (record_at measure_width at i) span b → Seen s at i b
+pub seen : (s : List ℕ) (at i : ℕ) (span : ℕ) (b : code.Bar) → span_of span ≡ open_before s at i → BarIs s (record_at measure_width at i) span b → Seen s at i b
 seen s at i span b e h = record { left_is = bar_left_lem s at i span b h e; right_is = bar_right_lem s at i span b h e; span_is = bar_span s at i span b h e; after_is = bar_after s at i span b h e }
 
 -- a list that goes on has a number more
@@ -65,7 +65,7 @@ length_segment (y ∷ ys) (suc from) (suc c) h k = omega (arith, length_segment 
 
 module _ (s : List ℕ) (at n room : ℕ) (start : Pass) (l : List ℕ) where
   -- what is listed so far, before measure i
-  pub record Listed (m : List ℕ) (span : rust.Option ℕ) (count i : ℕ) : Type 0 where
+  pub record Listed (m : List ℕ) (span : ℕ) (count i : ℕ) : Type 0 where
     pub low : start.section ≤ i
     pub high : i ≤ n
     pub span_is : span_of span ≡ open_before s at i
@@ -76,12 +76,12 @@ module _ (s : List ℕ) (at n room : ℕ) (start : Pass) (l : List ℕ) where
     pub store : m ≡ splice l (number_at start.from) (enc_all le32 (segment (all_of s at) start.from count))
 
   -- the player stands before measure i
-  pub record Going (m : List ℕ) (span : rust.Option ℕ) (count i : ℕ) : Type 0 where
+  pub record Going (m : List ℕ) (span : ℕ) (count i : ℕ) : Type 0 where
     pub listed : Listed m span count i
     pub walking : Walking (bars_of s at) (all_of s at) i start.section start.pass start.from count
 
   -- he plays measure i, which he entered with the pass p
-  pub record Plays (m : List ℕ) (p : Pass) (span : rust.Option ℕ) (count i : ℕ) : Type 0 where
+  pub record Plays (m : List ℕ) (p : Pass) (span : ℕ) (count i : ℕ) : Type 0 where
     pub listed : Listed m span count i
     pub inside : i < n
     pub low : p.section ≤ i
@@ -113,7 +113,7 @@ module _ (s : List ℕ) (at n room : ℕ) (start : Pass) (l : List ℕ) where
 
   module _ (here : Here s at n) (h : Starts s at n room start) where
     -- a measure is left out
-    pub going_skip : (m : List ℕ) (span : rust.Option ℕ) (count i j : ℕ) (b : code.Bar) → j ≡ suc i → i < n → Going m span count i → Seen s at i b → is_skipped (span_of b.span) start.pass ≡ true
+    pub going_skip : (m : List ℕ) (span : ℕ) (count i j : ℕ) (b : code.Bar) → j ≡ suc i → i < n → Going m span count i → Seen s at i b → is_skipped (span_of b.span) start.pass ≡ true
         → Going m b.after count j
     going_skip m span count i j b q k g e f =
         let o = g.listed in
@@ -136,7 +136,7 @@ module _ (s : List ℕ) (at n room : ℕ) (start : Pass) (l : List ℕ) where
         })
 
     -- a measure is entered
-    enter_by : (m : List ℕ) (span : rust.Option ℕ) (count i : ℕ) → i < n → Going m span count i → is_skipped (bar_at s at i).span start.pass ≡ false → (t : Bool) → (ltb start.section i && opens (bar_at s at i).left) ≡ t
+    enter_by : (m : List ℕ) (span : ℕ) (count i : ℕ) → i < n → Going m span count i → is_skipped (bar_at s at i).span start.pass ≡ false → (t : Bool) → (ltb start.section i && opens (bar_at s at i).left) ≡ t
         → Plays m (cond t (record { section = i; pass = 1; before = span; at = i; span = span; from = count }) start) span count i
     enter_by m span count i k g f true e =
         let o = g.listed in
@@ -172,13 +172,13 @@ module _ (s : List ℕ) (at n room : ℕ) (start : Pass) (l : List ℕ) where
               (bar_get s at i (omega (arith, k, here.count_is))) f e;
         }
 
-    pub going_enter : (m : List ℕ) (p : Pass) (span : rust.Option ℕ) (count i : ℕ) (b : code.Bar) → i < n → Going m span count i → Seen s at i b → is_skipped (span_of b.span) start.pass ≡ false
+    pub going_enter : (m : List ℕ) (p : Pass) (span : ℕ) (count i : ℕ) (b : code.Bar) → i < n → Going m span count i → Seen s at i b → is_skipped (span_of b.span) start.pass ≡ false
         → p ≡ entered_at start i b.left span count → Plays m p span count i
     going_enter m p span count i b k g e f q =
         subst (λ (x : Pass). Plays m x span count i) (sym (q ∙ ap (λ (x : ℕ). entered_at start i x span count) e.left_is))
         (enter_by m span count i k g (ap (λ (o : Option ℕ). is_skipped o start.pass) (sym e.span_is) ∙ f) (ltb start.section i && opens (bar_at s at i).left) refl)
 
-    module _ (m : List ℕ) (p : Pass) (span : rust.Option ℕ) (count i : ℕ) (g : Plays m p span count i) where
+    module _ (m : List ℕ) (p : Pass) (span : ℕ) (count i : ℕ) (g : Plays m p span count i) where
       more_listed : count < length (all_of s at)
       more_listed = goes_on_lem (all_of s at) count (suc i) (played_past (bars_of s at) i p.section p.pass (bar_at s at i)) g.listing.rest
 
@@ -289,7 +289,7 @@ module _ (s : List ℕ) (at n room : ℕ) (start : Pass) (l : List ℕ) where
             })
 
     -- no measure is left
-    pub going_end : (m : List ℕ) (span : rust.Option ℕ) (count i : ℕ) → n ≤ i → Going m span count i
+    pub going_end : (m : List ℕ) (span : ℕ) (count i : ℕ) → n ≤ i → Going m span count i
         → WalkedIs s at n room start l m (rust.Some (record { section = n; pass = 1; before = span; from = count; at = n; after = span; count = count; closed = false }))
     going_end m span count i k g =
         let o = g.listed in

@@ -20,7 +20,7 @@ pub record Lists (s : List ℕ) (at : ℕ) (l : List ℕ) (c : ℕ) : Type 0 whe
   pub are : numbers_in l 0 c ≡ take c (all_of s at)
 
 -- WHERE A PLAYER STANDS: before measure m, open before which is `span`, in pass p of the section that starts at s, open before which is `before`, with c numbers listed
-pub record StandsAt (s : List ℕ) (at n m : ℕ) (span : Option ℕ) (section pass : ℕ) (before : Option ℕ) (c : ℕ) : Type 0 where
+pub record StandsAt (s : List ℕ) (at n m span section pass before c : ℕ) : Type 0 where
   pub in_part : m ≤ n
   pub low : section ≤ m
   pub high : m ≤ suc section
@@ -38,7 +38,7 @@ pub record Starts (s : List ℕ) (at n room : ℕ) (p : Pass) : Type 0 where
   pub roomy : p.from ≤ room
 
 -- the pass with which measure m is entered, whose left barline is `left` and before which `span` is open, with c numbers listed
-abbrev pub entered_at : Pass → ℕ → ℕ → Option ℕ → ℕ → Pass
+abbrev pub entered_at : Pass → ℕ → ℕ → ℕ → ℕ → Pass
 entered_at p m left span c =
     cond (ltb p.section m && opens left) (record { section = m; pass = 1; before = span; at = m; span = span; from = c }) p
 

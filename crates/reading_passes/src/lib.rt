@@ -15,9 +15,9 @@ use reading_bars::{Limit, Part};
 pub struct Pass {
     pub section: usize,
     pub pass: usize,
-    pub before: Option<u64>,
+    pub before: u64,
     pub at: usize,
-    pub span: Option<u64>,
+    pub span: u64,
     pub from: usize,
 }
 
@@ -28,10 +28,10 @@ pub struct Pass {
 pub struct Walked {
     pub section: usize,
     pub pass: usize,
-    pub before: Option<u64>,
+    pub before: u64,
     pub from: usize,
     pub at: usize,
-    pub after: Option<u64>,
+    pub after: u64,
     pub count: usize,
     pub closed: bool,
 }
@@ -44,7 +44,7 @@ pub struct Kept {
     pub end: usize,
     pub from: usize,
     pub to: usize,
-    pub span: Option<u64>,
+    pub span: u64,
 }
 
 // Where the player goes on, and the limit that is known.
@@ -52,15 +52,15 @@ pub struct Kept {
 pub struct Next {
     pub section: usize,
     pub pass: usize,
-    pub before: Option<u64>,
+    pub before: u64,
     pub at: usize,
-    pub span: Option<u64>,
+    pub span: u64,
     pub most: usize,
     pub end: usize,
 }
 
 // The pass with which a measure is entered: going forward into a left barline 1 or 3 begins a section.
-fn enter(p: Pass, at: usize, left: u8, span: Option<u64>, count: usize) -> Pass
+fn enter(p: Pass, at: usize, left: u8, span: u64, count: usize) -> Pass
     ensures { result ≡ entered_at p at left span count }
 {
     if p.section < at && reading_bars::opens(left) {
@@ -178,7 +178,7 @@ fn keep(kept: Kept, w: Walked) -> Kept
 }
 
 // The limit of a section: as it is known, or looked up.
-fn limit_of(part: &Part, section: usize, before: Option<u64>, known: Limit) -> Limit
+fn limit_of(part: &Part, section: usize, before: u64, known: Limit) -> Limit
     requires { (section < part.now.measures) × (span_of before ≡ open_before part.now.reading.now part.now.at section) × (LimitIs part.now.reading.now part.now.at section known) }
     ensures section_lt_end { section < result.end }
     ensures limit_is { LimitIs part.now.reading.now part.now.at section result }
@@ -257,15 +257,15 @@ pub fn play(part: &Part, list: &mut [u8], room: usize) -> Option<usize>
         end: 0,
         from: 0,
         to: 0,
-        span: None,
+        span: 0,
     };
     let mut kept = [none; 33];
     let mut x = Next {
         section: 0,
         pass: 1,
-        before: None,
+        before: 0,
         at: 0,
-        span: None,
+        span: 0,
         most: 2,
         end: 0,
     };

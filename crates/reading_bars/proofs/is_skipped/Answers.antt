@@ -2,12 +2,13 @@
 use mathlib.Core.Path.{ap}
 use mathlib.Core.Bool.{not}
 use Rattle.reading_walk.specs.Walk as walk
+use Rattle.reading_bars.proofs.Spans.{span_none, span_there}
 use Rattle.reading_bars.proofs.is_skipped.Goals as goal
 
-pub returns-in-Some : goal.returns-in-Some
+pub returns-then-span-eq0 : goal.returns-then-span-eq0
 unfolding walk.is_skipped
-returns-in-Some c = rw c.in-Some.is (ap not c.has_pass.ensures)
+returns-then-span-eq0 c = rw (span_none _ c.if-span-eq0.true)
 
-pub returns-in-None : goal.returns-in-None
+pub returns : goal.returns
 unfolding walk.is_skipped
-returns-in-None c = rw c.in-None.is
+returns c = rw (span_there _ c.if-span-eq0.false) (ap not c.has_pass.ensures)
