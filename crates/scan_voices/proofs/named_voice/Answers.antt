@@ -38,19 +38,19 @@ returns-in-None c =
     let a = c.args in
     let t = a.text.now in
     rw c.refuse-in-None.ensures
-    (too_many t a.scratch.now a.st _ _ (c.with_unnamed-n.ensures t) (between t a.id.at a.id.end) a.middle (lent_found t a.id.at a.id.end _ _ _ c.in-None.is c.find_voice.ensures) c.if-n-ge32.true _)
+    (too_many t a.scratch.now a.st _ _ (c.with_unnamed-n.ensures t) (between t a.id.at a.id.end) a.middle (lent_found t a.id.at a.id.end _ _ _ c.in-None.is c.find_voice.ensures) (omega (arith, c.if-n-ge32.true)) _)
 
 pub returns-in-None-2 : goal.returns-in-None-2
 returns-in-None-2 c =
     let a = c.args in
     let t = a.text.now in
     rw (c.refuse-in-None-2.ensures, c.if-middle-2.true)
-    (new_middle t a.scratch.now a.st _ _ (c.with_unnamed-n.ensures t) (between t a.id.at a.id.end) (lent_found t a.id.at a.id.end _ _ _ c.in-None-2.is c.find_voice.ensures) c.if-n-ge32.false _)
+    (new_middle t a.scratch.now a.st _ _ (c.with_unnamed-n.ensures t) (between t a.id.at a.id.end) (lent_found t a.id.at a.id.end _ _ _ c.in-None-2.is c.find_voice.ensures) (omega (arith, c.if-n-ge32.false)) _)
 
 pub returns-in-None-3 : goal.returns-in-None-3
 returns-in-None-3 c =
     let a = c.args in
     let t = a.text.now in
     rw c.if-middle-2.false
-    (on_new t a.scratch.now a.st _ _ (c.with_unnamed-n.ensures t) (between t a.id.at a.id.end) (lent_found t a.id.at a.id.end _ _ _ c.in-None-3.is c.find_voice.ensures) c.if-n-ge32.false _ _
+    (on_new t a.scratch.now a.st _ _ (c.with_unnamed-n.ensures t) (between t a.id.at a.id.end) (lent_found t a.id.at a.id.end _ _ _ c.in-None-3.is c.find_voice.ensures) (omega (arith, c.if-n-ge32.false)) _ _
     c.new_voice.ensures.moved (c.new_voice.ensures.items t))
