@@ -64,7 +64,6 @@ module _ (line : List ℕ) (i low e : ℕ) (k : e ≡ end_of is_item_byte line i
       (λ m. list_last m ∙ ap (λ o. in_turn o (some [])) n)
 
 -- WHAT IS READ SO FAR, AND THE REST
--- the first pass, 0 where none was met before
 
 -- the first pass, 0 where there is none yet, and the bits; with the passes to come
 unfoldable pub joined : ℕ → ℕ → Option (List ℕ) → Option (ℕ × ℕ)
