@@ -17,5 +17,5 @@ returns c =
       moved = rw c.add_item.ensures.state (record { lines = refl; voices = refl; part = refl; items = omega arith });
       items = λ text. item_added text _ _ _ _ _ _ (c.add_item.ensures.items text) c.of-2.ensures refl
           ∙ new_voice text a.scratch.now _ _ a.n a.st.items a.id.at a.id.end _ a.st.in_header c.push_voice.ensures (rw c.of.ensures at c.put_item.ensures) (search rules) (search rules) (search rules)
-          (search rules) (search rules) (search rules) (λ i. (a.n, voice_declared (flag_is _ _ c.from.ensures i))) (search rules) (moved_to a.st a.n) _ refl;
+          (search rules) (search rules) (search rules) (λ i. (a.n, voice_declared (flag_is a.st.in_header _ c.from.ensures i))) (search rules) (moved_to a.st a.n) _ refl;
     }
